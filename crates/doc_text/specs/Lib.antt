@@ -1,0 +1,5 @@
+pub mod Text
+pub mod Words
+pub mod Numbers
+pub mod Digits
+pub mod Faults
