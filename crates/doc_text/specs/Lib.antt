@@ -3,3 +3,5 @@ pub mod Words
 pub mod Numbers
 pub mod Digits
 pub mod Faults
+pub mod Spread
+pub mod Errors

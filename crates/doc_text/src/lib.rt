@@ -7,6 +7,9 @@ mod laws;
 mod lines;
 mod numbers;
 mod splits;
+mod spread;
+#[cfg(test)]
+mod tests;
 mod writing;
 
 pub use fault::{Fault, or_fault};
@@ -17,4 +20,5 @@ pub use numbers::{is_decimal, number};
 pub use splits::{
     five_words, four_words, is_same, one_word, six_words, three_words, two_words, word_at,
 };
+pub use spread::{DigitsError, spread_bytes};
 pub use writing::{push_decimal, push_hex, push_line};

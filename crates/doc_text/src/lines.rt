@@ -22,7 +22,9 @@ pub fn piece_at(bytes: &[u8]) -> (&[u8], &[u8])
 
 /// What a piece says, where it is plain bytes and a line feed.
 pub fn text_of(piece: &[u8]) -> Option<&[u8]>
-    ensures { MatchOption result (text_in piece.now ≡ None) (λ t. text_in piece.now ≡ Some t.now) }
+    ensures { MatchOption result
+        (text_in piece.now ≡ None)
+        (λ t. text_in piece.now ≡ Some t.now) }
 {
     let (last, front) = piece.split_last()?;
     if *last != b'\n' {
@@ -38,7 +40,8 @@ pub fn text_of(piece: &[u8]) -> Option<&[u8]>
 
 #[tactic(auto, unfolding(crate::specs::Faults::line_due))]
 fn front_line(bytes: &[u8], line: u32, what: u8) -> Result<(&[u8], &[u8]), Fault>
-    ensures exact { Gives (λ x. (x.0.now, pieces x.1.now)) result (line_due line what (pieces bytes.now)) }
+    ensures exact { Gives (λ x. (x.0.now, pieces x.1.now)) result
+        (line_due line what (pieces bytes.now)) }
     ensures shorter { IfOk result (λ x. length x.1.now < length bytes.now) }
 {
     if bytes.is_empty() {
@@ -53,7 +56,8 @@ fn front_line(bytes: &[u8], line: u32, what: u8) -> Result<(&[u8], &[u8]), Fault
 
 /// The text of the line that is due at the front, and the bytes behind its line feed.
 pub fn line_due(bytes: &[u8], line: u32, what: u8) -> Result<(&[u8], &[u8]), Fault>
-    ensures exact { Gives (λ x. (x.0.now, pieces x.1.now)) result (line_due line what (pieces bytes.now)) }
+    ensures exact { Gives (λ x. (x.0.now, pieces x.1.now)) result
+        (line_due line what (pieces bytes.now)) }
     ensures shorter { IfOk result (λ x. length x.1.now < length bytes.now) }
     // What is read stands there as a line, and what stands there as a line is read.
     ensures found { IfOk result (λ x. IsPlain x.0.now × (bytes.now ≡ ended x.0.now ++ x.1.now)) }
@@ -66,7 +70,8 @@ pub fn line_due(bytes: &[u8], line: u32, what: u8) -> Result<(&[u8], &[u8]), Fau
 /// The bytes behind the line at the front, where that line is `wanted`.
 #[tactic(auto, unfolding(crate::specs::Faults::fixed_due))]
 pub fn fixed_due<'a>(bytes: &'a [u8], line: u32, what: u8, wanted: &[u8]) -> Result<&'a [u8], Fault>
-    ensures exact { Gives (λ x. pieces x.now) result (fixed_due line what wanted.now (pieces bytes.now)) }
+    ensures exact { Gives (λ x. pieces x.now) result
+        (fixed_due line what wanted.now (pieces bytes.now)) }
     ensures shorter { IfOk result (λ x. length x.now < length bytes.now) }
 {
     let (text, rest) = line_due(bytes, line, what)?;

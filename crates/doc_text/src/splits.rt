@@ -29,7 +29,9 @@ pub fn is_same(word: &[u8], wanted: &[u8]) -> bool
 /// The one word of a text.
 #[tactic(auto, using(crate::proofs::Splitting::one_more))]
 pub fn one_word(text: &[u8]) -> Option<&[u8]>
-    ensures { MatchOption result (one (words text.now) ≡ None) (λ w. one (words text.now) ≡ Some w.now) }
+    ensures { MatchOption result
+        (one (words text.now) ≡ None)
+        (λ w. one (words text.now) ≡ Some w.now) }
 {
     let (a, more) = word_at(text);
     match more {
@@ -41,7 +43,9 @@ pub fn one_word(text: &[u8]) -> Option<&[u8]>
 /// The two words of a text.
 #[tactic(auto, using(crate::proofs::Splitting::two_more))]
 pub fn two_words(text: &[u8]) -> Option<(&[u8], &[u8])>
-    ensures { MatchOption result (two (words text.now) ≡ None) (λ w. two (words text.now) ≡ Some (w.0.now, w.1.now)) }
+    ensures { MatchOption result
+        (two (words text.now) ≡ None)
+        (λ w. two (words text.now) ≡ Some (w.0.now, w.1.now)) }
 {
     let (a, rest) = word_at(text);
     let (b, more) = word_at(rest?);
@@ -54,7 +58,9 @@ pub fn two_words(text: &[u8]) -> Option<(&[u8], &[u8])>
 /// The three words of a text.
 #[tactic(auto, using(crate::proofs::Splitting::three_more))]
 pub fn three_words(text: &[u8]) -> Option<(&[u8], &[u8], &[u8])>
-    ensures { MatchOption result (three (words text.now) ≡ None) (λ w. three (words text.now) ≡ Some (w.0.now, w.1.now, w.2.now)) }
+    ensures { MatchOption result
+        (three (words text.now) ≡ None)
+        (λ w. three (words text.now) ≡ Some (w.0.now, w.1.now, w.2.now)) }
 {
     let (a, rest) = word_at(text);
     let (b, rest) = word_at(rest?);
@@ -68,7 +74,9 @@ pub fn three_words(text: &[u8]) -> Option<(&[u8], &[u8], &[u8])>
 /// The four words of a text.
 #[tactic(auto, using(crate::proofs::Splitting::four_more))]
 pub fn four_words(text: &[u8]) -> Option<(&[u8], &[u8], &[u8], &[u8])>
-    ensures { MatchOption result (four (words text.now) ≡ None) (λ w. four (words text.now) ≡ Some (w.0.now, w.1.now, w.2.now, w.3.now)) }
+    ensures { MatchOption result
+        (four (words text.now) ≡ None)
+        (λ w. four (words text.now) ≡ Some (w.0.now, w.1.now, w.2.now, w.3.now)) }
 {
     let (a, rest) = word_at(text);
     let (b, rest) = word_at(rest?);
@@ -83,7 +91,9 @@ pub fn four_words(text: &[u8]) -> Option<(&[u8], &[u8], &[u8], &[u8])>
 /// The five words of a text.
 #[tactic(auto, using(crate::proofs::Splitting::five_more))]
 pub fn five_words(text: &[u8]) -> Option<(&[u8], &[u8], &[u8], &[u8], &[u8])>
-    ensures { MatchOption result (five (words text.now) ≡ None) (λ w. five (words text.now) ≡ Some (w.0.now, w.1.now, w.2.now, w.3.now, w.4.now)) }
+    ensures { MatchOption result
+        (five (words text.now) ≡ None)
+        (λ w. five (words text.now) ≡ Some (w.0.now, w.1.now, w.2.now, w.3.now, w.4.now)) }
 {
     let (a, rest) = word_at(text);
     let (b, rest) = word_at(rest?);
@@ -99,7 +109,9 @@ pub fn five_words(text: &[u8]) -> Option<(&[u8], &[u8], &[u8], &[u8], &[u8])>
 /// The six words of a text.
 #[tactic(auto, using(crate::proofs::Splitting::six_more))]
 pub fn six_words(text: &[u8]) -> Option<(&[u8], &[u8], &[u8], &[u8], &[u8], &[u8])>
-    ensures { MatchOption result (six (words text.now) ≡ None) (λ w. six (words text.now) ≡ Some (w.0.now, w.1.now, w.2.now, w.3.now, w.4.now, w.5.now)) }
+    ensures { MatchOption result
+        (six (words text.now) ≡ None)
+        (λ w. six (words text.now) ≡ Some (w.0.now, w.1.now, w.2.now, w.3.now, w.4.now, w.5.now)) }
 {
     let (a, rest) = word_at(text);
     let (b, rest) = word_at(rest?);
