@@ -11,16 +11,10 @@ use Rattle.shfl_core.specs.declared.words.Word.TheVariants.{Tail, Next}
 use Rattle.shfl_core.specs.Words.{look, wide}
 use Rattle.shfl_core.specs.Worlds.{World}
 
--- the registers of the pass p
-pub record NamesBelow (count p : ℕ) (r : Registers) : Type 0 where
-  pub me : r.me ≡ p
-  pub before : r.before < count
-  pub prev : r.prev < count
-  pub last : r.last < count
-  pub first : r.first < count
-  pub cand : r.cand < count
-  pub after : r.after < count
-  pub heir : r.heir < count
+-- the registers of the pass p: its number, and the seven by which it names passes
+abbrev pub NamesBelow : ℕ → ℕ → Registers → Type 0
+NamesBelow count p r = (r.me ≡ p) × (r.before < count) × (r.prev < count) × (r.last < count)
+    × (r.first < count) × (r.cand < count) × (r.after < count) × (r.heir < count)
 
 abbrev pub WakesBelow : ℕ → Nap → Type 0
 WakesBelow count (Ring whom) = whom < count

@@ -4,3 +4,4 @@ pub mod Take
 pub mod Waiting
 pub mod Worlds
 pub mod Bounds
+pub mod Runner

@@ -1,5 +1,5 @@
 -- The words of a lock: where each stands in the list, what it says, and what an operation makes of it.
-use Rattle.std.specs.Prelude.{ℕ, ◌+◌, ◌-◌, ◌*◌, ◌%◌, ◌^◌, ◌≤◌, ◌==◌, ◌&&◌, not, Bool, true, false, List, bit_and, bit_or, bit_xor, slice_index}
+use Rattle.std.specs.Prelude.{ℕ, ◌+◌, ◌-◌, ◌*◌, ◌%◌, ◌^◌, ◌≤◌, ◌==◌, ◌&&◌, not, Bool, true, false, List, bit_and, bit_or, bit_xor, slice_index, slice_set}
 use prog.Atomic.{either}
 use Rattle.shfl_line.specs.declared.events.Mode.{Mode}
 use Rattle.shfl_line.specs.declared.events.Mode.TheVariants.{Write, Read}
@@ -49,6 +49,10 @@ put (And w v) n = bit_and n v
 put (Xor w v) n = bit_xor n v
 put (Add w v) n = (n + v) % 2 ^ 64
 put (Sub w v) n = (n + (2 ^ 64 - v)) % 2 ^ 64
+
+-- the words after the operation
+abbrev pub written : List ℕ → Access → List ℕ
+written words a = slice_set words (index (site a)) (put a (look words (site a)))
 
 abbrev pub is_store : Access → Bool
 is_store (Store w v) = true

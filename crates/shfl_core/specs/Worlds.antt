@@ -19,7 +19,10 @@ pub record World : Type 0 where
 abbrev pub known : List PassState → ℕ → PassState
 known passes p = slice_index_or passes p (idle p)
 
--- the four words of each pass at the opening: all 0 but its attributes
+-- the four words of a pass at the opening: all 0 but its attributes
+abbrev pub node : ℕ → List ℕ
+node attr = 0 ∷ 0 ∷ attr ∷ 0 ∷ []
+
 abbrev pub node_words : List Attr → List ℕ
 node_words [] = []
 node_words (a ∷ rest) = 0 ∷ 0 ∷ attr_word a ∷ 0 ∷ node_words rest
@@ -63,9 +66,9 @@ pub data Move : Type 0 where
 
 -- the pass admits the move where it stands
 abbrev pub admitted : World → Move → Bool
-admitted w (Acquire p mode) = nat_lt p (length w.passes) && is_idle (known w.passes p).phase
-admitted w (Release p) = nat_lt p (length w.passes) && is_resting (known w.passes p)
-admitted w (Step p choice) = nat_lt p (length w.passes) && moving (known w.passes p)
+admitted w (Acquire p mode) = is_idle (known w.passes p).phase
+admitted w (Release p) = is_resting (known w.passes p)
+admitted w (Step p choice) = moving (known w.passes p)
 
 abbrev pub made : Rules → World → Move → World
 made t w (Acquire p mode) = placed_at w p (acquired mode (known w.passes p))

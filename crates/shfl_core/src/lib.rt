@@ -8,8 +8,10 @@ pub mod phase;
 pub mod rows;
 pub mod waiter;
 pub mod words;
+pub mod world;
 
 pub use local::Local;
 pub use phase::{Ask, Nap, PassState, Phase, Registers, Rules, Watch};
 pub use waiter::Waiter;
 pub use words::{Access, Word};
+pub use world::World;
