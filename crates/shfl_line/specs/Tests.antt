@@ -42,12 +42,20 @@ abbrev pub may_detach : List ℕ → ℕ → ℕ → Bool
 may_detach line l who =
     not (times who (behind l line) == 0) && not (follower l line == suc who) && not (last line == suc who)
 
+-- the pass may take the lock past the line
+abbrev pub may_steal : Line → ℕ → Mode → Bool
+may_steal s p mode = is_free_for mode s.hold && (holds p s.hold == 0) && is_away s p
+
+-- the pass may take the lock as the line's first
+abbrev pub may_grab : Line → ℕ → Mode → Bool
+may_grab s p mode =
+    (first s.line == suc p) && not (active_shuffler s.role == suc p) && (holds p s.hold == 0) && is_free_for mode s.hold
+
 -- the event may happen
 abbrev pub admits : ℕ → Line → LineEvent → Bool
-admits limit s (Steal p mode) = is_free_for mode s.hold && (holds p s.hold == 0) && is_away s p
+admits limit s (Steal p mode) = may_steal s p mode
 admits limit s (Join p) = is_away s p && (holds p s.hold == 0)
-admits limit s (Grab p mode) =
-    (first s.line == suc p) && not (active_shuffler s.role == suc p) && (holds p s.hold == 0) && is_free_for mode s.hold
+admits limit s (Grab p mode) = may_grab s p mode
 admits limit s (Leave p) = (first s.line == suc p) && not (holds p s.hold == 0)
 admits limit s (Release p) = not (holds p s.hold == 0) && (times p s.line == 0)
 admits limit s (Begin p) = may_begin s p && nat_lt (begun_mark (mark_of s p)) limit
