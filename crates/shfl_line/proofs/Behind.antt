@@ -48,3 +48,11 @@ last-inside mark l (x ∷ xs) e = by (last_marked mark xs) refl e (last-inside m
     by zero z e ih = let b : (x ≡ l) × (0 < mark x) = grind (arith, nat_tests) in
         (subst (λ k. 0 < times k (x ∷ xs)) b.0 (Chain.here x xs), subst (λ k. 0 < mark k) b.0 b.1)
     by (suc n) z e ih = let t = ih (grind (arith, nat_tests)) in ((let u = t.0 in omega arith), t.1)
+
+pub behind-inside : (who l : ℕ) (xs : List ℕ) → 0 < times who (behind l xs) → 0 < times who xs
+behind-inside who l [] m = m
+behind-inside who l (x ∷ xs) m = by (x == l) m (behind-inside who l xs)
+  where
+    by : (b : Bool) → 0 < times who (cond b xs (behind l xs)) → (0 < times who (behind l xs) → 0 < times who xs) → 0 < times who (x ∷ xs)
+    by true m ih = omega arith
+    by false m ih = let t = ih m in omega arith

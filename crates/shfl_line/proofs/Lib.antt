@@ -5,3 +5,5 @@ pub mod Holders
 pub mod Pigeons
 pub mod OfPasses
 pub mod Room
+pub mod Decided
+pub mod Batches
