@@ -62,29 +62,30 @@ pub behind-unmarked : (m : ℕ → ℕ) (l who : ℕ) (xs : List ℕ) → ((q : 
 behind-unmarked m l who [] o e h = absurd (omega arith)
 behind-unmarked m l who (x ∷ xs) o e h = Chain.by_eq x l
     (λ i. let b : behind l (x ∷ xs) ≡ xs = grind (arith, nat_tests) in let g : 0 < times who xs = subst (λ ys. 0 < times who ys) b h in
-        let z : times x xs ≡ 0 = (let t = o x in grind (arith, nat_tests)) in last-none m who xs (last-head m x xs (e ∙ ap suc (sym i)) z) g)
+    let z : times x xs ≡ 0 = (let t = o x in grind (arith, nat_tests)) in last-none m who xs (last-head m x xs (e ∙ ap suc (sym i)) z) g)
     (λ n. let b : behind l (x ∷ xs) ≡ behind l xs = grind (arith, nat_tests) in let g : 0 < times who (behind l xs) = subst (λ ys. 0 < times who ys) b h in
-        behind-unmarked m l who xs (λ q. let t = o q in omega arith) (last-tail m x l xs e n) g)
+    behind-unmarked m l who xs (λ q. let t = o q in omega arith) (last-tail m x l xs e n) g)
 
 -- and whoever has none stands behind it
 pub stands-behind : (m : ℕ → ℕ) (l who : ℕ) (xs : List ℕ) → EachPair (MarkedFirst m) xs → last_marked m xs ≡ suc l → 0 < times who xs → m who ≡ 0 → 0 < times who (behind l xs)
 stands-behind m l who [] c e h z = absurd (omega arith)
 stands-behind m l who (x ∷ xs) c e h z = let marked = (last-inside m l (x ∷ xs) e).1 in Chain.by_eq x l
     (λ i. let b : behind l (x ∷ xs) ≡ xs = grind (arith, nat_tests) in subst (λ ys. 0 < times who ys) (sym b)
-        (Chain.by_eq x who (λ j. absurd (let k : m l ≡ 0 = subst (λ q. m q ≡ 0) (sym j ∙ i) z in omega arith)) (λ n. grind (arith, nat_tests))))
+    (Chain.by_eq x who (λ j. absurd (let k : m l ≡ 0 = subst (λ q. m q ≡ 0) (sym j ∙ i) z in omega arith)) (λ n. grind (arith, nat_tests))))
     (λ n. let b : behind l (x ∷ xs) ≡ behind l xs = grind (arith, nat_tests) in let t = last-tail m x l xs e n in subst (λ ys. 0 < times who ys) (sym b)
-        (stands-behind m l who xs (Marks.chain-tail (MarkedFirst m) x xs c) t
-            (Chain.by_eq x who
-                (λ j. absurd (let f = Marks.first-marked m x l xs c (let u = (last-inside m l xs t).0 in omega arith) marked in let k : m x ≡ 0 = subst (λ q. m q ≡ 0) (sym j) z in omega arith))
-                (λ k. grind (arith, nat_tests))) z))
+    (stands-behind m l who xs (Marks.chain-tail (MarkedFirst m) x xs c) t
+    (Chain.by_eq x who
+    (λ j. absurd (let f = Marks.first-marked m x l xs c (let u = (last-inside m l xs t).0 in omega arith) marked in let k : m x ≡ 0 = subst (λ q. m q ≡ 0) (sym j) z in omega arith))
+    (λ k. grind (arith, nat_tests))) z))
 
 -- what stands directly behind the batch's last has no batch number
 pub last-stops : (m : ℕ → ℕ) (l x : ℕ) (xs : List ℕ) → ((q : ℕ) → times q (x ∷ xs) ≤ 1) → last_marked m (x ∷ xs) ≡ suc l → Chain (StopsAt m l) x xs
 last-stops m l x [] o e = tt
 last-stops m l x (y ∷ ys) o e = Chain.by_eq x l
     (λ i. let z : times x (y ∷ ys) ≡ 0 = (let t = o x in grind (arith, nat_tests)) in let n = last-head m x (y ∷ ys) (e ∙ ap suc (sym i)) z in (
-        (λ _. last-none m y (y ∷ ys) n (Chain.here y ys)),
-        stops-all y ys (λ q h. last-none m q (y ∷ ys) n (omega arith))))
+      (λ _. last-none m y (y ∷ ys) n (Chain.here y ys)),
+      stops-all y ys (λ q h. last-none m q (y ∷ ys) n (omega arith)),
+    ))
     (λ n. ((λ i. absurd (n i)), last-stops m l y ys (λ q. let t = o q in omega arith) (last-tail m x l (y ∷ ys) e n)))
   where
     stops-all : (a : ℕ) (zs : List ℕ) → ((q : ℕ) → 0 < times q zs → m q ≡ 0) → Chain (StopsAt m l) a zs

@@ -7,3 +7,7 @@ pub mod OfPasses
 pub mod Room
 pub mod Decided
 pub mod Batches
+pub mod Kept
+pub mod KeptLine
+pub mod KeptBatch
+pub mod EachStep

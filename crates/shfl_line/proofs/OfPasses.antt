@@ -37,8 +37,8 @@ pub line_room : (n p : ℕ) (s : Line) → IsOfPasses n s → p < n → times p 
 line_room n p s o below z = let d = distinct-length n (s.line ++ p ∷ [])
     (λ q m. Chain.by_eq q p (λ i. omega arith) (λ k. (let t = Chain.times-push q p s.line in o.line q (grind (arith, nat_tests)))))
     (λ q. (let t = Chain.times-push q p s.line in let u = o.once q in Chain.by_eq q p
-        (λ i. (let v : times q s.line ≡ 0 = subst (λ k. times k s.line ≡ 0) (sym i) z in grind (arith, nat_tests)))
-        (λ k. grind (arith, nat_tests)))) in
+    (λ i. (let v : times q s.line ≡ 0 = subst (λ k. times k s.line ≡ 0) (sym i) z in grind (arith, nat_tests)))
+    (λ k. grind (arith, nat_tests)))) in
     let l = length_push s.line p in omega arith
 
 pub of_without : (n c : ℕ) (s : Line) → IsOfPasses n s → 0 < times c s.line → IsOfPasses n (record s { line = without c s.line })

@@ -25,5 +25,5 @@ distinct-length (suc n) xs f once = by (times n xs) refl (distinct-length n xs) 
     by zero e ih _ = let l = ih (λ q m. (let a = f q m in let b : q ≢ n = λ i. (let c : times q xs ≡ times n xs = (λ j. times (i j) xs) in omega arith) in omega arith)) once in omega arith
     by (suc k) e _ ih = let m : 0 < times n xs = omega arith in let l = length-without n xs m in
         let j = ih
-            (λ q w. (let t = Chain.times-without q n xs m in let o = once q in let a = f q (omega arith) in let b : q ≢ n = λ i. grind (arith, nat_tests) in omega arith))
-            (λ q. (let t = Chain.times-without q n xs m in let o = once q in omega arith)) in omega arith
+        (λ q w. (let t = Chain.times-without q n xs m in let o = once q in let a = f q (omega arith) in let b : q ≢ n = λ i. grind (arith, nat_tests) in omega arith))
+        (λ q. (let t = Chain.times-without q n xs m in let o = once q in omega arith)) in omega arith

@@ -1,5 +1,5 @@
 -- Where an event is admitted, as a test; it agrees with `Admits`.
-use Rattle.std.specs.Prelude.{ℕ, suc, List, Bool, true, false, ◌==◌, ◌&&◌, ◌||◌, not, nat_lt}
+use Rattle.std.specs.Prelude.{◌≡◌, ◌↔◌, ℕ, suc, List, Bool, true, false, ◌==◌, ◌&&◌, ◌||◌, not, nat_lt}
 use Rattle.shfl_line.specs.declared.events.Mode.{Mode}
 use Rattle.shfl_line.specs.declared.events.Mode.TheVariants.{Write, Read}
 use Rattle.shfl_line.specs.declared.events.Role.{Role}
@@ -9,7 +9,7 @@ use Rattle.shfl_line.specs.declared.events.LineEvent.TheVariants.{Steal, Join, G
 use Rattle.shfl_line.specs.Words.{link_word}
 use Rattle.shfl_line.specs.Passes.{times, first, last, follower, behind, last_marked}
 use Rattle.shfl_line.specs.Line.{Line, mark_of, active_shuffler, idle_shuffler, holds, writer_count, reader_count}
-use Rattle.shfl_line.specs.Steps.{begun_mark, batch_end}
+use Rattle.shfl_line.specs.Steps.{Admits, begun_mark, batch_end}
 
 abbrev pub is_free_for : Mode → List (ℕ × Mode) → Bool
 is_free_for Write hold = (writer_count hold == 0) && (reader_count hold == 0)
@@ -65,3 +65,7 @@ admits limit s (Place p) = is_in_round s p && not (link_word s.hand == 0)
 admits limit s (Keep p) = is_in_line_round s p && has_room limit s && not (follower (batch_end s) s.line == 0)
 admits limit s (Give p) = is_in_line_round s p
 admits limit s Nothing = true
+
+-- the test says of every event, in every state, whether it is admitted
+abbrev pub TestsAgree : Type 0
+TestsAgree = (limit : ℕ) (s : Line) (e : LineEvent) → (admits limit s e ≡ true) ↔ Admits limit s e

@@ -26,7 +26,8 @@ impl LineState {
         }
         match self.role {
             Role::Rest(idle) => idle == pass,
-            Role::Nobody => scans::is_first(&self.line, pass) && scans::mark_at(&self.mark, pass) == 0,
+            Role::Nobody => scans::is_first(&self.line, pass)
+                && scans::mark_at(&self.mark, pass) == 0,
             Role::Walk(_) => false,
         }
     }

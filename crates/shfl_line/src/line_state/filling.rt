@@ -33,8 +33,8 @@ impl LineState {
         requires named { pass < length self.old.mark }
         requires away { IsAway self.old pass }
         ensures { self.new ≡ record self.old {
-            line = self.old.line ++ pass ∷ [];
-            mark = slice_set self.old.mark pass mark
+          line = self.old.line ++ pass ∷ [];
+          mark = slice_set self.old.mark pass mark;
         } }
     {
         self.line.push_reserved(pass);

@@ -152,8 +152,8 @@ pub fn may_detach(line: &[u32], end: u32, who: u32) -> bool
 pub fn place_of(line: &[u32], pass: u32) -> Option<usize>
     ensures { MatchOption result (times pass line.now ≡ 0)
         (λ k. (k < length line.now)
-            × (remove line.now k ≡ without pass line.now)
-            × ((c : ℕ) → insert line.now (k + 1) c ≡ put_behind pass c line.now)) }
+        × (remove line.now k ≡ without pass line.now)
+        × ((c : ℕ) → insert line.now (k + 1) c ≡ put_behind pass c line.now)) }
 {
     for (i, waiter) in line.iter().enumerate() {
         if *waiter == pass {

@@ -33,6 +33,7 @@ impl LineState {
         ensures state { self.new ≡ (if result then after self.old event.now else self.old) }
         ensures well_formed { IsWellFormed limit self.old → IsWellFormed limit self.new }
     {
+        let _ = &self.hold;
         if !self.admits(event, limit) {
             return false;
         }
@@ -93,9 +94,9 @@ impl LineState {
         requires named { pass < length self.old.mark }
         requires waits { 0 < times pass self.old.line }
         ensures { self.new ≡ record self.old {
-            line = without pass self.old.line;
-            role = role_without pass self.old.role;
-            mark = slice_set self.old.mark pass 0
+          line = without pass self.old.line;
+          role = role_without pass self.old.role;
+          mark = slice_set self.old.mark pass 0;
         } }
     {
         self.take_out(pass);
@@ -108,8 +109,8 @@ impl LineState {
     fn begin(&mut self, pass: u32, role: Role)
         requires { pass < length self.old.mark }
         ensures { self.new ≡ record self.old {
-            role = role;
-            mark = slice_set self.old.mark pass (begun_mark (mark_of self.old pass))
+          role = role;
+          mark = slice_set self.old.mark pass (begun_mark (mark_of self.old pass));
         } }
     {
         let mark = self.begun_mark(pass);
@@ -132,8 +133,8 @@ impl LineState {
         requires detached { 0 < link_word self.old.hand }
         requires batch { 0 < last_marked (mark_of self.old) self.old.line }
         ensures { self.new ≡ record self.old {
-            line = put_behind (batch_end self.old) (link_word self.old.hand - 1) self.old.line;
-            hand = None
+          line = put_behind (batch_end self.old) (link_word self.old.hand - 1) self.old.line;
+          hand = None;
         } }
     {
         let end = self.batch_end();
@@ -149,8 +150,8 @@ impl LineState {
         requires next { 0 < follower (batch_end self.old) self.old.line }
         requires room { mark_of self.old (batch_end self.old) < limit }
         ensures { self.new ≡ record self.old {
-            mark = slice_set self.old.mark (follower (batch_end self.old) self.old.line - 1)
-                (mark_of self.old (batch_end self.old) + 1)
+          mark = slice_set self.old.mark (follower (batch_end self.old) self.old.line - 1)
+              (mark_of self.old (batch_end self.old) + 1);
         } }
     {
         let mark = scans::mark_at(&self.mark, self.batch_end());

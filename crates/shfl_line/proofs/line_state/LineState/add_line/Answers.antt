@@ -1,7 +1,6 @@
-use Rattle.std.proofs.Common.{rules, ◌≡◌, ℕ, ◌<◌, ◌++◌, ◌∷◌, [], length, sym, refl, arith}
+use Rattle.std.proofs.Common.{rules, ◌≡◌, ◌<◌, length, arith}
 use Rattle.std.specs.Prelude.{vec_capacity, slice_set}
 use Rattle.std.proofs.Math.ListN.{length-set}
-use Rattle.shfl_line.specs.Line.{Line}
 use Rattle.shfl_line.specs.Steps.{IsAway}
 use Rattle.shfl_line.specs.Shown.{shown}
 use Rattle.shfl_line.proofs.OfPasses.{of_join}
@@ -11,7 +10,7 @@ use Rattle.shfl_line.proofs.line_state.LineState.add_line.Goals as goal
 pub push_reserved-requires : goal.push_reserved-requires
 push_reserved-requires c =
     let h : length c.self.inside.line.items < vec_capacity c.self.inside.line =
-        room_in_line c.self.inside c.args.self.now c.args.pass c.self.view_is c.self.invariant c.requires.named c.requires.away.0 in
+    room_in_line c.self.inside c.args.self.now c.args.pass c.self.view_is c.self.invariant c.requires.named c.requires.away.0 in
     search rules
 
 pub invariant_of-self : goal.invariant_of-self

@@ -1,4 +1,4 @@
-use Rattle.std.proofs.Common.{rules, ◌≡◌, ◌≢◌, ◌∙◌, ℕ, zero, suc, ◌+◌, ◌-◌, ◌<◌, ◌≤◌, List, Some, None, refl, sym, ap, subst, length, arith}
+use Rattle.std.proofs.Common.{rules, ◌≡◌, ◌∙◌, ℕ, suc, ◌+◌, ◌<◌, List, None, refl, ap, subst, length, arith}
 use Rattle.std.specs.Prelude.{vec_capacity}
 use Rattle.std.specs.List.{insert}
 use Rattle.shfl_line.specs.Words.{link_word}
@@ -27,12 +27,12 @@ invariant_of-self c = let a = c.self.inside in let k = c.self.invariant in let w
     let end : c.batch_end-end.result ≡ batch_end (shown a) = of_fields a c.args.self.now c.self.view_is (λ t. c.batch_end-end.result ≡ batch_end t) c.batch_end-end.ensures in
     let put : insert c.deref.result.now (c.in-Some-place_of.at + 1) waiter ≡ put_behind c.batch_end-end.result waiter c.deref.result.now = c.in-Some-place_of.ensures.2 waiter in
     let e : c.insert_reserved.new.list.items ≡ put_behind (batch_end (shown a)) waiter a.line.items =
-        c.insert_reserved.ensures.items ∙ (subst (λ (l : List ℕ). insert l (c.in-Some-place_of.at + 1) waiter ≡ put_behind c.batch_end-end.result waiter l) c.deref.ensures.value put
-            ∙ ap (λ q. put_behind q waiter a.line.items) end) in
+    c.insert_reserved.ensures.items ∙ (subst (λ (l : List ℕ). insert l (c.in-Some-place_of.at + 1) waiter ≡ put_behind c.batch_end-end.result waiter l) c.deref.ensures.value put
+    ∙ ap (λ q. put_behind q waiter a.line.items) end) in
     let h : link_word a.hand ≡ suc waiter = ap link_word c.in-Some.is in
     let inside : 0 < times (batch_end (shown a)) a.line.items = of_fields a c.args.self.now c.self.view_is (λ t. 0 < times (batch_end t) t.line) (end_inside c.args.self.now c.requires.batch) in
     kept_as a _ (record (shown a) { line = put_behind (batch_end (shown a)) waiter a.line.items; hand = None }) k (ap (λ (l : List ℕ). record (shown a) { line = l; hand = None }) e) refl
-        (of_attach (length a.mark.items) (batch_end (shown a)) waiter (shown a) k.of_passes h inside) (omega arith) c.insert_reserved.ensures.capacity
+    (of_attach (length a.mark.items) (batch_end (shown a)) waiter (shown a) k.of_passes h inside) (omega arith) c.insert_reserved.ensures.capacity
 
 pub returns-in_default-place_of : goal.returns-in_default-place_of
 returns-in_default-place_of c =

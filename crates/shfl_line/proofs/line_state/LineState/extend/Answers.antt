@@ -1,7 +1,6 @@
-use Rattle.std.proofs.Common.{rules, ◌≡◌, ◌∙◌, ℕ, suc, ◌+◌, ◌<◌, ◌≤◌, List, refl, ap, sym, subst, length, arith}
+use Rattle.std.proofs.Common.{rules, ◌≡◌, ℕ, suc, ◌+◌, ◌<◌, List, refl, sym, length, arith}
 use Rattle.std.specs.Prelude.{slice_set}
 use Rattle.std.proofs.Math.ListN.{length-set}
-use Rattle.shfl_line.specs.Line.{Line}
 use Rattle.shfl_line.specs.Passes.{follower}
 use Rattle.shfl_line.specs.Steps.{batch_end}
 use Rattle.shfl_line.specs.Shown.{shown}

@@ -1,4 +1,4 @@
-use Rattle.std.proofs.Common.{◌≡◌, ℕ, ◌<◌, subst}
+use Rattle.std.proofs.Common.{subst}
 use Rattle.shfl_line.specs.declared.events.LineEvent.{LineEvent}
 use Rattle.shfl_line.specs.declared.events.LineEvent.TheVariants.{Pick}
 use Rattle.shfl_line.specs.Steps.{Admits}

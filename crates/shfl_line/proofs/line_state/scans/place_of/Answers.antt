@@ -1,4 +1,4 @@
-use Rattle.std.proofs.Common.{ℕ, ◌≡◌, ◌∙◌, sym, ap, arith, get_or}
+use Rattle.std.proofs.Common.{◌≡◌, ◌∙◌, sym, arith, get_or}
 use Rattle.std.proofs.lemmas.Grind.{common_steps}
 use Rattle.shfl_line.proofs.Behind
 use Rattle.shfl_line.proofs.line_state.scans.place_of.Goals as goal
