@@ -1,0 +1,4 @@
+pub mod Tell
+pub mod NoBytes
+pub mod Stages
+pub mod Turns

@@ -1,0 +1,13 @@
+use Rattle.syncord_app.proofs.telling.tell_ending.Goals as goal
+
+pub returns-in-Refused : goal.returns-in-Refused
+returns-in-Refused g c = rw c.in-Refused.is c.tell.ensures
+
+pub returns-in-TooLarge : goal.returns-in-TooLarge
+returns-in-TooLarge g c = rw c.in-TooLarge.is c.tell-in-TooLarge.ensures
+
+pub returns-in-ReadFault : goal.returns-in-ReadFault
+returns-in-ReadFault g c = rw c.in-ReadFault.is c.tell-in-ReadFault.ensures
+
+pub returns-in-WriteFault : goal.returns-in-WriteFault
+returns-in-WriteFault g c = rw c.in-WriteFault.is c.tell_write_fault.ensures

@@ -1,0 +1,16 @@
+//! The program `syncord` as one call: words and bytes in, a status, a report and an error line out.
+#![tactic(auto)]
+
+mod commands;
+mod ending;
+mod line;
+mod parts;
+mod reading;
+mod report;
+mod run;
+mod schedule;
+mod telling;
+mod top;
+
+pub use line::run_line;
+pub use top::syncord;

@@ -1,0 +1,50 @@
+//! The top call: words and bytes in, a status, a report and an error line out.
+ghost use Rattle.std.specs.Prelude.{◌≡◌, map, string_bytes, codes, Some, None};
+ghost use Rattle.syncord_app.specs.declared.commands.Command.TheVariants.{Line};
+ghost use Rattle.syncord_app.specs.Commands.{command_in};
+ghost use Rattle.syncord_app.specs.Traffic.{traffic, Told};
+ghost use Rattle.syncord_app.specs.Ending.{AnswersLine, ReportsSchedules};
+
+use crate::commands::Command;
+use crate::line::run_line;
+use crate::telling::tell;
+use std::alloc::Global;
+use std::sync::Wait;
+use std::thread::Threads;
+use syn_outer::{Gate, Sink, Source};
+
+/// Does what the words behind the program's name say, and answers the status.
+pub fn syncord<Rt: Threads + Wait + Sync, R: Source, W: Sink, E: Sink, G: Gate + Sync>(
+    _rt: &Rt,
+    alloc: Global,
+    words: &[String],
+    src: &mut R,
+    out: &mut W,
+    err: &mut E,
+    _gate: &G,
+) -> u8
+    // Other words than a command's are refused, and nothing is read or written.
+    ensures refused { command_in (map string_bytes words.now) ≡ None → result ≡ 2 }
+    ensures untouched { command_in (map string_bytes words.now) ≡ None →
+        (src.new ≡ src.old) × (out.new ≡ out.old) }
+    ensures told { command_in (map string_bytes words.now) ≡ None →
+        Told (traffic (E.held err.old) (E.held err.new) (E.faults err.old) (E.faults err.new))
+            (codes "syncord: words\n") }
+
+    // `line` is done, or ends otherwise with its cause.
+    ensures line { command_in (map string_bytes words.now) ≡ Some Line → AnswersLine
+        (traffic (R.left src.old) (R.left src.new) (R.faults src.old) (R.faults src.new))
+        (traffic (W.held out.old) (W.held out.new) (W.faults out.old) (W.faults out.new))
+        (traffic (E.held err.old) (E.held err.new) (E.faults err.old) (E.faults err.new)) result }
+    ensures complete { command_in (map string_bytes words.now) ≡ Some Line → ReportsSchedules
+        (traffic (R.left src.old) (R.left src.new) (R.faults src.old) (R.faults src.new))
+        (traffic (W.held out.old) (W.held out.new) (W.faults out.old) (W.faults out.new)) result }
+{
+    match Command::of(words) {
+        Some(Command::Line) => run_line(alloc, src, out, err),
+        None => {
+            tell(err, b"syncord: words\n");
+            2
+        }
+    }
+}
