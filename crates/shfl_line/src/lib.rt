@@ -3,11 +3,13 @@
 
 mod choosers;
 mod events;
+mod laws;
 mod line_state;
 mod words;
 
 pub use choosers::{Always, Answer, BySocket, Chooser, Never};
 pub use events::{Form, LineEvent, Mode, Role};
+pub use laws::laws_of_line_steps;
 pub use line_state::LineState;
 use std::alloc::AllocError;
 pub use words::{
