@@ -3,7 +3,7 @@ use Rattle.std.specs.Prelude.{◌≡◌, ℕ, ◌<◌, ◌≤◌, Bool, List, le
 use mathlib.Core.Option.{some}
 use lib.ListN.{get_elem?}
 use Rattle.shfl_line.specs.declared.events.LineEvent.{LineEvent}
-use Rattle.shfl_line.specs.Line.{Line, Rises}
+use Rattle.shfl_line.specs.Line.{Line, IsOfPasses}
 use Rattle.shfl_line.specs.Steps.{Admits, after}
 use Rattle.shfl_line.specs.Words.{IsLockWord, IsStateWord}
 use Rattle.shfl_core.specs.declared.phase.Phase.{Phase}
@@ -59,8 +59,7 @@ pub record Lawful (t : Terms) (w : World) : Type 0 where
   -- the line state that the world shows, and the pass at Ready plus 1, or 0
   pub shown : Line
   pub giver : ℕ
-  pub marks : length shown.mark ≡ count t
-  pub rises : Rises 0 (count t) shown.hold
+  pub of_passes : IsOfPasses (count t) shown
   pub agrees : Agrees t (view w) shown giver
 
 -- from one world to another the shown states are one admitted step of the line apart, the one that is named

@@ -1,0 +1,15 @@
+pub mod Rows
+pub mod Order
+pub mod Quiet
+pub mod Relink
+pub mod Loads
+pub mod Join
+pub mod Heir
+pub mod Leave
+pub mod MarkRow
+pub mod Pick
+pub mod Place
+pub mod Holding
+pub mod Shown
+pub mod Frame
+pub mod Advance
