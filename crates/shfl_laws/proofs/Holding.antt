@@ -39,12 +39,12 @@ total-same zero f g h = refl
 total-same (suc n) f g h = let a = h n (omega arith) in let b = total-same n f g (λ q l. h q (omega arith)) in omega arith
 
 -- one pass changes
-pub total-upd : (n p : ℕ) (pass : ℕ → PassState) (v : PassState) → p < n → total n (λ q. backs (updated pass p v q)) + backs (pass p) ≡ total n (λ q. backs (pass q)) + backs v
-total-upd zero p pass v h = absurd (omega arith)
-total-upd (suc n) p pass v h = Chain.by_eq p n
+pub total-updated : (n p : ℕ) (pass : ℕ → PassState) (v : PassState) → p < n → total n (λ q. backs (updated pass p v q)) + backs (pass p) ≡ total n (λ q. backs (pass q)) + backs v
+total-updated zero p pass v h = absurd (omega arith)
+total-updated (suc n) p pass v h = Chain.by_eq p n
     (λ e. let a : total n (λ q. backs (updated pass p v q)) ≡ total n (λ q. backs (pass q)) = total-same n (λ q. backs (updated pass p v q)) (λ q. backs (pass q)) (λ q l. ap backs (Chain.updated-else pass p q v (λ i. omega arith))) in
     let b : backs (updated pass p v n) ≡ backs v = ap backs (subst (λ z. updated pass p v z ≡ v) e (Chain.updated-same pass p v)) in let c : backs (pass p) ≡ backs (pass n) = ap (λ z. backs (pass z)) e in omega arith)
-    (λ k. let a = total-upd n p pass v (let j = k in omega arith) in let b : backs (updated pass p v n) ≡ backs (pass n) = ap backs (Chain.updated-else pass p n v (λ i. k (sym i))) in omega arith)
+    (λ k. let a = total-updated n p pass v (let j = k in omega arith) in let b : backs (updated pass p v n) ≡ backs (pass n) = ap backs (Chain.updated-else pass p n v (λ i. k (sym i))) in omega arith)
 
 module _ (n : ℕ) (held : Bool) (readers : ℕ) (pass : ℕ → PassState) (hold : List (ℕ × Mode)) (h : Holds n held readers pass hold) (p : ℕ) (v : PassState) (below : p < n) where
   -- a step that leaves the hold: the count goes with those who back out
@@ -54,7 +54,7 @@ module _ (n : ℕ) (held : Bool) (readers : ℕ) (pass : ℕ → PassState) (hol
     reader = Chain.updated-all (λ q t. read_of q hold ≡ cond (is_holding t.phase && not (is_write t.reg.mode)) 1 0) pass p v (h.reader p ∙ sym (λ i. cond (a i && not (is_write (b i))) 1 0)) (λ q k. h.reader q);
     word = h.word;
     alone = h.alone;
-    count = let t = total-upd n p pass v below in let d = h.count in omega arith;
+    count = let t = total-updated n p pass v below in let d = h.count in omega arith;
   }
 
   -- p gains the hold
@@ -69,7 +69,7 @@ module _ (n : ℕ) (held : Bool) (readers : ℕ) (pass : ℕ → PassState) (hol
         (λ q k. let e = read_of-put q p m hold in let w = h.reader q in grind (arith, nat_tests));
     word = let e = writes-put p m hold in let w = h.word in grind arith;
     alone = λ k. let e = writes-put p m hold in let f = reads-put p m hold in let w = h.word in grind arith;
-    count = let t = total-upd n p pass v below in let c0 = h.count in let f = reads-put p m hold in omega arith;
+    count = let t = total-updated n p pass v below in let c0 = h.count in let f = reads-put p m hold in omega arith;
   }
 
 -- Count, and HeadCount: the reader takes the lock that no writer holds
@@ -82,7 +82,7 @@ pub law_count_lost : (n : ℕ) (held : Bool) (readers : ℕ) (pass : ℕ → Pas
 law_count_lost n held readers pass hold p h below f = stay n held readers pass hold h p (on (pass p) Uncount) below (readers + 1) (grind (arith, f)) refl (let b : backs (pass p) ≡ 0 = grind (arith, f) in omega arith)
 
 pub law_uncount : (n : ℕ) (held : Bool) (readers : ℕ) (pass : ℕ → PassState) (hold : List (ℕ × Mode)) (p : ℕ) → Holds n held readers pass hold → p < n → (pass p).phase ≡ Uncount → (0 < readers) × Holds n held (readers - 1) (updated pass p (on (pass p) Init)) hold
-law_uncount n held readers pass hold p h below f = let b : backs (pass p) ≡ 1 = grind (arith, f) in let t = total-upd n p pass (on (pass p) Init) below in let c = h.count in
+law_uncount n held readers pass hold p h below f = let b : backs (pass p) ≡ 1 = grind (arith, f) in let t = total-updated n p pass (on (pass p) Init) below in let c = h.count in
     let z : 0 < readers = omega arith in (z, stay n held readers pass hold h p (on (pass p) Init) below (readers - 1) (grind (arith, f)) refl (omega arith))
 
 -- HeadLook: a count that stood becomes a hold

@@ -13,3 +13,9 @@ pub mod Holding
 pub mod Shown
 pub mod Frame
 pub mod Advance
+pub mod Registered
+pub mod OwedFrames
+pub mod QuietAgrees
+pub mod LockBits
+pub mod Losing
+pub mod OutsideRows
