@@ -18,4 +18,5 @@ pub mod OwedFrames
 pub mod QuietAgrees
 pub mod LockBits
 pub mod Losing
+pub mod Counts
 pub mod OutsideRows
