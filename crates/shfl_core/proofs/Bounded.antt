@@ -1,11 +1,9 @@
 -- A step names no pass that isn't there.
-use Rattle.std.proofs.Common.{◌≡◌, ◌≢◌, ℕ, zero, suc, ◌+◌, ◌*◌, ◌<◌, ◌≤◌, ◌==◌, Bool, true, false, cond, length, set, length-set, refl, sym, ap, ◌∙◌, subst, arith}
+use Rattle.std.proofs.Common.{ℕ, zero, suc, ◌+◌, ◌<◌, ◌≤◌, ◌==◌, Bool, true, false, cond, arith}
 use Rattle.std.specs.Prelude.{◌||◌, ◌&&◌, nat_lt, ◌%◌}
 use prog.Atomic.{either}
 use Rattle.shfl_line.specs.declared.events.Mode.TheVariants.{Write}
 use Rattle.shfl_line.specs.Words.{held_of, closed_of, ready_of, shuffler_of, spin_of, batch_of}
-use mathlib.Core.Option.{some}
-use lib.ListN.{get_elem?}
 use Rattle.shfl_core.specs.declared.phase.Phase.{Phase}
 use Rattle.shfl_core.specs.declared.phase.Phase.TheVariants.{Idle, Steal, Init, Swap, Link, Close, Look, Begin, Next, Tail, Attr, Decide, After, Pick, Aim, Place, Mark, Give, Peek, Grab, WriteGrab, Take, Cut, Late, Ready, Open, Held, Release, Count, Uncount, TryUncount, HeadCount, HeadLook, ReadRelease}
 use Rattle.shfl_core.specs.declared.phase.Registers.{Registers}
@@ -13,11 +11,10 @@ use Rattle.shfl_core.specs.declared.phase.Nap.{Nap}
 use Rattle.shfl_core.specs.declared.phase.Nap.TheVariants.{Awake, Doze, Hear, Rouse, Ring}
 use Rattle.shfl_core.specs.declared.phase.PassState.{PassState}
 use Rattle.shfl_core.specs.declared.phase.Rules.{Rules}
-use Rattle.shfl_core.specs.declared.words.Word.{Word}
 use Rattle.shfl_core.specs.declared.words.Word.TheVariants.{Lock, State as StateOf}
 use Rattle.shfl_core.specs.Words.{index, wide, site, put, free_for}
 use Rattle.shfl_core.specs.Plan.{plan_at, plan_by, plan, parks, shares, round_batch}
-use Rattle.shfl_core.specs.Take.{to, top, swap_found, looked, begun, next_found, decided, after_found, marked, given, peeked, heir_found, readied, take_at, take_by, take, done, seek, nap_found, sleeps, stops}
+use Rattle.shfl_core.specs.Take.{to, top, swap_found, looked, begun, next_found, decided, after_found, marked, heir_found, take_at, take_by, take, done, seek, sleeps, stops}
 use Rattle.shfl_core.specs.Bounds.{NamesBelow, WakesBelow, IsInBounds, LinkBelow}
 
 module _ (t : Rules) (count p : ℕ) (below : p < count) where

@@ -8,10 +8,10 @@ use Rattle.shfl_line.specs.Words.{attr_word}
 use Rattle.shfl_core.specs.declared.phase.PassState.{PassState}
 use Rattle.shfl_core.specs.declared.phase.Rules.{Rules}
 use Rattle.shfl_core.specs.declared.words.Word.{Word}
-use Rattle.shfl_core.specs.declared.words.Word.TheVariants.{Lock as LockWord, Tail, Next, State, Attr as AttrWord, Bell}
-use Rattle.shfl_core.specs.Words.{look, wide}
+use Rattle.shfl_core.specs.declared.words.Word.TheVariants.{Tail, Next}
+use Rattle.shfl_core.specs.Words.{look}
 use Rattle.shfl_core.specs.Waiting.{Meaning, idle, fresh}
-use Rattle.shfl_core.specs.Worlds.{World, node, node_words, opening_words, idle_from, opening}
+use Rattle.shfl_core.specs.Worlds.{node, node_words, opening_words, idle_from, opening}
 use Rattle.shfl_core.specs.Bounds.{HasBounds, IsInBounds, LinkBelow}
 use Rattle.shfl_core.specs.Runner.{IsLock, standing, common_rules, seen_lock, opened}
 use Rattle.shfl_core.proofs.Standing.{standing-long}

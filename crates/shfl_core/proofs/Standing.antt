@@ -1,5 +1,5 @@
 -- Waiters over plain words: where one stands, and the lock once one has moved.
-use Rattle.std.proofs.Common.{◌≡◌, ◌≢◌, ℕ, zero, suc, ◌+◌, ◌*◌, ◌<◌, ◌≤◌, ◌⊎◌, Bool, true, false, cond, List, [], ◌∷◌, length, set, get_or, length-set, get_or-set_same, get_or-set_other, refl, sym, ap, ◌∙◌, subst, ⊎_elim, arith}
+use Rattle.std.proofs.Common.{◌≡◌, ◌≢◌, ℕ, zero, suc, ◌<◌, ◌≤◌, ◌⊎◌, Bool, true, false, cond, List, [], ◌∷◌, length, set, get_or, length-set, get_or-set_same, get_or-set_other, refl, sym, ap, ◌∙◌, subst, ⊎_elim, arith}
 use mathlib.Core.Option.{some, some-injective, some-ne-none}
 use lib.ListN.{get_elem?}
 use Rattle.shfl_line.specs.declared.events.Mode.{Mode}
@@ -13,8 +13,8 @@ use Rattle.shfl_core.specs.Words.{index, wide, look, site, put, told, written, N
 use Rattle.shfl_core.specs.Plan.{plan, moving, is_idle, is_resting}
 use Rattle.shfl_core.specs.Take.{take, acquired, released, entry, exit}
 use Rattle.shfl_core.specs.Waiting.{Meaning, idle, next_access, takes, acquires, releases, MayFind, MayUse, ask}
-use Rattle.shfl_core.specs.Worlds.{World, known, placed_at, after_access, stepped, Move, Acquire, Release, Step, admitted, after_move}
-use Rattle.shfl_core.specs.Bounds.{HasBounds, IsInBounds, LinkBelow}
+use Rattle.shfl_core.specs.Worlds.{known, placed_at, stepped, Acquire, Release, Step}
+use Rattle.shfl_core.specs.Bounds.{IsInBounds, LinkBelow}
 use Rattle.shfl_core.specs.Runner.{Lock, IsLock, standing, common_rules, seen_lock, moved}
 use Rattle.shfl_core.proofs.Lists.{seen-at, at-read, at-set, set-again}
 use Rattle.shfl_core.proofs.Bounded.{step-in, in-range, put-in}

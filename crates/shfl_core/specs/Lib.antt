@@ -5,3 +5,11 @@ pub mod Waiting
 pub mod Worlds
 pub mod Bounds
 pub mod Runner
+pub mod Phases
+pub mod View
+pub mod Order
+pub mod Grouping
+pub mod Holding
+pub mod Owed
+pub mod Events
+pub mod Lawful

@@ -1,5 +1,5 @@
 -- The words of a lock with its passes: the opening, the moves, and the runs.
-use Rattle.std.specs.Prelude.{ℕ, suc, List, [], ◌∷◌, ◌&&◌, nat_lt, Bool, cond, length, slice_index_or, slice_set}
+use Rattle.std.specs.Prelude.{ℕ, suc, List, [], ◌∷◌, Bool, cond, slice_index_or, slice_set}
 use Rattle.shfl_line.specs.declared.events.Mode.{Mode}
 use Rattle.shfl_line.specs.declared.words.Attr.{Attr}
 use Rattle.shfl_line.specs.Words.{attr_word}

@@ -92,6 +92,7 @@ fn push_node(list: &mut Vec<u64>, attr: u64)
 }
 
 /// A lock whose words are plain numbers, with all its passes.
+#[derive(Drop)]
 pub struct World<W: Waiter> {
     words: Vec<u64>,
     passes: Vec<W>,
