@@ -1,112 +1,149 @@
-ghost use Rattle.std.specs.Prelude.{◌≡◌, List, [], Some, None, if◌then◌else◌, length, IfOk};
+ghost use Rattle.std.specs.Prelude.{◌≡◌, ◌<◌, List, [], Some, None, true, if◌then◌else◌, length};
+ghost use Rattle.shfl_line.specs.Steps.{NamesBelow};
 
 use super::*;
-use std::alloc::Global;
 use std::sync::Wait;
 use std::test::Fail;
 
-const PLENTY: u16 = 1024;
-
-// A state of five passes, where pass 0 holds and the others wait in order.
-fn crowded(alloc: Global) -> Result<LineState, NoMemory>
-    ensures { IfOk result (λ s. length s.mark ≡ 5) }
+// Whether each pass that the event names is one of so many.
+fn is_named(event: &LineEvent, passes: usize) -> bool
+    ensures { result ≡ true → NamesBelow passes event.now }
 {
-    let mut state = LineState::open(alloc, 5)?;
-    state.add_hold(0, Mode::Write);
-    let _ = state.apply(&LineEvent::Join { pass: 1 }, PLENTY);
-    let _ = state.apply(&LineEvent::Join { pass: 2 }, PLENTY);
-    let _ = state.apply(&LineEvent::Join { pass: 3 }, PLENTY);
-    let _ = state.apply(&LineEvent::Join { pass: 4 }, PLENTY);
-    Ok(state)
+    match *event {
+        LineEvent::Steal { pass, mode: _ } | LineEvent::Grab { pass, mode: _ } => {
+            (pass as usize) < passes
+        }
+        LineEvent::Join { pass }
+        | LineEvent::Leave { pass }
+        | LineEvent::Release { pass }
+        | LineEvent::Begin { pass }
+        | LineEvent::Rest { pass }
+        | LineEvent::Place { pass }
+        | LineEvent::Keep { pass }
+        | LineEvent::Give { pass } => (pass as usize) < passes,
+        LineEvent::Pick { pass, who } => (pass as usize) < passes && (who as usize) < passes,
+        LineEvent::Nothing => true,
+    }
 }
+
+// How many of the events were admitted before the first that wasn't.
+fn play(state: &mut LineState, events: &[LineEvent], limit: u16) -> usize
+    requires { 0 < limit }
+{
+    for (i, event) in events.iter().enumerate() {
+        if !is_named(event, state.mark().len()) || !state.apply(event, limit) {
+            return i;
+        }
+    }
+    events.len()
+}
+
+// What the state is but for its holders.
+fn waits(state: &LineState, line: &[u32], hand: Option<u32>, role: Role, mark: &[u16]) -> bool {
+    state.line() == line && state.hand() == hand && *state.role() == role && state.mark() == mark
+}
+
+const STEAL: LineEvent = LineEvent::Steal {
+    pass: 0,
+    mode: Mode::Write,
+};
 
 #[test]
 fn a_waiter_is_moved_up_behind_the_group(rt: HostRuntime) -> Result<(), Fail> {
-    let mut state = crowded(rt.alloc())?;
-    assert_eq!(rt; state.line(), [1, 2, 3, 4].as_slice());
-    assert_eq!(rt; state.apply(&LineEvent::Begin { pass: 1 }, PLENTY), true);
+    let mut state = LineState::open(rt.alloc(), 5)?;
+    let join = [
+        STEAL,
+        LineEvent::Join { pass: 1 },
+        LineEvent::Join { pass: 2 },
+        LineEvent::Join { pass: 3 },
+        LineEvent::Join { pass: 4 },
+        LineEvent::Begin { pass: 1 },
+        LineEvent::Pick { pass: 1, who: 3 },
+        LineEvent::Pick { pass: 1, who: 2 },
+    ];
+    assert_eq!(rt; play(&mut state, &join, 1024), 7);
     assert_eq!(rt;
-        state.apply(&LineEvent::Pick { pass: 1, who: 4 }, PLENTY),
-        false
-    );
-    assert_eq!(rt;
-        state.apply(&LineEvent::Pick { pass: 1, who: 2 }, PLENTY),
-        false
-    );
-    assert_eq!(rt;
-        state.apply(&LineEvent::Pick { pass: 1, who: 3 }, PLENTY),
+        waits(&state, &[1, 2, 4], Some(3), Role::Walk(1), &[0, 1, 0, 0, 0]),
         true
     );
-    assert_eq!(rt; state.line(), [1, 2, 4].as_slice());
-    assert_eq!(rt; state.hand(), Some(3));
-    assert_eq!(rt; *state.role(), Role::Walk(1));
-    assert_eq!(rt; state.apply(&LineEvent::Place { pass: 1 }, PLENTY), true);
-    assert_eq!(rt; state.apply(&LineEvent::Keep { pass: 1 }, PLENTY), true);
-    assert_eq!(rt; state.apply(&LineEvent::Give { pass: 1 }, PLENTY), true);
-    assert_eq!(rt; state.line(), [1, 3, 2, 4].as_slice());
-    assert_eq!(rt; state.hand(), None);
-    assert_eq!(rt; *state.role(), Role::Rest(3));
-    assert_eq!(rt; state.mark(), [0, 1, 0, 2, 0].as_slice());
+    let move_up = [
+        LineEvent::Place { pass: 1 },
+        LineEvent::Keep { pass: 1 },
+        LineEvent::Pick { pass: 1, who: 2 },
+    ];
+    assert_eq!(rt; play(&mut state, &move_up, 1024), 2);
+    let give = [LineEvent::Give { pass: 1 }];
+    assert_eq!(rt; play(&mut state, &give, 1024), 1);
+    assert_eq!(rt;
+        waits(&state, &[1, 3, 2, 4], None, Role::Rest(3), &[0, 1, 0, 2, 0]),
+        true
+    );
     Ok(())
 }
 
 #[test]
 fn a_full_group_begins_no_round(rt: HostRuntime) -> Result<(), Fail> {
-    let mut state = crowded(rt.alloc())?;
-    assert_eq!(rt; state.apply(&LineEvent::Begin { pass: 1 }, 2), true);
-    assert_eq!(rt; state.apply(&LineEvent::Keep { pass: 1 }, 2), true);
-    assert_eq!(rt; state.apply(&LineEvent::Keep { pass: 1 }, 2), false);
-    assert_eq!(rt; state.apply(&LineEvent::Give { pass: 1 }, 2), true);
-    assert_eq!(rt; state.apply(&LineEvent::Release { pass: 0 }, 2), true);
-    let grab = LineEvent::Grab {
-        pass: 1,
-        mode: Mode::Write,
-    };
-    assert_eq!(rt; state.apply(&grab, 2), true);
-    assert_eq!(rt; state.apply(&LineEvent::Leave { pass: 1 }, 2), true);
+    let mut state = LineState::open(rt.alloc(), 3)?;
+    let fill = [
+        STEAL,
+        LineEvent::Join { pass: 1 },
+        LineEvent::Join { pass: 2 },
+        LineEvent::Begin { pass: 1 },
+        LineEvent::Keep { pass: 1 },
+        LineEvent::Keep { pass: 1 },
+    ];
+    assert_eq!(rt; play(&mut state, &fill, 2), 5);
+    let leave = [
+        LineEvent::Give { pass: 1 },
+        LineEvent::Release { pass: 0 },
+        LineEvent::Grab {
+            pass: 1,
+            mode: Mode::Write,
+        },
+        LineEvent::Leave { pass: 1 },
+        LineEvent::Nothing,
+        LineEvent::Begin { pass: 2 },
+    ];
+    assert_eq!(rt; play(&mut state, &leave, 2), 5);
     assert_eq!(rt; state.hold(), [(1, Mode::Write)].as_slice());
-    assert_eq!(rt; state.mark(), [0, 0, 2, 0, 0].as_slice());
-    assert_eq!(rt; *state.role(), Role::Rest(2));
-    assert_eq!(rt; state.apply(&LineEvent::Begin { pass: 2 }, 2), false);
-    assert_eq!(rt; state.apply(&LineEvent::Rest { pass: 2 }, 2), true);
+    assert_eq!(rt; waits(&state, &[2], None, Role::Rest(2), &[0, 0, 2]), true);
+    let rest = [LineEvent::Rest { pass: 2 }];
+    assert_eq!(rt; play(&mut state, &rest, 2), 1);
     assert_eq!(rt; *state.role(), Role::Nobody);
-    assert_eq!(rt; state.apply(&LineEvent::Nothing, 2), true);
     Ok(())
 }
 
 #[test]
 fn readers_hold_together_in_rising_order(rt: HostRuntime) -> Result<(), Fail> {
     let mut state = LineState::open(rt.alloc(), 3)?;
-    let late = LineEvent::Steal {
-        pass: 2,
-        mode: Mode::Read,
-    };
-    let early = LineEvent::Steal {
-        pass: 0,
-        mode: Mode::Read,
-    };
-    let alone = LineEvent::Steal {
-        pass: 1,
-        mode: Mode::Write,
-    };
-    assert_eq!(rt; state.apply(&late, PLENTY), true);
-    assert_eq!(rt; state.apply(&early, PLENTY), true);
-    assert_eq!(rt; state.apply(&alone, PLENTY), false);
+    let read = [
+        LineEvent::Steal {
+            pass: 2,
+            mode: Mode::Read,
+        },
+        LineEvent::Steal {
+            pass: 0,
+            mode: Mode::Read,
+        },
+        LineEvent::Steal {
+            pass: 1,
+            mode: Mode::Write,
+        },
+    ];
+    assert_eq!(rt; play(&mut state, &read, 1), 2);
     assert_eq!(rt; state.hold(), [(0, Mode::Read), (2, Mode::Read)].as_slice());
     Ok(())
 }
 
 #[test]
 fn a_state_is_filled_from_outside(rt: HostRuntime) -> Result<(), Fail> {
-    let mut state = crowded(rt.alloc())?;
+    let mut state = LineState::open(rt.alloc(), 3)?;
     state.clear();
     state.add_hold(1, Mode::Write);
     state.add_line(2, 1);
     state.set(None, Role::Rest(2));
     assert_eq!(rt; state.hold(), [(1, Mode::Write)].as_slice());
-    assert_eq!(rt; state.line(), [2].as_slice());
-    assert_eq!(rt; *state.role(), Role::Rest(2));
-    assert_eq!(rt; state.mark(), [0, 0, 1, 0, 0].as_slice());
+    assert_eq!(rt; waits(&state, &[2], None, Role::Rest(2), &[0, 0, 1]), true);
     Ok(())
 }
 
