@@ -31,6 +31,7 @@ impl LineState {
         ensures admitted { IsTrue result ↔ Admits limit self.old event.now }
         ensures tested { result ≡ admits limit self.old event.now }
         ensures state { self.new ≡ (if result then after self.old event.now else self.old) }
+        ensures passes { length self.new.mark ≡ length self.old.mark }
         ensures well_formed { IsWellFormed limit self.old → IsWellFormed limit self.new }
     {
         let _ = &self.hold;
