@@ -10,6 +10,8 @@ mod report;
 mod run;
 mod schedule;
 mod telling;
+#[cfg(test)]
+mod tests;
 mod top;
 
 pub use line::run_line;

@@ -7,8 +7,9 @@ ghost use Rattle.syncord_app.specs.Schedule.{most_events, attr_in, act_in, event
 ghost use Rattle.syncord_app.specs.Reading.{fault_in, plan_in, heading_of, event_of, reading};
 
 use crate::schedule::{Act, Event, Schedule, ScheduleError};
-use doc_text::{Fault, five_words, fixed_due, is_same, line_due, number, or_fault, piece_at};
-use doc_text::{text_of, two_words};
+use doc_text::{
+    Fault, five_words, fixed_due, is_same, line_due, number, or_fault, piece_at, text_of, two_words,
+};
 use shfl_line::Attr;
 use std::alloc::Global;
 

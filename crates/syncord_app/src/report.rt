@@ -36,12 +36,7 @@ fn push_sizes(out: &mut Vec<u8>, limit: u16, passes: u32) -> Result<(), AllocErr
 }
 
 /// Which form the lock has, its largest batch number, and how many passes.
-pub fn push_header(
-    out: &mut Vec<u8>,
-    form: Form,
-    limit: u16,
-    passes: u32,
-) -> Result<(), AllocError>
+pub fn push_header(out: &mut Vec<u8>, form: Form, limit: u16, passes: u32) -> Result<(), AllocError>
     ensures { OnOk result (out.new.items ≡ out.old.items ++ header form limit passes) }
 {
     push_version(out)?;
@@ -50,12 +45,7 @@ pub fn push_header(
 }
 
 #[tactic(auto, unfolding(crate::specs::Report::deed_text))]
-fn push_deed(
-    out: &mut Vec<u8>,
-    number: u32,
-    event: Event,
-    admitted: bool,
-) -> Result<(), AllocError>
+fn push_deed(out: &mut Vec<u8>, number: u32, event: Event, admitted: bool) -> Result<(), AllocError>
     ensures { OnOk result (out.new.items ≡ out.old.items ++ deed_text number event admitted) }
 {
     push_decimal(out, u64::from(number))?;
@@ -94,10 +84,10 @@ pub fn push_row(
     state: &LineState,
 ) -> Result<(), AllocError>
     ensures { OnOk result (out.new.items ≡ out.old.items ++ row number (record {
-        event = event;
-        admitted = admitted;
-        after = lock.now.world;
-        shown = state.now;
+      event = event;
+      admitted = admitted;
+      after = lock.now.world;
+      shown = state.now;
     })) }
 {
     push_deed(out, number, event, admitted)?;

@@ -29,7 +29,7 @@ pub fn syncord<Rt: Threads + Wait + Sync, R: Source, W: Sink, E: Sink, G: Gate +
         (src.new ≡ src.old) × (out.new ≡ out.old) }
     ensures told { command_in (map string_bytes words.now) ≡ None →
         Told (traffic (E.held err.old) (E.held err.new) (E.faults err.old) (E.faults err.new))
-            (codes "syncord: words\n") }
+        (codes "syncord: words\n") }
 
     // `line` is done, or ends otherwise with its cause.
     ensures line { command_in (map string_bytes words.now) ≡ Some Line → AnswersLine

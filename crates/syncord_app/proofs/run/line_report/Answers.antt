@@ -20,7 +20,7 @@ loop-event-preserved c =
     let wrote = rw items at c.in_ok-push_row.ensures in
     let rows = rows_go_on own _ _ _ _ _ _ _ _ _ _ _ inside after answer c.show.ensures.shown wrote c.loop-event.invariant.text in
     elim c.if-admitted.branch [
-      then-admitted w ↦ let yes = sym answer ∙ w.if-admitted.true in record {
+      | then-admitted w ↦ let yes = sym answer ∙ w.if-admitted.true in record {
         text = let number : c.if-admitted.yes + c.if-admitted.no + 1 ≡ c.loop-event.yes + c.loop-event.no + 1 + 1 = omega arith in rw number rows;
         admitted = rw w.yes-is (counts_admitted own _ _ _ _ _ _ _ inside after yes c.loop-event.invariant.admitted);
         refused = rw w.no-is (skips_refused own _ _ _ _ _ _ _ inside after yes c.loop-event.invariant.refused);

@@ -1,0 +1,32 @@
+//! The program `syncord`: its words and standard input to standard output and standard error.
+#![tactic(auto)]
+
+use std::alloc::Global;
+use std::env;
+use std::process::ExitCode;
+use syn_outer::{OpenGate, StdSink, StdSource};
+use syncord_app::syncord;
+
+/// The words behind the program's name, or none where they can't be had or are no text.
+fn words_of(alloc: Global, args: env::Args) -> Option<Vec<String>> {
+    let mut words = Vec::new(alloc);
+    for word in args.skip(1) {
+        words.push(word).ok()?;
+    }
+    Some(words)
+}
+
+fn main(rt: HostRuntime) -> ExitCode {
+    let Ok(args) = env::args(&rt) else {
+        return ExitCode::from(5);
+    };
+    let Some(words) = words_of(rt.alloc(), args) else {
+        return ExitCode::from(5);
+    };
+    let mut src = StdSource::new(rt.stdin());
+    let mut out = StdSink::new(rt.stdout());
+    let mut err = StdSink::new(rt.stderr());
+    let gate = OpenGate;
+    let status = syncord(&rt, rt.alloc(), &words, &mut src, &mut out, &mut err, &gate);
+    ExitCode::from(status)
+}
