@@ -7,12 +7,9 @@ use Rattle.shfl_line.specs.declared.events.Mode.{Mode}
 use Rattle.shfl_line.specs.declared.events.Mode.TheVariants.{Write as Alone}
 use Rattle.shfl_line.specs.declared.events.Role.TheVariants.{Nobody}
 use Rattle.shfl_line.specs.declared.words.Attr.{Attr}
-use Rattle.shfl_line.specs.Words.{attr_word}
 use Rattle.shfl_line.specs.Line.{writer_count, reader_count, holds, IsWellFormed}
-use Rattle.shfl_core.specs.declared.phase.Phase.{Phase}
-use Rattle.shfl_core.specs.declared.phase.Phase.TheVariants.{Idle, Steal, Held, Release}
+use Rattle.shfl_core.specs.declared.phase.Phase.TheVariants.{Release}
 use Rattle.shfl_core.specs.declared.phase.Rules.{Rules}
-use Rattle.shfl_core.specs.Waiting.{blank}
 use Rattle.shfl_core.specs.Worlds.{World, Release, after_move}
 use Rattle.shfl_core.specs.Runner.{Lock, moved}
 use Rattle.syncord_app.specs.declared.schedule.Act.{Act}
@@ -20,7 +17,7 @@ use Rattle.syncord_app.specs.declared.schedule.Act.TheVariants.{Write, Read, Fre
 use Rattle.syncord_app.specs.declared.schedule.Event.{Event}
 use Rattle.syncord_app.specs.Schedule.{Plan, batch_limit}
 use Rattle.syncord_app.specs.Shown.{shown_by}
-use Rattle.syncord_app.specs.Lone.{Stage, Away, Coming, Inside, Leaving, word_at, phase_at, world_at, IsLone}
+use Rattle.syncord_app.specs.Lone.{Stage, Away, Coming, Inside, Leaving, world_at, IsLone}
 use Rattle.syncord_app.specs.Run.{rules, after_event, may_make, allows, choice_of, move_of, moments, start, ShowsWellFormed}
 
 abbrev pub next_stage : Stage → Act → Stage

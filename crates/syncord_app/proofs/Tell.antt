@@ -1,12 +1,12 @@
 -- A text that goes to a sink in parts.
-use Rattle.std.proofs.Common.{◌≡◌, ◌⊎◌, ℕ, ◌+◌, ◌≤◌, ◌<◌, List, [], ◌++◌, length, take, Bool, true, false, Option, Some, None, Result, Ok, Err, OnOk, IfErr, is_ok, refl, sym, inl, inr, arith}
+use Rattle.std.proofs.Common.{ℕ, ◌+◌, ◌≤◌, ◌<◌, List, [], ◌++◌, length, take, Bool, true, false, Option, Some, None, Result, Ok, Err, OnOk, IfErr, is_ok, sym, inl, inr, arith}
 use Rattle.std.proofs.lemmas.List.{append-nil, take-append-le, length-append}
 use Rattle.std.proofs.Math.Seq.{take-append-add}
 use Rattle.syn_outer.specs.Causes.{Rose}
 use Rattle.syn_outer.specs.Bytes.{Took}
 use Rattle.syn_outer.specs.declared.whole.WriteFault.{WriteFault}
 use Rattle.syn_outer.proofs.TakenBytes.{Took-trans}
-use Rattle.syncord_app.specs.Traffic.{Traffic, traffic, Telling, Told}
+use Rattle.syncord_app.specs.Traffic.{traffic, Telling, Told}
 
 pub Took-nil : (a : Option (List ℕ)) → Took a a []
 Took-nil None = tt

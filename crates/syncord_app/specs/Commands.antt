@@ -1,5 +1,5 @@
 -- The words of the program.
-use Rattle.std.specs.Prelude.{◌≡◌, ℕ, List, Option, Some, None, codes, if◌then◌else◌}
+use Rattle.std.specs.Prelude.{ℕ, List, Option, Some, None, codes, if◌then◌else◌}
 use Rattle.doc_text.specs.Words.{one, same, ◌>>?◌}
 use Rattle.syncord_app.specs.declared.commands.Command.{Command}
 use Rattle.syncord_app.specs.declared.commands.Command.TheVariants.{Line}

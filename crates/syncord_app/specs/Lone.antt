@@ -1,5 +1,5 @@
 -- The worlds that a lone pass reaches: it always finds the lock free, so it never queues.
-use Rattle.std.specs.Prelude.{◌≡◌, ℕ, List, [], ◌∷◌}
+use Rattle.std.specs.Prelude.{◌≡◌, ℕ, [], ◌∷◌}
 use Rattle.shfl_line.specs.declared.words.Attr.{Attr}
 use Rattle.shfl_line.specs.Words.{attr_word}
 use Rattle.shfl_core.specs.declared.phase.Phase.{Phase}

@@ -1,5 +1,5 @@
 -- The schedule that bytes are, or the first bad line and the lowest fault on it.
-use Rattle.std.specs.Prelude.{◌≡◌, ℕ, List, [], length, Option, Some, None, Result, Ok, codes, ◌==◌, if◌then◌else◌}
+use Rattle.std.specs.Prelude.{ℕ, List, [], length, Option, Some, None, Result, Ok, codes, ◌==◌, if◌then◌else◌}
 use Rattle.doc_text.specs.declared.fault.Fault.{Fault}
 use Rattle.doc_text.specs.Text.{pieces}
 use Rattle.doc_text.specs.Words.{words}

@@ -1,5 +1,5 @@
 -- The bytes of a report: a header, a row for each event, and the counts.
-use Rattle.std.specs.Prelude.{◌≡◌, ℕ, ◌+◌, List, [], ◌∷◌, ◌++◌, Bool, not, codes, count_by}
+use Rattle.std.specs.Prelude.{ℕ, ◌+◌, List, [], ◌∷◌, ◌++◌, Bool, not, codes, count_by}
 use Rattle.std.specs.Fmt.{decimal}
 use Rattle.shfl_line.specs.declared.events.Form.{Form}
 use Rattle.shfl_line.specs.Line.{Line}

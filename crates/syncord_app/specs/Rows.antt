@@ -1,5 +1,5 @@
 -- The texts of a report's parts.
-use Rattle.std.specs.Prelude.{◌≡◌, ℕ, List, [], ◌∷◌, ◌++◌, Bool, true, false, Option, Some, None, codes, map, slice_index}
+use Rattle.std.specs.Prelude.{ℕ, List, [], ◌∷◌, ◌++◌, Bool, true, false, Option, Some, None, codes, map, slice_index}
 use Rattle.std.specs.List.{flat_map}
 use Rattle.std.specs.Fmt.{decimal}
 use Rattle.shfl_line.specs.declared.events.Mode.{Mode}
@@ -11,7 +11,6 @@ use Rattle.shfl_line.specs.declared.events.Role.TheVariants.{Nobody, Rest, Walk}
 use Rattle.shfl_line.specs.Line.{Line}
 use Rattle.syncord_app.specs.declared.schedule.Act.{Act}
 use Rattle.syncord_app.specs.declared.schedule.Act.TheVariants.{Write, Read, Free, Step}
-use Rattle.syncord_app.specs.declared.schedule.Event.{Event}
 
 abbrev pub form_text : Form → List ℕ
 form_text Spin = codes "spin"

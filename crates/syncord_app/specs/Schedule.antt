@@ -1,10 +1,10 @@
 -- A schedule of one pass: the lines of its document, and what they say.
-use Rattle.std.specs.Prelude.{◌≡◌, ℕ, List, [], ◌∷◌, Option, Some, None, codes, if◌then◌else◌}
+use Rattle.std.specs.Prelude.{ℕ, List, Option, Some, None, codes, if◌then◌else◌}
 use Rattle.shfl_line.specs.declared.words.Attr.{Attr}
 use Rattle.doc_text.specs.Words.{two, five, same, ◌>>?◌}
 use Rattle.doc_text.specs.Numbers.{number_in}
 use Rattle.syncord_app.specs.declared.schedule.Act.{Act}
-use Rattle.syncord_app.specs.declared.schedule.Act.TheVariants.{Write, Read, Free, Step}
+use Rattle.syncord_app.specs.declared.schedule.Act.TheVariants.{Write, Free, Step}
 use Rattle.syncord_app.specs.declared.schedule.Event.{Event}
 
 -- what a document says: the attributes of its one pass, and the events

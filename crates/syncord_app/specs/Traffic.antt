@@ -1,5 +1,5 @@
 -- What a call did to a source or a sink, as far as that tells, and texts that a sink took whole or in part.
-use Rattle.std.specs.Prelude.{◌≡◌, ◌⊎◌, ◌<◌, ◌≤◌, ℕ, List, [], length, take, Bool, true, false, Option}
+use Rattle.std.specs.Prelude.{◌⊎◌, ◌≤◌, ℕ, List, length, take, Bool, true, false, Option}
 use Rattle.syn_outer.specs.Causes.{Rose}
 use Rattle.syn_outer.specs.Bytes.{Took}
 

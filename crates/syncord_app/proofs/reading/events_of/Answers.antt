@@ -1,7 +1,6 @@
-use Rattle.std.proofs.Common.{◌≡◌, ◌≤◌, ◌<◌, ◌+◌, [], length, vec_len, Ok, Err, None, Some, arith}
+use Rattle.std.proofs.Common.{◌≡◌, length, Ok, Err, None, arith}
 use Rattle.std.proofs.lemmas.Grind.{common_steps}
-use Rattle.doc_text.specs.Text.{pieces, text_in}
-use Rattle.doc_text.specs.Faults.{lines_from}
+use Rattle.doc_text.specs.Text.{text_in}
 use Rattle.doc_text.proofs.Loops.{lines_from-more, lines_from-odd, lines_from-bad, lines_from-done}
 use Rattle.syncord_app.specs.Reading.{event_of}
 use Rattle.syncord_app.proofs.NoBytes.{pieces-none}

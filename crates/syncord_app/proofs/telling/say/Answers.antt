@@ -1,4 +1,4 @@
-use Rattle.std.proofs.Common.{Bool, true, ◌++◌, subst}
+use Rattle.std.proofs.Common.{Bool, true, subst}
 use Rattle.syncord_app.specs.Traffic.{Telling, traffic}
 use Rattle.syncord_app.proofs.Tell.{goes_on}
 use Rattle.syncord_app.proofs.telling.say.Goals as goal
