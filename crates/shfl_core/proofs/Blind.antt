@@ -1,0 +1,27 @@
+-- A step that stores looks at nothing.
+use Rattle.std.proofs.Common.{◌≡◌, ℕ, Bool, refl}
+use Rattle.shfl_core.specs.declared.phase.Phase.{Phase}
+use Rattle.shfl_core.specs.declared.phase.Phase.TheVariants.{Idle}
+use Rattle.shfl_core.specs.declared.phase.Registers.{Registers}
+use Rattle.shfl_core.specs.declared.phase.Nap.{Nap}
+use Rattle.shfl_core.specs.declared.phase.Nap.TheVariants.{Awake, Doze, Hear, Rouse, Ring}
+use Rattle.shfl_core.specs.declared.phase.PassState.{PassState}
+use Rattle.shfl_core.specs.declared.phase.Rules.{Rules}
+use Rattle.shfl_core.specs.Words.{told}
+use Rattle.shfl_core.specs.Plan.{plan, plan_at, plan_by}
+use Rattle.shfl_core.specs.Take.{take, take_at, take_by}
+
+blind-at : (t : Rules) (p : ℕ) (r : Registers) (n : ℕ) (c : Bool) (f : Phase) → take_at t p r (told (plan_at t p r f) n) c f ≡ take_at t p r n c f
+blind-at t p r n c Idle = refl
+blind-at t p r n c _ = refl
+
+blind-by : (t : Rules) (p : ℕ) (r : Registers) (n : ℕ) (c : Bool) (z : Nap) (f : Phase) → take_by t p r (told (plan_by t p r z f) n) c z f ≡ take_by t p r n c z f
+blind-by t p r n c Awake f = blind-at t p r n c f
+blind-by t p r n c Doze f = refl
+blind-by t p r n c Hear f = refl
+blind-by t p r n c Rouse f = refl
+blind-by t p r n c (Ring whom) f = refl
+
+-- what a step tells serves its `take` as well as what it found
+pub store-blind : (t : Rules) (p : ℕ) (q : PassState) (n : ℕ) (c : Bool) → take t p q (told (plan t p q) n) c ≡ take t p q n c
+store-blind t p q n c = blind-by t p q.reg n c q.nap q.phase

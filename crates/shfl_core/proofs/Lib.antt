@@ -1,0 +1,5 @@
+pub mod Lists
+pub mod Bounded
+pub mod Blind
+pub mod Standing
+pub mod Opening

@@ -1,0 +1,15 @@
+pub mod Words
+pub mod Plan
+pub mod Take
+pub mod Waiting
+pub mod Worlds
+pub mod Bounds
+pub mod Runner
+pub mod Phases
+pub mod View
+pub mod Order
+pub mod Grouping
+pub mod Holding
+pub mod Owed
+pub mod Events
+pub mod Lawful

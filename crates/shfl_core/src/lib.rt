@@ -1,0 +1,17 @@
+//! The word machine of the lock: every waiter goes from phase to phase, one atomic operation on one word a step.
+#![tactic(auto)]
+
+pub mod asks;
+pub mod found;
+pub mod local;
+pub mod phase;
+pub mod rows;
+pub mod waiter;
+pub mod words;
+pub mod world;
+
+pub use local::Local;
+pub use phase::{Ask, Nap, PassState, Phase, Registers, Rules, Watch};
+pub use waiter::Waiter;
+pub use words::{Access, Word};
+pub use world::World;

@@ -1,0 +1,105 @@
+//! The waiter of a lock that only writers use, and that nobody parks at.
+ghost use Rattle.std.specs.Prelude.{◌≡◌, false};
+ghost use Rattle.shfl_line.specs.declared.events.Form.TheVariants.{Spin};
+ghost use Rattle.shfl_core.specs.Waiting.{Meaning, fresh};
+
+use crate::asks::{acquire_row, ask_row, idle_pass, is_moving, is_resting, release_row, watch_row};
+use crate::phase::{Ask, Nap, PassState, Phase, Registers, Rules, Watch};
+use crate::rows::{plan_row, take_row};
+use crate::waiter::Waiter;
+use crate::words::Access;
+use shfl_line::{Attr, Form, Mode};
+use std::marker::Model;
+
+/// A waiter in form `Spin`.
+#[derive(Debug, Drop)]
+pub struct Local {
+    attr: Attr,
+    limit: u16,
+    pass: PassState,
+}
+
+impl Model for Local {
+    ghost use Rattle.shfl_line.specs.declared.events.Form.TheVariants.{Spin};
+    ghost use Rattle.shfl_core.specs.Waiting.{Meaning};
+
+    ghost Value = { Meaning };
+
+    ghost view = { λ l. record { attr = l.attr; rules = record { limit = l.limit; form = Spin }; pass = l.pass } };
+}
+
+impl Local {
+    /// The pass `me`, idle.
+    pub fn new(me: u32, attr: Attr, limit: u16) -> Local
+        ensures { result ≡ fresh me attr (record { limit = limit; form = Spin }) }
+    {
+        Local {
+            attr,
+            limit,
+            pass: idle_pass(me),
+        }
+    }
+}
+
+fn spinning(limit: u16) -> Rules
+    ensures { result ≡ record { limit = limit; form = Spin } }
+{
+    Rules {
+        limit,
+        form: Form::Spin,
+    }
+}
+
+impl Waiter for Local {
+    ghost meaning = { λ l. l };
+
+    fn acquire(&mut self, mode: Mode) -> bool {
+        let idle = matches!(self.pass.phase, Phase::Idle);
+        self.pass = acquire_row(mode, self.pass);
+        idle
+    }
+
+    fn release(&mut self) -> bool {
+        let resting = is_resting(self.pass);
+        self.pass = release_row(self.pass);
+        resting
+    }
+
+    fn moving(&self) -> bool {
+        is_moving(self.pass)
+    }
+
+    fn ask(&self) -> Ask {
+        ask_row(spinning(self.limit), self.pass)
+    }
+
+    fn watch(&self) -> Watch {
+        watch_row(self.pass)
+    }
+
+    fn nap(&self) -> Nap {
+        self.pass.nap
+    }
+
+    fn phase(&self) -> Phase {
+        self.pass.phase
+    }
+
+    fn registers(&self) -> Registers {
+        self.pass.reg
+    }
+
+    fn plan(&self) -> Access {
+        plan_row(spinning(self.limit), self.pass.reg.me, self.pass)
+    }
+
+    fn take(&mut self, found: u64, choice: bool) {
+        self.pass = take_row(
+            spinning(self.limit),
+            self.pass.reg.me,
+            self.pass,
+            found,
+            choice,
+        );
+    }
+}

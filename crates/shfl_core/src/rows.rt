@@ -1,0 +1,309 @@
+//! The steps of a pass: one operation on one word for each phase and park state.
+ghost use Rattle.std.specs.Prelude.{◌≡◌, ◌+◌, ◌≤◌, false, true};
+ghost use Rattle.shfl_core.specs.Plan as plan;
+ghost use Rattle.shfl_core.specs.Take as take;
+ghost use Rattle.shfl_core.specs.Words.{is_store, site, NamesPass};
+
+use crate::found::{
+    after_found, begun, decided, done, free_for, heir_found, looked, marked, next_found, parks,
+    peeked, readied, swap_found, to, top,
+};
+use crate::phase::{Nap, PassState, Phase, Registers, Rules};
+use crate::words::{Access, Word};
+
+const HELD: u64 = 1;
+
+const CLOSED: u64 = 256;
+
+const READER: u64 = 4294967296;
+
+const READY: u64 = 1;
+
+const SHUFFLER: u64 = 2;
+
+const PARKED: u64 = 4;
+
+const SPIN: u64 = 8;
+
+const BATCH: u64 = 65536;
+
+// The operation of a phase, awake.
+fn phase_plan(rules: Rules, me: u32, reg: Registers, phase: Phase) -> Access
+    ensures { result ≡ plan.plan_at rules me reg phase }
+{
+    let own = me as u64 + 1;
+    match phase {
+        Phase::Idle | Phase::Held => Access::Load { w: Word::Lock },
+        Phase::Steal => Access::CompareSwap {
+            w: Word::Lock,
+            old: 0,
+            new: HELD,
+        },
+        Phase::Init => Access::Swap {
+            w: Word::State(me),
+            v: 0,
+        },
+        Phase::Swap => Access::Swap {
+            w: Word::Tail,
+            v: own,
+        },
+        Phase::Link => Access::Store {
+            w: Word::Next(reg.before),
+            v: own,
+        },
+        Phase::Close => Access::Or {
+            w: Word::Lock,
+            v: CLOSED,
+        },
+        Phase::Look => Access::Load { w: Word::State(me) },
+        Phase::Begin => {
+            let batch: u64 = if reg.batch == 0 { BATCH } else { 0 };
+            let flag: u64 = if reg.flag { SHUFFLER } else { 0 };
+            Access::Xor {
+                w: Word::State(me),
+                v: batch + flag,
+            }
+        }
+        Phase::Next => Access::Load {
+            w: Word::Next(reg.prev),
+        },
+        Phase::Tail => Access::Load { w: Word::Tail },
+        Phase::Attr => Access::Load {
+            w: Word::Attr(reg.cand),
+        },
+        Phase::Decide => {
+            let w = if reg.headed {
+                Word::Lock
+            } else {
+                Word::State(me)
+            };
+            Access::Load { w }
+        }
+        Phase::After => Access::Load {
+            w: Word::Next(reg.cand),
+        },
+        Phase::Pick => Access::Store {
+            w: Word::Next(reg.prev),
+            v: reg.after as u64 + 1,
+        },
+        Phase::Aim => Access::Store {
+            w: Word::Next(reg.cand),
+            v: reg.first as u64 + 1,
+        },
+        Phase::Place => Access::Store {
+            w: Word::Next(reg.last),
+            v: reg.cand as u64 + 1,
+        },
+        Phase::Mark => {
+            let spin = if parks(rules.form) { SPIN } else { 0 };
+            Access::Or {
+                w: Word::State(reg.cand),
+                v: BATCH * (reg.count as u64 + 1) + spin,
+            }
+        }
+        Phase::Give => Access::Or {
+            w: Word::State(reg.last),
+            v: SHUFFLER,
+        },
+        Phase::Peek => Access::Load { w: Word::Lock },
+        Phase::Grab => Access::Or {
+            w: Word::Lock,
+            v: HELD,
+        },
+        Phase::WriteGrab => {
+            Access::CompareSwap {
+                w: Word::Lock,
+                old: reg.saw,
+                new: reg.saw.wrapping_add(HELD),
+            }
+        }
+        Phase::Take | Phase::Late => Access::Swap {
+            w: Word::Next(me),
+            v: 0,
+        },
+        Phase::Cut => Access::CompareSwap {
+            w: Word::Tail,
+            old: own,
+            new: 0,
+        },
+        Phase::Ready => Access::Or {
+            w: Word::State(reg.heir),
+            v: READY,
+        },
+        Phase::Open => Access::And {
+            w: Word::Lock,
+            v: 18446744073709551615 - CLOSED,
+        },
+        Phase::Release => Access::And {
+            w: Word::Lock,
+            v: 18446744073709551615 - HELD,
+        },
+        Phase::Count | Phase::HeadCount => Access::Add {
+            w: Word::Lock,
+            v: READER,
+        },
+        Phase::Uncount | Phase::TryUncount => Access::Sub {
+            w: Word::Lock,
+            v: READER,
+        },
+        Phase::HeadLook => Access::Load { w: Word::Lock },
+        Phase::ReadRelease => Access::Sub {
+            w: Word::Lock,
+            v: READER,
+        },
+    }
+}
+
+/// The next operation of the pass `me`, which stands at `pass`.
+pub fn plan_row(rules: Rules, me: u32, pass: PassState) -> Access
+    ensures { result ≡ plan.plan rules me pass }
+{
+    match pass.nap {
+        Nap::Awake => phase_plan(rules, me, pass.reg, pass.phase),
+        Nap::Doze => Access::Or {
+            w: Word::State(me),
+            v: PARKED,
+        },
+        Nap::Hear => Access::Swap {
+            w: Word::Bell(me),
+            v: 0,
+        },
+        Nap::Rouse => Access::And {
+            w: Word::State(me),
+            v: 18446744073709551615 - PARKED,
+        },
+        Nap::Ring { whom } => Access::Store {
+            w: Word::Bell(whom),
+            v: 1,
+        },
+    }
+}
+
+// Where a pass at this phase, awake, stands after its step.
+fn phase_take(
+    rules: Rules,
+    me: u32,
+    reg: Registers,
+    found: u64,
+    choice: bool,
+    phase: Phase,
+) -> PassState
+    requires form { is_store (plan.plan_at rules me reg phase) ≡ false → NamesPass (site (plan.plan_at rules me reg phase)) found }
+    ensures { result ≡ take.take_at rules me reg found choice phase }
+{
+    let held = found % 2 == 1;
+    let next = match phase {
+        Phase::Idle | Phase::Release | Phase::TryUncount | Phase::ReadRelease => Phase::Idle,
+        Phase::Held | Phase::Open => Phase::Held,
+        Phase::Steal => { if found == 0 { Phase::Held } else { Phase::Init } }
+        Phase::Init => return to(
+            Phase::Swap,
+            Registers {
+                batch: 0,
+                flag: false,
+                ..reg
+            },
+        ),
+        Phase::Swap => return swap_found(reg, found),
+        Phase::Link => Phase::Look,
+        Phase::Close => return top(reg),
+        Phase::Look => {
+            let batch = (found / 65536 % 65536) as u16;
+            let flag = found / 2 % 2 == 1;
+            return looked(rules, Registers { batch, flag, ..reg }, held);
+        }
+        Phase::Begin => {
+            let batch = if reg.batch < 1 { 1 } else { reg.batch };
+            return begun(
+                rules,
+                me,
+                Registers {
+                    batch,
+                    flag: false,
+                    ..reg
+                },
+                choice,
+            );
+        }
+        Phase::Next => return next_found(reg, found),
+        Phase::Tail => {
+            if found == reg.cand as u64 + 1 {
+                Phase::Give
+            } else {
+                Phase::Attr
+            }
+        }
+        Phase::Attr => return to(Phase::Decide, Registers { seen: found, ..reg }),
+        Phase::Decide => {
+            let stop = if reg.headed {
+                free_for(reg.mode, found)
+            } else {
+                held
+            };
+            return decided(reg, stop, choice);
+        }
+        Phase::After => return after_found(reg, found),
+        Phase::Pick => Phase::Aim,
+        Phase::Aim => Phase::Place,
+        Phase::Place => Phase::Mark,
+        Phase::Mark => return marked(rules, reg, found),
+        Phase::Give => {
+            let flag = reg.flag || reg.last == me;
+            return to(done(reg), Registers { flag, ..reg });
+        }
+        Phase::Peek => return peeked(rules, reg, found),
+        Phase::Grab => {
+            if held {
+                return top(reg);
+            }
+            Phase::Take
+        }
+        Phase::WriteGrab => {
+            if found != reg.saw {
+                return top(reg);
+            }
+            Phase::Take
+        }
+        Phase::Take => return heir_found(Phase::Cut, reg, found),
+        Phase::Cut => {
+            if found == me as u64 + 1 {
+                Phase::Open
+            } else {
+                Phase::Late
+            }
+        }
+        Phase::Late => return heir_found(Phase::Late, reg, found),
+        Phase::Ready => return readied(rules, reg, found),
+        Phase::Count => {
+            if held || found / 256 % 2 == 1 {
+                Phase::Uncount
+            } else {
+                Phase::Held
+            }
+        }
+        Phase::Uncount => Phase::Init,
+        Phase::HeadCount | Phase::HeadLook => { if held { Phase::HeadLook } else { Phase::Take } }
+    };
+    to(next, reg)
+}
+
+/// Where the pass `me`, which stood at `pass`, stands after its step found `found`.
+pub fn take_row(rules: Rules, me: u32, pass: PassState, found: u64, choice: bool) -> PassState
+    requires form { is_store (plan.plan rules me pass) ≡ false → NamesPass (site (plan.plan rules me pass)) found }
+    ensures { result ≡ take.take rules me pass found choice }
+{
+    let nap = match pass.nap {
+        Nap::Awake => return phase_take(rules, me, pass.reg, found, choice, pass.phase),
+        Nap::Doze => {
+            if found % 2 == 1 || found / 8 % 2 == 1 {
+                Nap::Rouse
+            } else {
+                Nap::Hear
+            }
+        }
+        Nap::Hear => { if found == 1 { Nap::Rouse } else { Nap::Hear } }
+        Nap::Rouse => Nap::Awake,
+        Nap::Ring { .. } => Nap::Awake,
+    };
+    PassState { nap, ..pass }
+}

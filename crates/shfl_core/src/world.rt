@@ -1,0 +1,197 @@
+//! A lock over plain words: its passes make their steps one at a time, in any order.
+ghost use Rattle.std.specs.Prelude.{◌≡◌, ℕ, ◌+◌, ◌*◌, ◌<◌, ◌≤◌, ◌++◌, length, vec_capacity, IfOk, slice_set, vec_len};
+ghost use Rattle.shfl_core.specs.Plan as plan;
+ghost use Rattle.shfl_core.specs.Runner as runner;
+ghost use Rattle.shfl_core.specs.Waiting as waiting;
+ghost use Rattle.shfl_core.specs.Waiting.{MayUse, fresh};
+ghost use Rattle.shfl_core.specs.Runner.{opened};
+ghost use Rattle.shfl_line.specs.declared.events.Form.{Form};
+ghost use Rattle.shfl_line.specs.declared.words.Attr.{Attr as AttrValue};
+ghost use Rattle.shfl_core.specs.declared.words.Word.TheVariants.{Lock as LockWord};
+ghost use Rattle.shfl_core.specs.Words.{look, put, site, told};
+ghost use Rattle.shfl_core.specs.Words as words;
+ghost use Rattle.shfl_core.specs.Worlds.{node, Acquire, Release, Step, admitted, known};
+
+use crate::phase::{Ask, Nap};
+use crate::waiter::Waiter;
+use crate::words::{Access, Word, index};
+use shfl_line::{Attr, Mode, NoMemory};
+use std::alloc::Global;
+use std::marker::Model;
+
+/// Makes the operation on one of the words, and tells what it found, or, of a store, what it stored.
+pub fn perform(list: &mut Vec<u64>, access: Access) -> u64
+    requires place { words.index (site access) < length list.old.items }
+    ensures told { result ≡ told access (look list.old.items (site access)) }
+    ensures long { vec_len list.new ≡ vec_len list.old }
+    ensures word { list.new.items ≡ words.written list.old.items access }
+{
+    match access {
+        Access::Load { w } => list[index(w)],
+        Access::Store { w, v } => {
+            list[index(w)] = v;
+            v
+        }
+        Access::Swap { w, v } => {
+            let place = index(w);
+            let found = list[place];
+            list[place] = v;
+            found
+        }
+        Access::CompareSwap { w, old, new } => {
+            let place = index(w);
+            let found = list[place];
+            if found == old {
+                list[place] = new;
+            }
+            found
+        }
+        Access::Or { w, v } => {
+            let place = index(w);
+            let found = list[place];
+            list[place] = found | v;
+            found
+        }
+        Access::And { w, v } => {
+            let place = index(w);
+            let found = list[place];
+            list[place] = found & v;
+            found
+        }
+        Access::Xor { w, v } => {
+            let place = index(w);
+            let found = list[place];
+            list[place] = found ^ v;
+            found
+        }
+        Access::Add { w, v } => {
+            let place = index(w);
+            let found = list[place];
+            list[place] = found.wrapping_add(v);
+            found
+        }
+        Access::Sub { w, v } => {
+            let place = index(w);
+            let found = list[place];
+            list[place] = found.wrapping_sub(v);
+            found
+        }
+    }
+}
+
+// The words of one pass more, at the opening.
+fn push_node(list: &mut Vec<u64>, attr: u64)
+    requires { vec_len list.old + 4 ≤ vec_capacity list.old }
+    ensures items { list.new.items ≡ list.old.items ++ node attr }
+    ensures room { vec_capacity list.new ≡ vec_capacity list.old }
+{
+    list.push_reserved(0);
+    list.push_reserved(0);
+    list.push_reserved(attr);
+    list.push_reserved(0);
+}
+
+/// A lock whose words are plain numbers, with all its passes.
+#[derive(Drop)]
+pub struct World<W: Waiter> {
+    words: Vec<u64>,
+    passes: Vec<W>,
+}
+
+impl<W: Waiter> Model for World<W> {
+    ghost use Rattle.shfl_core.specs.Runner.{Lock, IsLock, seen_lock};
+
+    ghost Value = { Lock };
+
+    ghost view = { λ s. seen_lock W.meaning s.words.items s.passes.items };
+
+    ghost invariant = { λ s. IsLock W.meaning s.words.items s.passes.items };
+}
+
+impl<W: Waiter> World<W> {
+    /// A lock with a pass for each of these attributes; `make` makes the waiter of a pass.
+    pub fn open<F: Fn(u32, Attr, u16) -> W>(
+        alloc: Global,
+        attrs: &[Attr],
+        limit: u16,
+        make: F,
+    ) -> Result<World<W>, NoMemory>
+        ghost form: { Form }
+        requires some { 0 < length attrs.now }
+        requires few { length attrs.now ≤ 64 }
+        requires callable { F.IsAlwaysCallable make }
+        requires idle { (k : ℕ) (a : AttrValue) (w : _) → F.post make k a limit w → W.meaning w ≡ fresh k a (record { limit = limit; form = form }) }
+        ensures { IfOk result (λ w. w ≡ opened (record { limit = limit; form = form }) attrs.now) }
+    {
+        let count = attrs.len();
+        let mut words = Vec::with_capacity(alloc, 4 * count + 2)?;
+        let mut passes = Vec::with_capacity(alloc, count)?;
+        words.push_reserved(0);
+        words.push_reserved(0);
+        let mut number = 0;
+        for attr in attrs {
+            push_node(&mut words, attr.pack());
+            passes.push_reserved(make(number, *attr, limit));
+            number += 1;
+        }
+        Ok(World { words, passes })
+    }
+
+    /// The pass begins to take the lock; refused unless it is idle.
+    pub fn acquire(&mut self, pass: u32, mode: Mode) -> bool
+        requires declared { pass < length self.old.world.passes }
+        requires mode { MayUse self.old.rules.form mode }
+        ensures answer { result ≡ admitted self.old.world (Acquire pass mode) }
+        ensures after { self.new ≡ runner.moved self.old (Acquire pass mode) }
+    {
+        self.passes[pass as usize].acquire(mode)
+    }
+
+    /// The pass begins to give the lock back; refused unless it holds the lock and owes no step.
+    pub fn release(&mut self, pass: u32) -> bool
+        requires declared { pass < length self.old.world.passes }
+        ensures answer { result ≡ admitted self.old.world (Release pass) }
+        ensures after { self.new ≡ runner.moved self.old (Release pass) }
+    {
+        self.passes[pass as usize].release()
+    }
+
+    /// What the pass asks the policy at its next step.
+    pub fn ask(&self, pass: u32) -> Ask
+        requires declared { pass < length self.now.world.passes }
+        ensures { result ≡ waiting.ask self.now.rules (known self.now.world.passes pass) }
+    {
+        self.passes[pass as usize].ask()
+    }
+
+    /// The pass makes its next step; refused where it has none.
+    pub fn step(&mut self, pass: u32, choice: bool) -> bool
+        requires declared { pass < length self.old.world.passes }
+        ensures answer { result ≡ admitted self.old.world (Step pass choice) }
+        ensures after { self.new ≡ runner.moved self.old (Step pass choice) }
+    {
+        let own = &mut self.passes[pass as usize];
+        if !own.moving() {
+            return false;
+        }
+        let access = own.plan();
+        let found = perform(&mut self.words, access);
+        own.take(found, choice);
+        true
+    }
+
+    /// Whether the pass is parked and waits to be woken.
+    pub fn asleep(&self, pass: u32) -> bool
+        requires declared { pass < length self.now.world.passes }
+        ensures { result ≡ runner.is_parked (known self.now.world.passes pass).nap }
+    {
+        matches!(self.passes[pass as usize].nap(), Nap::Hear)
+    }
+
+    /// The lock word.
+    pub fn word(&self) -> u64
+        ensures { result ≡ look self.now.world.words LockWord }
+    {
+        self.words[0]
+    }
+}

@@ -1,0 +1,2 @@
+//! What every step of the lock keeps: one law for each step.
+#![tactic(auto)]
