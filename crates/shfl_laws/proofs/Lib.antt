@@ -20,3 +20,6 @@ pub mod LockBits
 pub mod Losing
 pub mod Counts
 pub mod OutsideRows
+pub mod StateBits
+pub mod Slept
+pub mod NapRows
