@@ -105,5 +105,8 @@ slept-state w p n x y e = λ j. record w { node = λ q. nodes q j; pass = λ q. 
             (ap (λ (b : Bool). record (w.node p) { parked = b }) (Chain.updated-same (λ z. (w.node z).parked) p y) ∙ (sym e ∙ sym (Chain.updated-same w.node p (state_of n)))))
         (λ m. ap (λ (b : Bool). record (w.node q) { parked = b }) (Chain.updated-else (λ z. (w.node z).parked) p q y m) ∙ sym (Chain.updated-else w.node p q (state_of n) m))
 
-pub slept-bell : (w : View) (p i n : ℕ) (x : Nap) → slept w (naps_at w p x) (λ q. (w.node q).parked) (updated w.bell i n) ≡ written_bell w i n p (record (w.pass p) { nap = x })
-slept-bell w p i n x = λ j. record w { bell = updated w.bell i n; pass = λ q. nap-path w p x q j }
+pub slept-bell : (w : View) (p i n : ℕ) (x : Nap) → slept w (naps_at w p x) (parked_at w p (w.node p).parked) (updated w.bell i n) ≡ written_bell w i n p (record (w.pass p) { nap = x })
+slept-bell w p i n x = λ j. record w { node = λ q. nodes q j; bell = updated w.bell i n; pass = λ q. nap-path w p x q j }
+  where
+    nodes : (q : ℕ) → record (w.node q) { parked = parked_at w p (w.node p).parked q } ≡ w.node q
+    nodes q = ap (λ (b : Bool). record (w.node q) { parked = b }) (Chain.updated-all (λ z b. b ≡ (w.node z).parked) (λ z. (w.node z).parked) p (w.node p).parked refl (λ z n. refl) q)
