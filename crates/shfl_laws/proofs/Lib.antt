@@ -23,3 +23,4 @@ pub mod OutsideRows
 pub mod StateBits
 pub mod Slept
 pub mod NapRows
+pub mod InitRow
