@@ -24,3 +24,5 @@ pub mod StateBits
 pub mod Slept
 pub mod NapRows
 pub mod InitRow
+pub mod Remark
+pub mod SwapRow
