@@ -20,3 +20,5 @@ pub mod LockBits
 pub mod Losing
 pub mod Counts
 pub mod OutsideRows
+pub mod HeadRows
+pub mod HeadLaws
