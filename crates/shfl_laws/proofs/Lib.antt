@@ -22,3 +22,6 @@ pub mod Counts
 pub mod OutsideRows
 pub mod HeadRows
 pub mod HeadLaws
+pub mod RoundLoads
+pub mod RoundLaws
+pub mod RoundReads

@@ -165,4 +165,3 @@ pick-grouping limit w s g p x xs o k c = let rp : is_round (w.pass p).phase ≡ 
 pub law_pick : (limit : ℕ) (w : View) (s : Line) (g p : ℕ) → Ordered w s g → Grouping limit w s → (w.pass p).phase ≡ Pick → Ordered (row_pick w p) (picked s (w.pass p).reg.cand) g × Grouping limit (row_pick w p) (picked s (w.pass p).reg.cand)
 law_pick limit w s g p o k f = let rp : is_round (w.pass p).phase ≡ true = grind (arith, f) in let t = Order.scene w s g (w.pass p).reg.prev o (o.round p rp).prev_in in
     let c = at-pick limit w s g p t.0 t.1 o k f t.2 in (pick-order limit w s g p t.0 t.1 o k c, pick-grouping limit w s g p t.0 t.1 o k c)
-
