@@ -25,3 +25,4 @@ pub mod HeadLaws
 pub mod RoundLoads
 pub mod RoundLaws
 pub mod RoundReads
+pub mod NextRows
