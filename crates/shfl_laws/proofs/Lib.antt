@@ -26,3 +26,7 @@ pub mod RoundLoads
 pub mod RoundLaws
 pub mod RoundReads
 pub mod NextRows
+pub mod StateBits
+pub mod Slept
+pub mod NapRows
+pub mod InitRow

@@ -1,17 +1,17 @@
 -- Each admitted event keeps a state well formed: those that change the line.
-use Rattle.std.proofs.Common.{◌≡◌, ◌≢◌, ℕ, zero, suc, ◌+◌, ◌-◌, ◌<◌, ◌≤◌, ◌⊎◌, List, [], ◌∷◌, ◌++◌, Bool, true, false, cond, ◌==◌, refl, sym, ap, ◌∙◌, subst, inl, inr, ⊎_elim, length, arith}
-use Rattle.std.specs.Prelude.{Option, Some, None, slice_index, slice_set}
+use Rattle.std.proofs.Common.{◌≡◌, ◌≢◌, ℕ, zero, suc, ◌-◌, ◌<◌, ◌≤◌, List, [], ◌∷◌, ◌++◌, Bool, true, false, cond, ◌==◌, refl, sym, ap, ◌∙◌, subst, length, arith}
+use Rattle.std.specs.Prelude.{slice_index, slice_set}
 use Rattle.std.proofs.lemmas.Bool.Decides.{nat_tests}
 use Rattle.shfl_line.specs.declared.events.Role.{Role}
 use Rattle.shfl_line.specs.declared.events.Role.TheVariants.{Nobody, Walk, Rest as Idle}
 use Rattle.shfl_line.specs.declared.events.LineEvent.TheVariants as event
 use Rattle.shfl_line.specs.Words.{link_word}
-use Rattle.shfl_line.specs.Passes.{updated, times, first, Chain, EachPair, without, put_behind, behind, last_marked, MarkedFirst}
-use Rattle.shfl_line.specs.Line.{Line, mark_of, active_shuffler, idle_shuffler, holds, IsOfPasses, IsWellFormed}
-use Rattle.shfl_line.specs.Steps.{IsAway, IsInRound, MayDetach, batch_end, role_without, Admits, after}
+use Rattle.shfl_line.specs.Passes.{updated, times, first, EachPair, without, last_marked, MarkedFirst}
+use Rattle.shfl_line.specs.Line.{Line, mark_of, active_shuffler, idle_shuffler, holds, IsWellFormed}
+use Rattle.shfl_line.specs.Steps.{batch_end, role_without, Admits, after}
 use Rattle.shfl_line.proofs.Chain
 use Rattle.shfl_line.proofs.Marks
-use Rattle.shfl_line.proofs.Behind.{last-inside, behind-inside}
+use Rattle.shfl_line.proofs.Behind.{behind-inside}
 use Rattle.shfl_line.proofs.Batches
 
 -- a number that isn't above 0
