@@ -20,6 +20,12 @@ pub mod LockBits
 pub mod Losing
 pub mod Counts
 pub mod OutsideRows
+pub mod HeadRows
+pub mod HeadLaws
+pub mod RoundLoads
+pub mod RoundLaws
+pub mod RoundReads
+pub mod NextRows
 pub mod StateBits
 pub mod Slept
 pub mod NapRows
