@@ -32,3 +32,5 @@ pub mod NapRows
 pub mod InitRow
 pub mod Remark
 pub mod SwapRow
+pub mod WellFormed
+pub mod LeaveGroup
