@@ -34,3 +34,4 @@ pub mod Remark
 pub mod SwapRow
 pub mod WellFormed
 pub mod LeaveGroup
+pub mod LeaveRows
