@@ -35,3 +35,4 @@ pub mod SwapRow
 pub mod WellFormed
 pub mod LeaveGroup
 pub mod LeaveRows
+pub mod CutRow
