@@ -36,3 +36,4 @@ pub mod WellFormed
 pub mod LeaveGroup
 pub mod LeaveRows
 pub mod CutRow
+pub mod ReadyRow
