@@ -30,3 +30,6 @@ pub mod StateBits
 pub mod Slept
 pub mod NapRows
 pub mod InitRow
+pub mod Flagged
+pub mod GiveRow
+pub mod GiveLaw
