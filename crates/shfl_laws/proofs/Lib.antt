@@ -33,3 +33,4 @@ pub mod InitRow
 pub mod Flagged
 pub mod GiveRow
 pub mod GiveLaw
+pub mod OwedCall
