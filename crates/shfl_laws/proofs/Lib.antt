@@ -37,3 +37,7 @@ pub mod LeaveGroup
 pub mod LeaveRows
 pub mod CutRow
 pub mod ReadyRow
+pub mod Flagged
+pub mod GiveRow
+pub mod GiveLaw
+pub mod OwedCall
