@@ -41,3 +41,4 @@ pub mod Flagged
 pub mod GiveRow
 pub mod GiveLaw
 pub mod OwedCall
+pub mod LookRow
