@@ -6,6 +6,8 @@ pub mod found;
 pub mod local;
 pub mod phase;
 pub mod rows;
+#[cfg(test)]
+mod tests;
 pub mod waiter;
 pub mod words;
 pub mod world;

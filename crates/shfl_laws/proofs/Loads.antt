@@ -19,11 +19,11 @@ use Rattle.shfl_line.proofs.Marks
 use Rattle.shfl_laws.proofs.Order
 use Rattle.shfl_laws.proofs.Quiet.{Quiet, quiet-order, quiet-grouping}
 
-abbrev Rounded : View → Line → PassState → Type 0
+abbrev pub Rounded : View → Line → PassState → Type 0
 Rounded w s v = Round w.next (mark_of s) w.tail s.line (link_word s.hand) v
 
 -- a round that is given up
-give : (w : View) (s : Line) (q : PassState) → Rounded w s q → has_hand q.phase ≡ false → Rounded w s (on q Give)
+pub give : (w : View) (s : Line) (q : PassState) → Rounded w s q → has_hand q.phase ≡ false → Rounded w s (on q Give)
 give w s q r n = record {
   prev_in = r.prev_in;
   prev_free = r.prev_free;
@@ -39,7 +39,7 @@ give w s q r n = record {
   marking = λ h. absurd (grind arith);
 }
 
-next-round : (w : View) (s : Line) (q : PassState) → Rounded w s q → q.phase ≡ Next → Rounded w s (next_found q (w.next q.reg.prev))
+pub next-round : (w : View) (s : Line) (q : PassState) → Rounded w s q → q.phase ≡ Next → Rounded w s (next_found q (w.next q.reg.prev))
 next-round w s q r f = by_found (w.next q.reg.prev) refl
   where
     by_found : (n : ℕ) → w.next q.reg.prev ≡ n → Rounded w s (next_found q n)

@@ -73,7 +73,6 @@ or-closed h c r = ap (λ z. bit_or z 256) (let e : packed_lock h c r ≡ (65536 
     by false true = omega arith
     by false false = omega arith
 
-
 and-held : (h c : Bool) (r : ℕ) → r < 2 ^ 32 → bit_and (packed_lock h c r) 18446744073709551614 ≡ packed_lock false c r
 and-held h c r b = ap (λ z. bit_and z 18446744073709551614) (let e : packed_lock h c r ≡ (bit c + 16777216 * r) * 2 ^ 8 + bit h = omega arith in e) ∙ (and_block 8 (bit c + 16777216 * r) (2 ^ 56 - 1) (bit h) 254 (small h) (omega arith) ∙
     (ap (λ z. z * 2 ^ 8 + bit_and (bit h) 254) (and_mask (bit c + 16777216 * r) 56 ∙ less (bit c + 16777216 * r) (high c)) ∙ by h))

@@ -28,7 +28,7 @@ read-set l i v h q = Chain.by_eq q i
     (λ e. subst (λ z. get_or (set l i v) z 0 ≡ updated (slice_index l) i v z) (sym e) (get_or-set_same l i v 0 h ∙ sym (Chain.updated-same (slice_index l) i v)))
     (λ n. get_or-set_other l i q v 0 n ∙ sym (Chain.updated-else (slice_index l) i q v n))
 
-knows-cases : (f : Phase) → knows f ≡ true → (rank f ≡ Fore) ⊎ ((is_round f ≡ true) ⊎ (f ≡ Begin))
+pub knows-cases : (f : Phase) → knows f ≡ true → (rank f ≡ Fore) ⊎ ((is_round f ≡ true) ⊎ (f ≡ Begin))
 knows-cases f h = grind arith
 
 abbrev kept : ℕ → View → Line → ℕ → Line

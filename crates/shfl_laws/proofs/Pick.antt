@@ -7,7 +7,8 @@ use Rattle.shfl_line.specs.Words.{link_word}
 use Rattle.shfl_line.specs.declared.events.Role.{Role}
 use Rattle.shfl_core.specs.declared.phase.Phase.{Phase}
 use Rattle.shfl_core.specs.declared.phase.Phase.TheVariants.{Idle, Steal, Init, Swap, Link, Close, Look, Begin, Next, Tail, Attr, Decide, After, Pick, Aim, Place, Mark, Give, Peek, Grab, WriteGrab, Take, Cut, Late, Ready, Open, Held, Release, Count, Uncount, TryUncount, HeadCount, HeadLook, ReadRelease}
-use Rattle.shfl_line.specs.Passes.{updated, times, first, last, Chain, EachPair, end, without, put_after, put_behind, follower_after, follower, last_marked, MarkedFirst, StopsAt, IsLastMarked}
+use Rattle.shfl_line.proofs.Batches.{stands-behind}
+use Rattle.shfl_line.specs.Passes.{behind, updated, times, first, last, Chain, EachPair, end, without, put_after, put_behind, follower_after, follower, last_marked, MarkedFirst, StopsAt, IsLastMarked}
 use Rattle.shfl_line.specs.declared.words.NodeState.{NodeState}
 use Rattle.shfl_core.specs.declared.phase.PassState.{PassState}
 use Rattle.shfl_core.specs.Phases.{is_round, is_queued, is_fore, is_linking, has_hand, knows, is_holding, is_backing}
@@ -15,7 +16,8 @@ use Rattle.shfl_core.specs.View.{View}
 use Rattle.shfl_core.specs.Order.{Order as Ordered, Round, Follows, Walks, Fronted, Stands, Clean, awake}
 use Rattle.shfl_core.specs.Grouping.{Grouping}
 use Rattle.shfl_laws.proofs.Rows.{on, swap_found, row_swap, row_link, row_pick, row_aim, row_place, next_found, row_next, row_tail, row_attr, decided, row_decide, after_found, row_after, take_found, row_take, row_cut, row_ready, row_close, marked, row_mark}
-use Rattle.shfl_line.specs.Steps.{Admits, after}
+use Rattle.shfl_line.specs.declared.events.LineEvent.TheVariants.{Pick as PickEvent}
+use Rattle.shfl_line.specs.Steps.{Admits, IsInRound, MayDetach}
 use Rattle.shfl_line.specs.declared.events.LineEvent.{LineEvent}
 use Rattle.shfl_line.specs.declared.events.LineEvent.TheVariants as event
 use Rattle.shfl_line.proofs.Chain
@@ -166,3 +168,23 @@ pub law_pick : (limit : ℕ) (w : View) (s : Line) (g p : ℕ) → Ordered w s g
 law_pick limit w s g p o k f = let rp : is_round (w.pass p).phase ≡ true = grind (arith, f) in let t = Order.scene w s g (w.pass p).reg.prev o (o.round p rp).prev_in in
     let c = at-pick limit w s g p t.0 t.1 o k f t.2 in (pick-order limit w s g p t.0 t.1 o k c, pick-grouping limit w s g p t.0 t.1 o k c)
 
+-- the line admits it
+pub admits-pick : (limit : ℕ) (w : View) (s : Line) (g p : ℕ) → Ordered w s g → Grouping limit w s → (w.pass p).phase ≡ Pick → Admits limit s (PickEvent p (w.pass p).reg.cand)
+admits-pick limit w s g p o k f = let rp : is_round (w.pass p).phase ≡ true = grind (arith, f) in let t = Order.scene w s g (w.pass p).reg.prev o (o.round p rp).prev_in in
+    let c = at-pick limit w s g p t.0 t.1 o k f t.2 in let l = k.last p rp in
+    let last_in : 0 < times (w.pass p).reg.last (t.0 ∷ t.1) = subst (λ l. 0 < times (w.pass p).reg.last l) c.line l.0.inside in
+    let prefix : Chain (MarkedFirst (mark_of s)) t.0 t.1 = subst (λ l. EachPair (MarkedFirst (mark_of s)) l) c.line k.prefix in
+    let marked : last_marked (mark_of s) (t.0 ∷ t.1) ≡ suc (w.pass p).reg.last = Marks.last-is (mark_of s) t.0 (w.pass p).reg.last t.1 prefix (subst (λ l. EachPair (StopsAt (mark_of s) (w.pass p).reg.last) l) c.line l.0.stops) c.once last_in l.0.marked in
+    let follows : follower_after (w.pass p).reg.last t.0 t.1 ≡ suc (w.pass p).reg.first = Order.follower-next w t.0 t.1 (w.pass p).reg.last (w.pass p).reg.first c.walks c.stop c.once last_in c.first_next in
+    let first_off : (w.pass p).reg.first ≢ (w.pass p).reg.cand = λ e. c.apart (Order.pred-one w t.0 t.1 (w.pass p).reg.prev (w.pass p).reg.last (w.pass p).reg.cand c.walks c.stop c.once_c c.prev_in last_in c.cand_next (c.first_next ∙ ap suc e)) in
+    let inside : 0 < times (w.pass p).reg.cand (t.0 ∷ t.1) = subst (λ l. 0 < times (w.pass p).reg.cand l) c.line c.cand_inline in (
+      (w.pass p).reg.last,
+      record { active = k.walks p rp; last = subst (λ l. last_marked (mark_of s) l ≡ suc (w.pass p).reg.last) (sym c.line) marked },
+      c.hand,
+      (let n = l.2 (λ e. grind (arith, f, e)) in let m = l.1 in (let z : mark_of s (w.pass p).reg.last < limit = omega arith in z)),
+      record {
+        behind = subst (λ l. 0 < times (w.pass p).reg.cand (behind (w.pass p).reg.last l)) (sym c.line) (stands-behind (mark_of s) (w.pass p).reg.last (w.pass p).reg.cand (t.0 ∷ t.1) prefix marked inside c.cand_zero);
+        apart = subst (λ l. follower (w.pass p).reg.last l ≢ suc (w.pass p).reg.cand) (sym c.line) (λ e. first_off (let z : suc (w.pass p).reg.first ≡ suc (w.pass p).reg.cand = sym follows ∙ e in (let y : (w.pass p).reg.first ≡ (w.pass p).reg.cand = omega arith in y)));
+        inner = subst (λ l. last l ≢ suc (w.pass p).reg.cand) (sym c.line) (λ e. c.cand_inner (let y : end t.0 t.1 ≡ (w.pass p).reg.cand = omega arith in y));
+      },
+    )

@@ -1,8 +1,8 @@
 -- The batch: a prefix of the line, and its last pass.
-use Rattle.std.proofs.Common.{◌≡◌, ◌≢◌, ℕ, zero, suc, ◌+◌, ◌<◌, ◌≤◌, ◌⊎◌, List, [], ◌∷◌, ◌++◌, Bool, true, false, cond, ◌==◌, refl, sym, ap, ◌∙◌, subst, length, arith}
+use Rattle.std.proofs.Common.{◌≡◌, ◌≢◌, ℕ, zero, suc, ◌<◌, ◌≤◌, List, [], ◌∷◌, ◌++◌, cond, ◌==◌, refl, sym, ap, ◌∙◌, subst, length, arith}
 use Rattle.std.specs.Prelude.{slice_index, slice_set}
 use Rattle.std.proofs.lemmas.Bool.Decides.{nat_tests}
-use Rattle.shfl_line.specs.Passes.{updated, times, first, Chain, EachPair, without, put_behind, follower, follower_after, behind, last_marked, MarkedFirst, StopsAt, IsLastMarked}
+use Rattle.shfl_line.specs.Passes.{updated, times, Chain, EachPair, behind, last_marked, MarkedFirst, StopsAt, IsLastMarked}
 use Rattle.shfl_line.proofs.Chain
 use Rattle.shfl_line.proofs.Marks
 use Rattle.shfl_line.proofs.Behind.{last-inside}

@@ -1,6 +1,5 @@
 -- The tests of an event, and what they say.
-use Rattle.std.proofs.Common.{◌≡◌, ◌≢◌, ℕ, zero, suc, ◌+◌, ◌-◌, ◌<◌, ◌≤◌, ◌⊎◌, List, Bool, true, false, cond, ◌==◌, ◌&&◌, ◌||◌, not, refl, sym, ap, ◌∙◌, subst, inl, inr, ⊎_elim, arith}
-use Rattle.std.specs.Prelude.{nat_lt}
+use Rattle.std.proofs.Common.{◌≡◌, ℕ, suc, ◌<◌, ◌⊎◌, List, Bool, true, false, ◌==◌, ◌&&◌, ◌||◌, not, refl, sym, ap, subst, inl, inr, ⊎_elim, arith}
 use Rattle.std.proofs.lemmas.Bool.Decides.{nat_tests}
 use Rattle.shfl_line.specs.declared.events.Mode.{Mode}
 use Rattle.shfl_line.specs.declared.events.Mode.TheVariants.{Write, Read}
@@ -8,11 +7,10 @@ use Rattle.shfl_line.specs.declared.events.Role.{Role}
 use Rattle.shfl_line.specs.declared.events.Role.TheVariants.{Nobody, Walk, Rest as Idle}
 use Rattle.shfl_line.specs.declared.events.LineEvent.{LineEvent}
 use Rattle.shfl_line.specs.declared.events.LineEvent.TheVariants.{Steal, Join, Grab, Leave, Release, Begin, Rest, Pick, Place, Keep, Give, Nothing}
-use Rattle.shfl_line.specs.Words.{link_word}
-use Rattle.shfl_line.specs.Passes.{times, first, last, follower, behind, last_marked}
-use Rattle.shfl_line.specs.Line.{Line, mark_of, active_shuffler, idle_shuffler, holds, writer_count, reader_count}
-use Rattle.shfl_line.specs.Steps.{IsFreeFor, IsAway, MayBegin, IsInRound, MayDetach, begun_mark, batch_end, Admits}
-use Rattle.shfl_line.specs.Tests.{is_free_for, is_away, is_nobody, may_begin, may_steal, may_grab, is_in_round, is_in_line_round, has_room, may_detach, admits}
+use Rattle.shfl_line.specs.Passes.{first, follower}
+use Rattle.shfl_line.specs.Line.{Line, mark_of, active_shuffler, idle_shuffler, holds}
+use Rattle.shfl_line.specs.Steps.{IsFreeFor, IsAway, MayBegin, IsInRound, MayDetach, batch_end, Admits}
+use Rattle.shfl_line.specs.Tests.{is_free_for, is_away, is_nobody, may_begin, is_in_round, is_in_line_round, has_room, may_detach, admits}
 
 pub both : (a b : Bool) → (a && b) ≡ true → (a ≡ true) × (b ≡ true)
 both true b h = (refl, h)

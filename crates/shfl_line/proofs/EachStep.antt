@@ -1,6 +1,6 @@
 -- Every admitted event keeps what a state of so many passes keeps, and that it is well formed.
-use Rattle.std.proofs.Common.{◌≡◌, ◌≢◌, ℕ, zero, suc, ◌+◌, ◌-◌, ◌<◌, ◌≤◌, List, [], ◌∷◌, ◌++◌, refl, sym, ap, ◌∙◌, subst, length, arith}
-use Rattle.std.specs.Prelude.{Option, Some, None, slice_set}
+use Rattle.std.proofs.Common.{◌≡◌, ℕ, suc, ◌-◌, ◌<◌, List, [], ◌∷◌, ◌∙◌, arith}
+use Rattle.std.specs.Prelude.{slice_set}
 use Rattle.std.proofs.Math.ListN.{length-set}
 use Rattle.shfl_line.specs.declared.events.Role.TheVariants.{Nobody, Walk, Rest as Idle}
 use Rattle.shfl_line.specs.declared.events.LineEvent.{LineEvent}

@@ -1,12 +1,10 @@
 -- The holders: how many there are, and their rising order.
-use Rattle.std.proofs.Common.{◌≡◌, ◌≢◌, ℕ, zero, suc, ◌+◌, ◌<◌, ◌≤◌, List, [], ◌∷◌, ◌++◌, Bool, true, false, cond, ◌==◌, refl, sym, ap, ◌∙◌, subst, length, arith}
+use Rattle.std.proofs.Common.{◌≡◌, ℕ, suc, ◌+◌, ◌<◌, ◌≤◌, List, [], ◌∷◌, ◌++◌, Bool, true, false, cond, ◌==◌, refl, length, arith}
 use Rattle.std.specs.Prelude.{nat_lt}
 use Rattle.std.proofs.lemmas.Bool.Decides.{nat_tests}
 use Rattle.shfl_line.specs.declared.events.Mode.{Mode}
-use Rattle.shfl_line.specs.declared.events.Mode.TheVariants.{Write, Read}
 use Rattle.shfl_line.specs.Line.{holds, is_write, writer_count, reader_count, Rises}
 use Rattle.shfl_line.specs.Steps.{add_holder, remove_holder}
-use Rattle.shfl_line.proofs.Chain
 
 pub holder_count : (xs : List (ℕ × Mode)) → writer_count xs + reader_count xs ≡ length xs
 holder_count [] = refl

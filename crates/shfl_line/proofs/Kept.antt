@@ -1,20 +1,12 @@
 -- Each admitted event keeps a state well formed: the events of the hold, and those of the shuffler's flag.
-use Rattle.std.proofs.Common.{◌≡◌, ◌≢◌, ℕ, zero, suc, ◌+◌, ◌-◌, ◌<◌, ◌≤◌, ◌⊎◌, List, [], ◌∷◌, ◌++◌, Bool, true, false, cond, ◌==◌, refl, sym, ap, ◌∙◌, subst, inl, inr, ⊎_elim, length, arith}
-use Rattle.std.specs.Prelude.{Option, Some, None, slice_index, slice_set}
+use Rattle.std.proofs.Common.{◌≡◌, ◌≢◌, ℕ, zero, suc, ◌≤◌, ◌⊎◌, refl, sym, ap, ◌∙◌, subst, inl, inr, ⊎_elim, arith}
 use Rattle.std.proofs.lemmas.Bool.Decides.{nat_tests}
 use Rattle.shfl_line.specs.declared.events.Mode.{Mode}
 use Rattle.shfl_line.specs.declared.events.Mode.TheVariants.{Write, Read}
-use Rattle.shfl_line.specs.declared.events.Role.{Role}
-use Rattle.shfl_line.specs.declared.events.Role.TheVariants.{Nobody, Walk, Rest as Idle}
 use Rattle.shfl_line.specs.declared.events.LineEvent.TheVariants as event
-use Rattle.shfl_line.specs.Words.{link_word}
-use Rattle.shfl_line.specs.Passes.{updated, times, first, Chain, EachPair, without, put_behind, follower, follower_after, behind, last_marked, MarkedFirst, StopsAt, IsLastMarked}
-use Rattle.shfl_line.specs.Line.{Line, mark_of, active_shuffler, idle_shuffler, holds, writer_count, reader_count, IsOfPasses, IsWellFormed}
-use Rattle.shfl_line.specs.Steps.{IsFreeFor, IsAway, MayBegin, IsInRound, MayDetach, begun_mark, batch_end, Admits, after, add_holder, remove_holder}
+use Rattle.shfl_line.specs.Line.{Line, active_shuffler, holds, writer_count, reader_count, IsWellFormed}
+use Rattle.shfl_line.specs.Steps.{IsFreeFor, IsAway, batch_end, Admits, after, add_holder, remove_holder}
 use Rattle.shfl_line.proofs.Chain
-use Rattle.shfl_line.proofs.Marks
-use Rattle.shfl_line.proofs.Behind.{last-inside, follower-inside, behind-inside}
-use Rattle.shfl_line.proofs.Batches
 use Rattle.shfl_line.proofs.Holders
 
 -- a pass that doesn't hold comes to hold

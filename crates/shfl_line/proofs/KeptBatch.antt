@@ -1,14 +1,13 @@
 -- Each admitted event keeps a state well formed: those that write a batch number.
-use Rattle.std.proofs.Common.{◌≡◌, ◌≢◌, ℕ, zero, suc, ◌+◌, ◌-◌, ◌<◌, ◌≤◌, ◌⊎◌, List, [], ◌∷◌, ◌++◌, Bool, true, false, cond, ◌==◌, refl, sym, ap, ◌∙◌, subst, inl, inr, ⊎_elim, length, arith}
-use Rattle.std.specs.Prelude.{Option, Some, None, slice_index, slice_set}
+use Rattle.std.proofs.Common.{◌≡◌, ◌≢◌, ℕ, zero, suc, ◌+◌, ◌-◌, ◌<◌, ◌≤◌, List, [], ◌∷◌, refl, sym, ap, ◌∙◌, subst, ⊎_elim, length, arith}
+use Rattle.std.specs.Prelude.{slice_index, slice_set}
 use Rattle.std.proofs.lemmas.Bool.Decides.{nat_tests}
 use Rattle.shfl_line.specs.declared.events.Role.{Role}
 use Rattle.shfl_line.specs.declared.events.Role.TheVariants.{Nobody, Walk, Rest as Idle}
 use Rattle.shfl_line.specs.declared.events.LineEvent.TheVariants as event
-use Rattle.shfl_line.specs.Words.{link_word}
 use Rattle.shfl_line.specs.Passes.{updated, times, first, Chain, EachPair, follower, follower_after, last_marked, MarkedFirst}
 use Rattle.shfl_line.specs.Line.{Line, mark_of, active_shuffler, idle_shuffler, holds, IsOfPasses, IsWellFormed}
-use Rattle.shfl_line.specs.Steps.{MayBegin, IsInRound, begun_mark, batch_end, Admits, after}
+use Rattle.shfl_line.specs.Steps.{MayBegin, begun_mark, batch_end, Admits, after}
 use Rattle.shfl_line.proofs.Chain
 use Rattle.shfl_line.proofs.Marks
 use Rattle.shfl_line.proofs.Behind.{last-inside, follower-inside}

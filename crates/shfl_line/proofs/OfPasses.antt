@@ -1,17 +1,16 @@
 -- What every state of so many passes keeps, through each change.
-use Rattle.std.proofs.Common.{◌≡◌, ◌≢◌, ℕ, zero, suc, ◌+◌, ◌-◌, ◌<◌, ◌≤◌, List, [], ◌∷◌, ◌++◌, Bool, true, false, cond, ◌==◌, refl, sym, ap, ◌∙◌, subst, length, arith}
-use Rattle.std.specs.Prelude.{Option, Some, None, slice_set}
+use Rattle.std.proofs.Common.{◌≡◌, ℕ, suc, ◌<◌, List, [], ◌∷◌, ◌++◌, sym, subst, length, arith}
+use Rattle.std.specs.Prelude.{Some, None}
 use Rattle.std.proofs.lemmas.Bool.Decides.{nat_tests}
 use Rattle.std.proofs.lemmas.List.{length_push}
 use Rattle.shfl_line.specs.declared.events.Mode.{Mode}
 use Rattle.shfl_line.specs.declared.events.Role.{Role}
 use Rattle.shfl_line.specs.Words.{link_word}
 use Rattle.shfl_line.specs.Passes.{times, without, put_behind}
-use Rattle.shfl_line.specs.Line.{Line, Rises, holds, IsOfPasses}
+use Rattle.shfl_line.specs.Line.{Line, Rises, IsOfPasses}
 use Rattle.shfl_line.specs.Steps.{IsAway}
 use Rattle.shfl_line.proofs.Chain
 use Rattle.shfl_line.proofs.Marks
-use Rattle.shfl_line.proofs.Holders.{rises-length}
 use Rattle.shfl_line.proofs.Pigeons.{distinct-length}
 
 pub of_hold : (n : ℕ) (s : Line) (hold : List (ℕ × Mode)) → IsOfPasses n s → Rises 0 n hold → IsOfPasses n (record s { hold = hold })

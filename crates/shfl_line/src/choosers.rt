@@ -36,13 +36,15 @@ pub trait Chooser {
     fn skip(&mut self, anchor: &Attr, batch: u16) -> bool
         ensures home { home self.new ≡ home self.old }
         ensures in_round { in_round self.new ≡ in_round self.old }
-        ensures told { AddsAnswer (told self.old) (told self.new) (skip_answer anchor.now batch result) };
+        ensures told { AddsAnswer (told self.old) (told self.new)
+            (skip_answer anchor.now batch result) };
 
     /// Whether the waiter should join the group of the asking pass.
     fn should(&mut self, anchor: &Attr, waiter: &Attr, batch: u16) -> bool
         ensures home { home self.new ≡ home self.old }
         ensures in_round { in_round self.new ≡ in_round self.old }
-        ensures told { AddsAnswer (told self.old) (told self.new) (should_answer anchor.now waiter.now batch result) };
+        ensures told { AddsAnswer (told self.old) (told self.new)
+            (should_answer anchor.now waiter.now batch result) };
 
     /// Closes the round.
     fn end(&mut self)

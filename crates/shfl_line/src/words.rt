@@ -4,7 +4,8 @@
 //! to 3 are ready, shuffler, parked and spin, and the batch stands from bit 16 on. Attribute word: four
 //! numbers of 16 bits. A next word or the tail word is 0 for none, else the number of a pass plus 1.
 ghost use Rattle.std.specs.Prelude.{◌≡◌, ◌≤◌};
-ghost use Rattle.shfl_line.specs.Words.{lock_word, lock_of, IsLockWord, state_word, state_of, IsStateWord, attr_word, attr_of};
+ghost use Rattle.shfl_line.specs.Words.{lock_word, lock_of, IsLockWord, state_word, state_of};
+ghost use Rattle.shfl_line.specs.Words.{IsStateWord, attr_word, attr_of};
 
 /// Bit 0 of the lock word.
 pub const HELD: u64 = 1;

@@ -3,7 +3,8 @@ ghost use Rattle.std.specs.Prelude.{◌≡◌, ℕ, suc, ◌<◌, ◌==◌, ◌&
 ghost use Rattle.shfl_line.specs.Line.{Line, mark_of, holds};
 ghost use Rattle.shfl_line.specs.Passes.{follower};
 ghost use Rattle.shfl_line.specs.Steps.{batch_end, begun_mark};
-ghost use Rattle.shfl_line.specs.Tests.{admits, may_begin, may_grab, may_steal, is_away, is_in_round, has_room};
+ghost use Rattle.shfl_line.specs.Tests.{admits, may_begin, may_grab, may_steal, is_away};
+ghost use Rattle.shfl_line.specs.Tests.{is_in_round, has_room};
 ghost use Rattle.shfl_line.specs.Words.{link_word};
 
 use crate::events::{LineEvent, Mode, Role};

@@ -1,8 +1,10 @@
 //! Walks over the lists of a line state.
-ghost use Rattle.std.specs.Prelude.{◌≡◌, ℕ, suc, ◌+◌, ◌<◌, ◌≤◌, ◌==◌, not, length, MatchOption, slice_index};
+ghost use Rattle.std.specs.Prelude.{◌≡◌, ℕ, suc, ◌+◌, ◌<◌, ◌≤◌, ◌==◌, not, length, MatchOption};
+ghost use Rattle.std.specs.Prelude.{slice_index};
 ghost use Rattle.std.specs.List.{insert, remove};
 ghost use Rattle.shfl_line.specs.Line.{holds, writer_count};
-ghost use Rattle.shfl_line.specs.Passes.{times, first, last, behind, last_marked, without, put_behind};
+ghost use Rattle.shfl_line.specs.Passes.{times, first, last, behind, last_marked, without};
+ghost use Rattle.shfl_line.specs.Passes.{put_behind};
 ghost use Rattle.shfl_line.specs.Steps.{add_holder, remove_holder};
 ghost use Rattle.shfl_line.specs.Tests.{is_free_for, may_detach};
 ghost use Rattle.shfl_line.specs.Words.{link_word};

@@ -1,9 +1,11 @@
 //! The steps of a line state.
-ghost use Rattle.std.specs.Prelude.{◌≡◌, ◌↔◌, ℕ, suc, ◌+◌, ◌-◌, ◌<◌, ◌≤◌, ◌∷◌, [], ◌++◌, IsTrue, if◌then◌else◌, length, slice_set, vec_len, vec_capacity};
+ghost use Rattle.std.specs.Prelude.{◌≡◌, ◌↔◌, ℕ, suc, ◌+◌, ◌-◌, ◌<◌, ◌≤◌, ◌∷◌, [], ◌++◌, IsTrue};
+ghost use Rattle.std.specs.Prelude.{if◌then◌else◌, length, slice_set, vec_len, vec_capacity};
 ghost use Rattle.std.specs.List.{insert};
 ghost use Rattle.shfl_line.specs.Line.{Line, holds, mark_of, IsWellFormed};
 ghost use Rattle.shfl_line.specs.Passes.{times, follower, last_marked, without, put_behind};
-ghost use Rattle.shfl_line.specs.Steps.{add_holder, remove_holder, role_without, begun_mark, batch_end, IsAway, Admits, NamesBelow, after};
+ghost use Rattle.shfl_line.specs.Steps.{add_holder, remove_holder, role_without, begun_mark};
+ghost use Rattle.shfl_line.specs.Steps.{batch_end, IsAway, Admits, NamesBelow, after};
 ghost use Rattle.shfl_line.specs.Tests.{admits};
 ghost use Rattle.shfl_line.specs.Words.{link_word};
 
