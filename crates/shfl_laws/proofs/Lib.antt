@@ -34,3 +34,6 @@ pub mod Flagged
 pub mod GiveRow
 pub mod GiveLaw
 pub mod OwedCall
+pub mod MarkBits
+pub mod MarkOrder
+pub mod MarkLaw
