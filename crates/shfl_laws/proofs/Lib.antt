@@ -37,3 +37,7 @@ pub mod OwedCall
 pub mod MarkBits
 pub mod MarkOrder
 pub mod MarkLaw
+pub mod BeginBits
+pub mod OwedBatch
+pub mod BeginRow
+pub mod BeginGroup
