@@ -42,3 +42,10 @@ pub mod GiveRow
 pub mod GiveLaw
 pub mod OwedCall
 pub mod LookRow
+pub mod MarkBits
+pub mod MarkOrder
+pub mod MarkLaw
+pub mod BeginBits
+pub mod OwedBatch
+pub mod BeginRow
+pub mod BeginGroup

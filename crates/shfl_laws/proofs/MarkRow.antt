@@ -31,7 +31,7 @@ read-set l i v h q = Chain.by_eq q i
 pub knows-cases : (f : Phase) → knows f ≡ true → (rank f ≡ Fore) ⊎ ((is_round f ≡ true) ⊎ (f ≡ Begin))
 knows-cases f h = grind arith
 
-abbrev kept : ℕ → View → Line → ℕ → Line
+abbrev pub kept : ℕ → View → Line → ℕ → Line
 kept limit w s p = record s { mark = slice_set s.mark (w.pass p).reg.cand ((w.pass p).reg.count + 1) }
 
 module _ (limit : ℕ) (w : View) (s : Line) (g p x : ℕ) (xs : List ℕ) (o : Ordered w s g) (k : Grouping limit w s) (v : Order.Scene w s x xs) (f : (w.pass p).phase ≡ Mark) (room : (w.pass p).reg.cand < length s.mark) (nap : Nap) (spin : Bool) where
@@ -120,7 +120,7 @@ module _ (limit : ℕ) (w : View) (s : Line) (g p x : ℕ) (xs : List ℕ) (o : 
       by-flag true e r = let n = k.known (w.pass p).reg.cand (grind (arith, r)) in walk-no-rest s.role p (w.pass p).reg.cand (k.walks p rp) (k.flagged (w.pass p).reg.cand (grind (arith, r)) (sym n.1 ∙ e))
       by-flag false e r = let t = k.begins (w.pass p).reg.cand r e in off (grind (arith, r, t))
 
-  mark-grouping : Grouping limit (row_mark limit w p nap spin) (kept limit w s p)
+  pub mark-grouping : Grouping limit (row_mark limit w p nap spin) (kept limit w s p)
   mark-grouping = let below = (k.last p rp).2 (λ e. grind (arith, f)) in record {
     mark = λ q. Chain.by_eq q (w.pass p).reg.cand
         (λ e. subst (λ z. mark_of (kept limit w s p) z ≡ cond (is_queued (updated w.pass p (marked limit (w.pass p) nap) z)) (updated w.node (w.pass p).reg.cand (record (w.node (w.pass p).reg.cand) { batch = (w.pass p).reg.count + 1; spin = spin }) z).batch 0) (sym e)
