@@ -3,3 +3,5 @@ pub mod SlotLoop
 pub mod Codes
 pub mod Inverse
 pub mod InverseTable
+pub mod SlotBytes
+pub mod Facts
