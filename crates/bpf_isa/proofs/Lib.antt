@@ -5,3 +5,5 @@ pub mod Inverse
 pub mod InverseTable
 pub mod SlotBytes
 pub mod Facts
+pub mod Decoded
+pub mod RoundTrip
