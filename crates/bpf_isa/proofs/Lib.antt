@@ -7,3 +7,4 @@ pub mod SlotBytes
 pub mod Facts
 pub mod Decoded
 pub mod RoundTrip
+pub mod TableAgain
