@@ -8,3 +8,5 @@ pub mod Facts
 pub mod Decoded
 pub mod RoundTrip
 pub mod TableAgain
+pub mod Raws
+pub mod EncodedAgain
