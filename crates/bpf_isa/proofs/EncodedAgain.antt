@@ -66,7 +66,7 @@ before_fits xs zero f lt = zero_fits_32
 before_fits xs (suc slot) f lt = high_fits (insn_at xs slot) (f.fields slot (omega (arith, lt)))
 
 -- each slot has the fields of its instruction
-slot_fields : (xs : List Insn) (slot : ℕ) → IsWellFormed xs → slot < length xs → raw_at (encoding xs) slot ≡ fields_of (high_before (pos 0) xs slot) (insn_at xs slot)
+pub slot_fields : (xs : List Insn) (slot : ℕ) → IsWellFormed xs → slot < length xs → raw_at (encoding xs) slot ≡ fields_of (high_before (pos 0) xs slot) (insn_at xs slot)
 slot_fields xs slot f lt =
     let rs : List Raw = raws_from (pos 0) xs in
     let there = raws_at (pos 0) xs slot (raw 0 0 0 (pos 0) (pos 0)) lt in
@@ -80,7 +80,7 @@ wide_before high insn.Half = refl
 wide_before high x = wide_opcode x
 
 -- the second halves of the bytes are those of the instructions
-halves_again : (xs : List Insn) (slot : ℕ) → IsWellFormed xs → slot < length xs → is_second_half (encoding xs) slot ≡ is_half (insn_at xs slot)
+pub halves_again : (xs : List Insn) (slot : ℕ) → IsWellFormed xs → slot < length xs → is_second_half (encoding xs) slot ≡ is_half (insn_at xs slot)
 halves_again xs zero f lt = sym (half-zero (encoding xs)) ∙ sym f.first
 halves_again xs (suc slot) f lt =
     let here : slot < length xs = omega (arith, lt) in

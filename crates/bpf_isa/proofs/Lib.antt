@@ -10,3 +10,4 @@ pub mod RoundTrip
 pub mod TableAgain
 pub mod Raws
 pub mod EncodedAgain
+pub mod DecodedAgain
