@@ -52,8 +52,9 @@ no_target xs slot (Some off) f lt e = outside (target slot off) refl
     outside : (place : ℤ) → target slot off ≡ place → half_at (encoding xs) (length xs) place ≡ false
     outside (negsuc n) t = refl
     outside (pos place) t = elim (cases_lt place (length xs)) [
-        inl inside ↦ rw (lt-ltb place (length xs) inside, halves_again xs place f inside, f.targets slot place off lt e t inside) refl
-      | inr past ↦ rw (le-ltb place (length xs) past) refl ]
+      | inl inside ↦ rw (lt-ltb place (length xs) inside, halves_again xs place f inside, f.targets slot place off lt e t inside) refl
+      | inr past ↦ rw (le-ltb place (length xs) past) refl
+    ]
 
 each_again : (p : Profile) (xs : List Insn) (slot : ℕ) → IsWellFormed xs → IsOf p xs → slot < length xs → slot_in p (encoding xs) (length xs) slot ≡ Ok (insn_at xs slot)
 each_again p xs slot f o lt = read_slot p (encoding xs) (length xs) slot (high_before (pos 0) xs slot) (insn_at xs slot)
@@ -61,14 +62,16 @@ each_again p xs slot f o lt = read_slot p (encoding xs) (length xs) slot (high_b
   where
     one : slot + 1 ≡ suc slot
     one = omega arith
+
     behind : is_wide (insn_at xs slot) ≡ true → ((slot + 1 == length xs) ≡ false) × ((raw_at (encoding xs) (slot + 1)).imm ≡ high_of (insn_at xs slot))
     behind w =
         let not_last : slot + 1 ≢ length xs = λ e. true≢false (sym w ∙ f.last slot e) in
-        let inside : slot + 1 < length xs = omega (arith, not_last) in
-        (ne_eqb (slot + 1) (length xs) not_last,
+        let inside : slot + 1 < length xs = omega (arith, not_last) in (
+          ne_eqb (slot + 1) (length xs) not_last,
           ap (λ (r : Raw). r.imm) (slot_fields xs (slot + 1) f inside)
-          ∙ half_has (high_before (pos 0) xs (slot + 1)) (insn_at xs (slot + 1)) (f.halves slot inside ∙ w)
-          ∙ ap (high_before (pos 0) xs) one)
+              ∙ half_has (high_before (pos 0) xs (slot + 1)) (insn_at xs (slot + 1)) (f.halves slot inside ∙ w)
+              ∙ ap (high_before (pos 0) xs) one,
+        )
 
 slots_again : (p : Profile) (bytes : List ℕ) (count slot : ℕ) (xs : List Insn) → ((k : ℕ) → k < length xs → slot_in p bytes count (slot + k) ≡ Ok (insn_at xs k)) → slots_from p bytes count slot (length xs) ≡ Ok xs
 unfolding slots_from

@@ -33,13 +33,15 @@ zero_fits_32 = record { sfits = omega arith }
 small : (w : Width) (bits : ℕ) → is_extended w bits ≡ true → bits ≤ 32
 small width.W32 bits e = elim (or_cases (bits == 8) (bits == 16) e) [ inl a ↦ omega (arith, eqb-true bits 8 a) | inr a ↦ omega (arith, eqb-true bits 16 a) ]
 small width.W64 bits e = elim (or_cases ((bits == 8) || (bits == 16)) (bits == 32) e) [
-    inl b ↦ elim (or_cases (bits == 8) (bits == 16) b) [ inl a ↦ omega (arith, eqb-true bits 8 a) | inr a ↦ omega (arith, eqb-true bits 16 a) ]
-  | inr a ↦ omega (arith, eqb-true bits 32 a) ]
+  | inl b ↦ elim (or_cases (bits == 8) (bits == 16) b) [ inl a ↦ omega (arith, eqb-true bits 8 a) | inr a ↦ omega (arith, eqb-true bits 16 a) ]
+  | inr a ↦ omega (arith, eqb-true bits 32 a)
+]
 
 small_swap : (bits : ℕ) → ((bits == 16) || (bits == 32) || (bits == 64)) ≡ true → bits ≤ 64
 small_swap bits e = elim (or_cases ((bits == 16) || (bits == 32)) (bits == 64) e) [
-    inl b ↦ elim (or_cases (bits == 16) (bits == 32) b) [ inl a ↦ omega (arith, eqb-true bits 16 a) | inr a ↦ omega (arith, eqb-true bits 32 a) ]
-  | inr a ↦ omega (arith, eqb-true bits 64 a) ]
+  | inl b ↦ elim (or_cases (bits == 16) (bits == 32) b) [ inl a ↦ omega (arith, eqb-true bits 16 a) | inr a ↦ omega (arith, eqb-true bits 32 a) ]
+  | inr a ↦ omega (arith, eqb-true bits 64 a)
+]
 
 high_fits : (x : Insn) → HasFields x → FitsSigned w32 (high_of x)
 high_fits (insn.Wide dst low high) f = f.2
@@ -72,7 +74,7 @@ slot_fields xs slot f lt =
     let there = raws_at (pos 0) xs slot (raw 0 0 0 (pos 0) (pos 0)) lt in
     ap (λ (bytes : List ℕ). raw_at bytes slot) (encoding_is_slots xs f)
     ∙ raw_at-slots rs slot (raw 0 0 0 (pos 0) (pos 0)) (omega (arith, lt, length-raws_from (pos 0) xs))
-        (subst RawFits (sym there) (fields_fit (high_before (pos 0) xs slot) (insn_at xs slot) (before_fits xs slot f lt) (f.fields slot lt)))
+    (subst RawFits (sym there) (fields_fit (high_before (pos 0) xs slot) (insn_at xs slot) (before_fits xs slot f lt) (f.fields slot lt)))
     ∙ there
 
 wide_before : (high : ℤ) (x : Insn) → (not (is_half x) && ((fields_of high x).op == 0x18)) ≡ is_wide x

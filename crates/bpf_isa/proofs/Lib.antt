@@ -11,3 +11,4 @@ pub mod TableAgain
 pub mod Raws
 pub mod EncodedAgain
 pub mod DecodedAgain
+pub mod InsnAt

@@ -39,9 +39,11 @@ shape_from : (half : Bool) (xs : List Insn) → (0 < length xs → is_half (insn
     → ((slot : ℕ) → slot + 1 < length xs → is_half (insn_at xs (slot + 1)) ≡ is_wide (insn_at xs slot))
     → ((slot : ℕ) → slot + 1 ≡ length xs → is_wide (insn_at xs slot) ≡ false) → Shape half xs
 shape_from half [] first none halves last = none refl
-shape_from half (x ∷ xs) first none halves last =
-    (first (omega arith), shape_from (is_wide x) xs (λ lt. halves 0 (omega (arith, lt))) (λ e. last 0 (omega (arith, e)))
-      (λ slot lt. behind slot lt) (λ slot e. last (suc slot) (omega (arith, e))))
+shape_from half (x ∷ xs) first none halves last = (
+  first (omega arith),
+  shape_from (is_wide x) xs (λ lt. halves 0 (omega (arith, lt))) (λ e. last 0 (omega (arith, e)))
+      (λ slot lt. behind slot lt) (λ slot e. last (suc slot) (omega (arith, e))),
+)
   where
     behind : (slot : ℕ) → slot + 1 < length xs → is_half (insn_at xs (slot + 1)) ≡ is_wide (insn_at xs slot)
     behind slot lt = ap (λ (k : ℕ). is_half (insn_at (x ∷ xs) k)) (sym (suc_one slot)) ∙ halves (suc slot) (omega (arith, lt))
@@ -129,8 +131,10 @@ raw_at-drop bytes slot = same (sym (get_or-drop at bytes 0 0 ∙ ap (λ (k : ℕ
   where
     at : ℕ
     at = 8 * slot
+
     byte : (k : ℕ) → get_or bytes (8 * slot + k) 0 ≡ get_or (drop at bytes) k 0
     byte k = sym (get_or-drop at bytes k 0)
+
     same : {a b c d e f g h a' b' c' d' e' f' g' h' : ℕ} → a ≡ a' → b ≡ b' → c ≡ c' → d ≡ d' → e ≡ e' → f ≡ f' → g ≡ g' → h ≡ h' → fields a b c d e f g h ≡ fields a' b' c' d' e' f' g' h'
     same p q r s t u v w = rw (p, q, r, s, t, u, v, w) refl
 
