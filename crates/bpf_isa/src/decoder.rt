@@ -127,7 +127,8 @@ fn slots_of(
     requires long { 8 * length halves.now ≤ length bytes.now }
     requires few { length halves.now ≤ 512 }
     requires halves { MarksHalves halves.now bytes.now }
-    ensures { Gives (λ v. v.items) result (slots_from profile bytes.now (length halves.now) 0 (length halves.now)) }
+    ensures { Gives (λ v. v.items) result
+        (slots_from profile bytes.now (length halves.now) 0 (length halves.now)) }
 {
     let mut insns = Vec::with_capacity(alloc, halves.len())?;
     for slot in 0..halves.len() {
