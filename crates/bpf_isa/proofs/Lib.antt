@@ -1,0 +1,9 @@
+pub mod Halves
+pub mod SlotLoop
+pub mod Codes
+pub mod Inverse
+pub mod InverseTable
+pub mod SlotBytes
+pub mod Facts
+pub mod Decoded
+pub mod RoundTrip
