@@ -1,0 +1,6 @@
+pub mod Faults
+pub mod Operands
+pub mod Forms
+pub mod Views
+pub mod Statements
+pub mod Assembly
