@@ -7,6 +7,7 @@ use Rattle.bpf_isa.specs.declared.insn.Profile.{Profile}
 use Rattle.bpf_isa.specs.Flow.{insn_at, is_half, jump_offset, target}
 use Rattle.bpf_asm.specs.declared.error.AsmError.{AsmError}
 use Rattle.bpf_asm.specs.declared.error.AsmError.TheVariants as errors
+use Rattle.bpf_asm.specs.declared.names.Mark.{Mark}
 use Rattle.bpf_asm.specs.Statements.{Statement, with_offset, line_in}
 use Rattle.doc_text.specs.Text.{pieces}
 use Rattle.doc_text.specs.Words.{same}
@@ -25,11 +26,6 @@ slots_of (Ok (Statement.JumpTo x name)) = x ∷ []
 -- the slots of all lines, the jumps to names without their offsets
 abbrev pub layout : List Line → List Insn
 layout lines = flat_map slots_of lines
-
--- where a name stands: the line, and the slot behind it
-pub record Mark : Type 0 where
-  pub line : ℕ
-  pub slot : ℕ
 
 -- the line declares the name
 abbrev pub declares : List ℕ → Line → Bool
@@ -113,6 +109,7 @@ some_slots line (Ok []) = Err (errors.Format line 9)
 some_slots line (Ok (x ∷ xs)) = Ok (x ∷ xs)
 some_slots line (Err e) = Err e
 
+-- what the lines of a text say
 abbrev pub lines_in : Profile → List ℕ → List Line
 lines_in p text = map (line_in p) (pieces text)
 

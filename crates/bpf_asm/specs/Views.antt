@@ -35,6 +35,11 @@ statement_of (said.One x) = line.Statement.Code (x ∷ [])
 statement_of (said.Wide dst low high) = line.Statement.Code (insn.Wide dst low high ∷ insn.Half ∷ [])
 statement_of (said.JumpTo x name) = line.Statement.JumpTo x name.now
 
+-- what was read of a line
+abbrev pub line_of : Result Statement ℕ → Result line.Statement ℕ
+line_of (Ok s) = Ok (statement_of s)
+line_of (Err fault) = Err fault
+
 -- the result is the one due
 abbrev pub Says : Result Statement ℕ → Result line.Statement ℕ → Type 0
 Says (Ok s) due = due ≡ Ok (statement_of s)

@@ -3,7 +3,9 @@
 
 mod error;
 mod form;
+mod names;
 mod operand;
 mod statement;
+mod survey;
 
 pub use error::AsmError;
