@@ -71,22 +71,34 @@ abbrev pub fits : Insn → ℤ → Bool
 fits (insn.GotoLong off) to = fits_long to
 fits x to = fits_short to
 
+-- the jump with this offset, where its field holds it
+abbrev pub at_offset : Insn → ℤ → Option Insn
+at_offset x to = if fits x to then Some (with_offset x to) else None
+
+-- the jump with the offset that it needs, or a name too far away
+abbrev pub reaching : ℕ → Option Insn → Result (List Insn) ℕ
+reaching slot None = Err 6
+reaching slot (Some x) = within slot (x ∷ [])
+
 -- a jump of a slot to a named slot
 abbrev pub jump_to : ℕ → Insn → Option Mark → Result (List Insn) ℕ
 jump_to slot x None = Err 6
-jump_to slot x (Some mark) =
-    if fits x (pos mark.slot -ℤ pos (slot + 1)) then within slot (with_offset x (pos mark.slot -ℤ pos (slot + 1)) ∷ []) else Err 6
+jump_to slot x (Some mark) = reaching slot (at_offset x (pos mark.slot -ℤ pos (slot + 1)))
 
--- the line is the first that declares the name
-abbrev pub stands_at : ℕ → Option Mark → Bool
-stands_at line None = false
-stands_at line (Some mark) = mark.line == line
+-- a name where its first declaration stands; any other line that declares it is bad
+abbrev pub name_at : ℕ → Option Mark → Result (List Insn) ℕ
+name_at line None = Err 5
+name_at line (Some mark) = if mark.line == line then Ok [] else Err 5
+
+-- instructions whose jump, if they have one, leads into no second half of the layout
+abbrev pub code_at : List Insn → ℕ → List Insn → Result (List Insn) ℕ
+code_at insns slot code = if into_half insns slot (first_offset code) then Err 7 else within slot code
 
 -- the slots of a line among all lines, or its lowest fault
 abbrev pub slots_in : List Line → ℕ → ℕ → Line → Result (List Insn) ℕ
 slots_in all line slot (Err fault) = Err fault
-slots_in all line slot (Ok (Statement.Name name)) = if stands_at line (mark_of name 1 0 all) then Ok [] else Err 5
-slots_in all line slot (Ok (Statement.Code insns)) = if into_half (layout all) slot (first_offset insns) then Err 7 else within slot insns
+slots_in all line slot (Ok (Statement.Name name)) = name_at line (mark_of name 1 0 all)
+slots_in all line slot (Ok (Statement.Code code)) = code_at (layout all) slot code
 slots_in all line slot (Ok (Statement.JumpTo x name)) = jump_to slot x (mark_of name 1 0 all)
 
 abbrev pub in_front : List Insn → Result (List Insn) AsmError → Result (List Insn) AsmError

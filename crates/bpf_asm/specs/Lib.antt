@@ -3,5 +3,5 @@ pub mod Operands
 pub mod Forms
 pub mod Views
 pub mod Statements
-pub mod Marks
 pub mod Assembly
+pub mod Marks

@@ -30,12 +30,16 @@ abbrev pub no_words : List (List ℕ) → Bool
 no_words [] = true
 no_words ws = false
 
+-- the jump of 16 bits with this offset
+abbrev pub with_short : Insn → ℤ → Insn
+with_short (insn.Goto off) to = insn.Goto to
+with_short (insn.Jump w c dst src off) to = insn.Jump w c dst src to
+with_short x to = x
+
 -- the jump with this offset
 abbrev pub with_offset : Insn → ℤ → Insn
-with_offset (insn.Goto off) to = insn.Goto to
 with_offset (insn.GotoLong off) to = insn.GotoLong to
-with_offset (insn.Jump w c dst src off) to = insn.Jump w c dst src to
-with_offset x to = x
+with_offset x to = with_short x to
 
 abbrev pub jump : Insn → Place → Statement
 jump x (Place.By off) = Statement.Code (with_offset x off ∷ [])

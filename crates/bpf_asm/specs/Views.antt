@@ -6,6 +6,11 @@ use Rattle.bpf_asm.specs.declared.operand.ShortPlace.{ShortPlace}
 use Rattle.bpf_asm.specs.declared.operand.ShortPlace.TheVariants as short
 use Rattle.bpf_asm.specs.declared.statement.Statement.{Statement}
 use Rattle.bpf_asm.specs.declared.statement.Statement.TheVariants as said
+use Rattle.bpf_asm.specs.declared.assembler.Slots.{Slots}
+use Rattle.bpf_asm.specs.declared.assembler.Slots.TheVariants as held_slots
+use Rattle.bpf_asm.specs.declared.error.AsmError.{AsmError}
+use Rattle.bpf_asm.specs.declared.error.AsmError.TheVariants as errors
+use Rattle.bpf_isa.specs.declared.insn.Insn.{Insn}
 use Rattle.bpf_asm.specs.Operands as read
 use Rattle.bpf_asm.specs.Statements as line
 use Rattle.bpf_isa.specs.declared.insn.Insn.TheVariants as insn
@@ -49,3 +54,23 @@ Says (Err fault) due = due ≡ Err fault
 abbrev pub words_behind : Option (Bor (List ℕ)) → List (List ℕ)
 words_behind None = []
 words_behind (Some rest) = words rest.now
+
+abbrev pub slots_held : Slots → List Insn
+slots_held held_slots.Nothing = []
+slots_held (held_slots.One x) = x ∷ []
+slots_held (held_slots.Two x y) = x ∷ y ∷ []
+
+-- the result is the one due
+abbrev pub GivesSlots : Result Slots ℕ → Result (List Insn) ℕ → Type 0
+GivesSlots (Ok slots) due = due ≡ Ok (slots_held slots)
+GivesSlots (Err fault) due = due ≡ Err fault
+
+-- the error is the one due, or memory ran out
+abbrev pub Fails : AsmError → Result (List Insn) AsmError → Type 0
+Fails errors.NoMemory due = Unit {0}
+Fails (errors.Format line what) due = due ≡ Err (errors.Format line what)
+
+-- the result, seen by view, is the one due, unless memory ran out
+abbrev pub Gives : {X : Type 0} → (X → List Insn) → Result X AsmError → Result (List Insn) AsmError → Type 0
+Gives view (Ok x) due = due ≡ Ok (view x)
+Gives view (Err e) due = Fails e due

@@ -1,6 +1,7 @@
 //! An assembler and a disassembler for the instructions of a small BPF: one instruction a line.
 #![tactic(auto)]
 
+mod assembler;
 mod error;
 mod form;
 mod names;

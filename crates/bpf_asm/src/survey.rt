@@ -2,7 +2,7 @@
 ghost use Rattle.std.specs.Prelude.{◌≡◌, ◌+◌, ◌*◌, ◌^◌, ◌<◌, ◌≤◌, ◌++◌, ℕ, List, length, map, IfOk, OnOk, Result};
 ghost use Rattle.bpf_isa.specs.Flow.{is_half};
 ghost use Rattle.bpf_asm.specs.Assembly.{slots_of, layout, declares, mark_of, lines_in};
-ghost use Rattle.bpf_asm.specs.Marks.{mark_in, first_mark};
+ghost use Rattle.bpf_asm.specs.Marks.{mark_in, first_mark, IsSurvey};
 ghost use Rattle.bpf_asm.specs.Views.{line_of};
 
 use crate::names::{Mark, note_name};
@@ -59,8 +59,7 @@ pub fn survey<'a>(
     text: &'a [u8],
 ) -> Result<(BTreeMap<&'a [u8], Mark>, Vec<bool>), AllocError>
     requires { length text.now < 2 ^ 31 }
-    ensures marks { IfOk result (λ found. (name : List ℕ) → mark_in found.0 name ≡ mark_of name 1 0 (lines_in profile text.now)) }
-    ensures halves { IfOk result (λ found. found.1.items ≡ map is_half (layout (lines_in profile text.now))) }
+    ensures { IfOk result (λ found. IsSurvey found.0 found.1.items (lines_in profile text.now)) }
 {
     let mut marks = BTreeMap::new(alloc);
     let mut halves = Vec::new(alloc);

@@ -34,7 +34,7 @@ pub returns : goal.returns
 returns c =
     let none : c.loop-rest.rest.now ≡ [] = nil_from_length c.loop-rest.rest.now (eqb-true (length c.loop-rest.rest.now) 0 (sym c.loop-rest-test.ensures)) in
     record {
-      marks = λ name. marks_end name (mark_in c.loop-rest.marks name) _ c.loop-rest.line (length c.loop-rest.halves.items)
+      marks_stand = λ name. marks_end name (mark_in c.loop-rest.marks name) _ c.loop-rest.line (length c.loop-rest.halves.items)
           (ap (λ (rest : List ℕ). or_else (mark_in c.loop-rest.marks name) (mark_of name c.loop-rest.line (length c.loop-rest.halves.items) (lines_in c.args.profile rest))) (sym none) ∙ c.loop-rest.invariant.marks name);
-      halves = sym (append-nil c.loop-rest.halves.items) ∙ ap (λ (rest : List ℕ). c.loop-rest.halves.items ++ map is_half (layout (lines_in c.args.profile rest))) (sym none) ∙ c.loop-rest.invariant.halves;
+      halves_stand = sym (append-nil c.loop-rest.halves.items) ∙ ap (λ (rest : List ℕ). c.loop-rest.halves.items ++ map is_half (layout (lines_in c.args.profile rest))) (sym none) ∙ c.loop-rest.invariant.halves;
     }
