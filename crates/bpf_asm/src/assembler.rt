@@ -1,5 +1,5 @@
 //! The second walk over a text: the instructions of its lines, with the offsets of jumps to names.
-ghost use Rattle.std.specs.Prelude.{◌≡◌, ◌+◌, ◌^◌, ◌<◌, ◌≤◌, ◌++◌, ℕ, ℤ, pos, List, length, map, IfOk, OnOk, Result};
+ghost use Rattle.std.specs.Prelude.{◌≡◌, ◌+◌, ◌^◌, ◌<◌, ◌≤◌, ◌++◌, ℕ, ℤ, pos, ◌-ℤ◌, List, length, map, IfOk, OnOk, Result};
 ghost use Rattle.bpf_isa.specs.declared.insn.Insn.{Insn};
 ghost use Rattle.bpf_isa.specs.Flow.{is_half, jump_offset};
 ghost use Rattle.bpf_asm.specs.Assembly.{Line, fits_short, fits_long, at_offset, half_at, into_half, first_offset, within, reaching, jump_to, name_at, code_at, slots_in, lines_in, assembly};
@@ -157,6 +157,14 @@ fn code(halves: &[bool], slot: usize, slots: Slots) -> Result<Slots, u8>
     fitting(slot, slots)
 }
 
+/// How far a slot is from the slot behind another one.
+fn distance(slot: usize, to: u32) -> i64
+    requires { slot ≤ 512 }
+    ensures { result ≡ pos to -ℤ pos (slot + 1) }
+{
+    i64::from(to) - (slot as i64 + 1)
+}
+
 /// A jump of a slot to a named slot.
 fn jump(slot: usize, insn: Insn, found: Option<Mark>) -> Result<Slots, u8>
     requires { slot ≤ 512 }
@@ -165,7 +173,7 @@ fn jump(slot: usize, insn: Insn, found: Option<Mark>) -> Result<Slots, u8>
     let Some(mark) = found else {
         return Err(NO_NAME);
     };
-    match jump_by(insn, i64::from(mark.slot) - (slot as i64 + 1)) {
+    match jump_by(insn, distance(slot, mark.slot)) {
         Some(insn) => fitting(slot, Slots::One(insn)),
         None => Err(NO_NAME),
     }
@@ -226,4 +234,47 @@ fn push_slots(insns: &mut Vec<Insn>, slots: Slots) -> Result<(), AllocError>
             Ok(())
         }
     }
+}
+
+/// The instructions of all lines, or the first bad line and its lowest fault.
+fn resolve(
+    alloc: Global,
+    profile: Profile,
+    text: &[u8],
+    marks: &BTreeMap<&[u8], Mark>,
+    halves: &[bool],
+) -> Result<Vec<Insn>, AsmError>
+    requires short { length text.now < 2 ^ 31 }
+    requires survey { IsSurvey marks.now halves.now (lines_in profile text.now) }
+    ensures { Gives (λ v. v.items) result (assembly profile text.now) }
+{
+    let mut insns = Vec::new(alloc);
+    let mut rest = text;
+    let mut line: u32 = 1;
+    while !rest.is_empty() {
+        let (piece, behind) = piece_at(rest);
+        let read = read_line(profile, piece);
+        match line_slots(marks, halves, line, insns.len(), read) {
+            Ok(slots) => push_slots(&mut insns, slots)?,
+            Err(what) => return Err(AsmError::Format { line, what }),
+        }
+        line += 1;
+        rest = behind;
+    }
+    if insns.is_empty() {
+        return Err(AsmError::Format {
+            line,
+            what: NOTHING,
+        });
+    }
+    Ok(insns)
+}
+
+/// The instructions of a text, one a line, or the first bad line and its lowest fault.
+fn assemble_exactly(alloc: Global, profile: Profile, text: &[u8]) -> Result<Vec<Insn>, AsmError>
+    requires { length text.now < 2 ^ 31 }
+    ensures { Gives (λ v. v.items) result (assembly profile text.now) }
+{
+    let (marks, halves) = survey(alloc, profile, text)?;
+    resolve(alloc, profile, text, &marks, &halves)
 }
