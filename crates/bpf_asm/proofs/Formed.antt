@@ -25,7 +25,7 @@ abbrev pub GoodLines : Profile → List Line → Type 0
 GoodLines p [] = Unit {0}
 GoodLines p (l ∷ ls) = GoodLine p l × GoodLines p ls
 
-good_pieces : (p : Profile) (ps : List (List ℕ)) → GoodLines p (map (line_in p) ps)
+pub good_pieces : (p : Profile) (ps : List (List ℕ)) → GoodLines p (map (line_in p) ps)
 good_pieces p [] = tt
 good_pieces p (q ∷ ps) = (line_holds p q, good_pieces p ps)
 
@@ -38,7 +38,7 @@ half_no_wide (insn.Wide d l h) w = absurd (false≢true w)
 half_no_wide x w = refl
 
 -- code in front keeps the shape of what is behind it
-code_shape : (p : Profile) (code others : List Insn) → GoodCode p code → Shape false others → Shape false (code ++ others)
+pub code_shape : (p : Profile) (code others : List Insn) → GoodCode p code → Shape false others → Shape false (code ++ others)
 code_shape p [] others good shape = absurd good
 code_shape p (x ∷ []) others good shape = (good.no_half, subst (λ (b : Bool). Shape b others) (sym good.no_wide) shape)
 code_shape p (x ∷ y ∷ []) others good shape =
@@ -51,27 +51,6 @@ line_shape p (Ok (Statement.Name name)) others good shape = shape
 line_shape p (Ok (Statement.Code code)) others good shape = code_shape p code others good shape
 line_shape p (Ok (Statement.JumpTo x name)) others good shape = (good.no_half, subst (λ (b : Bool). Shape b others) (sym good.no_wide) shape)
 
-layout_shape : (p : Profile) (ls : List Line) → GoodLines p ls → Shape false (layout ls)
+pub layout_shape : (p : Profile) (ls : List Line) → GoodLines p ls → Shape false (layout ls)
 layout_shape p [] good = refl
 layout_shape p (l ∷ ls) good = line_shape p l (layout ls) good.0 (layout_shape p ls good.1)
-
--- the first of such slots is no second half
-first_slot : (front back : List Insn) → Shape false back → half_at (front ++ back) (pos (length front)) ≡ false
-first_slot [] [] shape = refl
-first_slot [] (x ∷ xs) shape = shape.0
-first_slot (y ∷ front) back shape = step front back
-  where
-    step : (front back : List Insn) → half_at (y ∷ front ++ back) (pos (suc (length front))) ≡ half_at (front ++ back) (pos (length front))
-    step front back = ?
-
--- the slots from a name on
-pub record Stands (slot : ℕ) (insns : List Insn) (mark : Mark) : Type 0 where
-  pub front : List Insn
-  pub back : List Insn
-  pub parts : insns ≡ front ++ back
-  pub at : mark.slot ≡ slot + length front
-  pub shape : Shape false back
-
-abbrev StandsIn : ℕ → List Insn → Option Mark → Type 0
-StandsIn slot insns None = Unit {0}
-StandsIn slot insns (Some mark) = Stands slot insns mark

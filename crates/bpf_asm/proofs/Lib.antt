@@ -4,3 +4,6 @@ pub mod Resolving
 pub mod Sound
 pub mod SoundLines
 pub mod Formed
+pub mod NamesStand
+pub mod Brought
+pub mod WholeFormed

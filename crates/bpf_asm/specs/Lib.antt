@@ -5,3 +5,4 @@ pub mod Views
 pub mod Statements
 pub mod Assembly
 pub mod Marks
+pub mod Disassembly

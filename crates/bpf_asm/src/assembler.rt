@@ -1,7 +1,10 @@
 //! The second walk over a text: the instructions of its lines, with the offsets of jumps to names.
-ghost use Rattle.std.specs.Prelude.{◌≡◌, ◌+◌, ◌^◌, ◌<◌, ◌≤◌, ◌++◌, ℕ, ℤ, pos, ◌-ℤ◌, List, length, map, IfOk, OnOk, Result};
+ghost use Rattle.std.specs.Prelude.{◌≡◌, ◌+◌, ◌^◌, ◌<◌, ◌≤◌, ◌++◌, ℕ, ℤ, pos, ◌-ℤ◌, List, length, map, IfOk, OnOk, Ok, Result};
 ghost use Rattle.bpf_isa.specs.declared.insn.Insn.{Insn};
+ghost use Rattle.bpf_isa.specs.Decoding.{decoding};
+ghost use Rattle.bpf_isa.specs.Encoding.{encoding};
 ghost use Rattle.bpf_isa.specs.Flow.{is_half, jump_offset};
+ghost use Rattle.bpf_isa.specs.WellFormed.{IsWellFormed, IsOf};
 ghost use Rattle.bpf_asm.specs.Assembly.{Line, fits_short, fits_long, at_offset, half_at, into_half, first_offset, within, reaching, jump_to, name_at, code_at, slots_in, lines_in, assembly};
 ghost use Rattle.bpf_asm.specs.Marks.{IsSurvey};
 ghost use Rattle.bpf_asm.specs.Statements.{with_short};
@@ -277,4 +280,15 @@ fn assemble_exactly(alloc: Global, profile: Profile, text: &[u8]) -> Result<Vec<
 {
     let (marks, halves) = survey(alloc, profile, text)?;
     resolve(alloc, profile, text, &marks, &halves)
+}
+
+/// The instructions of a text, one a line, or the first bad line and its lowest fault. They are those that decoding can give.
+pub fn assemble(alloc: Global, profile: Profile, text: &[u8]) -> Result<Vec<Insn>, AsmError>
+    requires { length text.now < 2 ^ 31 }
+    ensures exact { Gives (λ v. v.items) result (assembly profile text.now) }
+    ensures well_formed { IfOk result (λ v. IsWellFormed v.items) }
+    ensures of_profile { IfOk result (λ v. IsOf profile v.items) }
+    ensures decodes { IfOk result (λ v. decoding profile (encoding v.items) ≡ Ok v.items) }
+{
+    assemble_exactly(alloc, profile, text)
 }

@@ -4,9 +4,11 @@
 mod assembler;
 mod error;
 mod form;
+mod listing;
 mod names;
 mod operand;
 mod statement;
 mod survey;
 
+pub use assembler::assemble;
 pub use error::AsmError;
