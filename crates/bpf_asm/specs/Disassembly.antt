@@ -100,13 +100,10 @@ words_of (insn.LoadSigned s dst src off) = signed_load_name s ∷ register_text 
 words_of (insn.MovSigned w bits dst src) = (codes "movsx" ++ width_name w) ∷ decimal bits ∷ register_text dst ∷ register_text src ∷ []
 words_of (insn.Swap o bits dst) = swap_name o ∷ decimal bits ∷ register_text dst ∷ []
 
--- the line of an instruction; a wide load's is that of its second half too
-abbrev pub texts_of : Insn → List (List ℕ)
-texts_of insn.Half = []
-texts_of x = spaced (words_of x) ∷ []
-
-unfoldable pub line_text : Insn → List ℕ
-line_text x = flat_map ended (texts_of x)
+-- the line of an instruction; a second half has none
+abbrev pub line_text : Insn → List ℕ
+line_text insn.Half = []
+line_text x = ended (spaced (words_of x))
 
 abbrev pub disassembly : List Insn → List ℕ
 disassembly insns = flat_map line_text insns
