@@ -1,5 +1,5 @@
 -- Decimal numbers without a sign or a leading zero.
-use Rattle.std.specs.Prelude.{◌≡◌, ℕ, ◌+◌, ◌-◌, ◌*◌, ◌≤◌, List, [], ◌∷◌, Bool, true, false, ◌&&◌, not, Option, Some, None, nat_le, ◌==◌, if◌then◌else◌}
+use Rattle.std.specs.Prelude.{◌≡◌, ℕ, ◌+◌, ◌-◌, ◌*◌, ◌≤◌, List, [], ◌∷◌, Bool, true, false, ◌&&◌, not, Option, Some, None, min, nat_le, ◌==◌, if◌then◌else◌}
 use Rattle.std.specs.Str.{all_ascii_digits}
 
 -- the number that decimal digits write behind those of n
@@ -20,3 +20,7 @@ is_decimal word = not (is_padded word) && all_ascii_digits word
 -- the number, where the word is one of at most `most`
 abbrev pub number_in : ℕ → List ℕ → Option ℕ
 number_in most word = if is_decimal word && nat_le (value_on 0 word) most then Some (value_on 0 word) else None
+
+-- the number that a well spelled word is, where `cap` stands for every larger one
+abbrev pub capped_in : ℕ → List ℕ → Option ℕ
+capped_in cap word = if is_decimal word then Some (min cap (value_on 0 word)) else None

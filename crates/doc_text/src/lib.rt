@@ -16,7 +16,7 @@ pub use fault::{Fault, or_fault};
 pub use hexadecimal::hex_bytes;
 pub use laws::{joined_is_read_back, read_is_joined};
 pub use lines::{fixed_due, line_due, piece_at, text_of};
-pub use numbers::{is_decimal, number};
+pub use numbers::{capped, is_decimal, number};
 pub use splits::{
     five_words, four_words, is_same, one_word, six_words, three_words, two_words, word_at,
 };

@@ -1,6 +1,6 @@
 ghost use Rattle.std.specs.Prelude.{◌≡◌, ◌+◌, ◌-◌, ◌*◌, ◌≤◌, ℕ, Some, IfSome, IsTrue, SomeIff, decimal};
 ghost use Rattle.std.specs.Char.{is_ascii_digit};
-ghost use Rattle.doc_text.specs.Numbers.{is_padded, is_decimal, number_in};
+ghost use Rattle.doc_text.specs.Numbers.{is_padded, is_decimal, number_in, capped_in};
 
 fn is_padded(word: &[u8]) -> bool
     ensures { result ≡ is_padded word.now }
@@ -67,4 +67,16 @@ pub fn number(most: u64, word: &[u8]) -> Option<u64>
     ensures only { (n : ℕ) → n ≤ most → word.now ≡ decimal n → result ≡ Some n }
 {
     bounded(most, word)
+}
+
+/// The decimal number that a word is, where `cap` stands for every larger one, so that a number out of range can be told
+/// from one that is badly spelled.
+pub fn capped(cap: u64, word: &[u8]) -> Option<u64>
+    ensures exact { result ≡ capped_in cap word.now }
+    ensures within { IfSome result (λ n. n ≤ cap) }
+{
+    if !is_decimal(word) {
+        return None;
+    }
+    Some(number(cap, word).unwrap_or(cap))
 }

@@ -51,6 +51,9 @@ fn a_number_has_no_sign_and_no_leading_zero(rt: HostRuntime) {
     assert_eq!(rt; number(u64::MAX, b"18446744073709551616"), None);
     assert_eq!(rt; number(1024, b"1025"), None);
     assert_eq!(rt; is_decimal(b"18446744073709551616"), true);
+    assert_eq!(rt; capped(64, b"63"), Some(63));
+    assert_eq!(rt; capped(64, b"18446744073709551616"), Some(64));
+    assert_eq!(rt; capped(64, b"063"), None);
     for word in [b"".as_slice(), b"00", b"07", b"-1", b"+1", b"1x", b"0x1"] {
         assert_eq!(rt; is_decimal(word), false);
         assert_eq!(rt; number(u64::MAX, word), None);

@@ -1,0 +1,9 @@
+pub mod Behind
+pub mod Surveying
+pub mod Resolving
+pub mod Sound
+pub mod SoundLines
+pub mod Formed
+pub mod NamesStand
+pub mod Brought
+pub mod WholeFormed

@@ -1,0 +1,307 @@
+//! Instructions as text, one a line, without names.
+ghost use Rattle.std.specs.Prelude.{◌≡◌, ◌++◌, ◌∷◌, [], ◌+◌, ◌<◌, ◌≤◌, codes, IfOk, OnOk, Ok, decimal};
+ghost use Rattle.bpf_isa.specs.declared.insn.Insn.TheVariants as insn;
+ghost use Rattle.bpf_isa.specs.declared.insn.Profile.TheVariants as profile;
+ghost use Rattle.bpf_isa.specs.WellFormed.{IsWellFormed};
+ghost use Rattle.bpf_asm.specs.Assembly.{assembly};
+ghost use Rattle.bpf_asm.specs.Disassembly.{operation_name, condition_name, width_name, load_name, signed_load_name, swap_name, register_text, number_text, source_text, wide_number, line_text, disassembly};
+ghost use Rattle.doc_text.specs.Text.{ended};
+ghost use Rattle.doc_text.specs.Words.{spaced};
+
+use bpf_isa::{AluOp, Cond, Insn, NoMemory, Operand, Order, Size, Width};
+use doc_text::push_decimal;
+use std::alloc::{AllocError, Global};
+
+fn operation(op: AluOp) -> &'static [u8]
+    ensures { result.now ≡ operation_name op }
+{
+    match op {
+        AluOp::Add => b"add",
+        AluOp::Sub => b"sub",
+        AluOp::Mul => b"mul",
+        AluOp::Div => b"div",
+        AluOp::Or => b"or",
+        AluOp::And => b"and",
+        AluOp::Lsh => b"lsh",
+        AluOp::Rsh => b"rsh",
+        AluOp::Mod => b"mod",
+        AluOp::Xor => b"xor",
+        AluOp::Mov => b"mov",
+        AluOp::Arsh => b"arsh",
+    }
+}
+
+fn condition(cond: Cond) -> &'static [u8]
+    ensures { result.now ≡ condition_name cond }
+{
+    match cond {
+        Cond::Eq => b"jeq",
+        Cond::Gt => b"jgt",
+        Cond::Ge => b"jge",
+        Cond::Set => b"jset",
+        Cond::Ne => b"jne",
+        Cond::Sgt => b"jsgt",
+        Cond::Sge => b"jsge",
+        Cond::Lt => b"jlt",
+        Cond::Le => b"jle",
+        Cond::Slt => b"jslt",
+        Cond::Sle => b"jsle",
+    }
+}
+
+fn width_digits(width: Width) -> &'static [u8]
+    ensures { result.now ≡ width_name width }
+{
+    match width {
+        Width::W32 => b"32",
+        Width::W64 => b"64",
+    }
+}
+
+fn load(size: Size) -> &'static [u8]
+    ensures { result.now ≡ load_name size }
+{
+    match size {
+        Size::B => b"ldb",
+        Size::H => b"ldh",
+        Size::W => b"ldw",
+        Size::DW => b"lddw",
+    }
+}
+
+fn signed_load(size: Size) -> &'static [u8]
+    ensures { result.now ≡ signed_load_name size }
+{
+    match size {
+        Size::B => b"ldsb",
+        Size::H => b"ldsh",
+        Size::W => b"ldsw",
+        Size::DW => b"ldsdw",
+    }
+}
+
+fn swap(order: Order) -> &'static [u8]
+    ensures { result.now ≡ swap_name order }
+{
+    match order {
+        Order::Little => b"le",
+        Order::Big => b"be",
+        Order::Swap => b"swap",
+    }
+}
+
+fn push_sized(out: &mut Vec<u8>, name: &[u8], width: Width) -> Result<(), AllocError>
+    ensures { OnOk result (out.new.items ≡ out.old.items ++ (name.now ++ width_name width)) }
+{
+    out.extend_from_slice(name)?;
+    out.extend_from_slice(width_digits(width))?;
+    Ok(())
+}
+
+fn push_natural(out: &mut Vec<u8>, n: u64) -> Result<(), AllocError>
+    ensures { OnOk result (out.new.items ≡ out.old.items ++ 32 ∷ decimal n) }
+{
+    out.push(b' ')?;
+    push_decimal(out, n)?;
+    Ok(())
+}
+
+fn push_register(out: &mut Vec<u8>, register: u8) -> Result<(), AllocError>
+    ensures { OnOk result (out.new.items ≡ out.old.items ++ 32 ∷ register_text register) }
+{
+    out.push(b' ')?;
+    out.push(b'r')?;
+    push_decimal(out, u64::from(register))?;
+    Ok(())
+}
+
+fn push_number(out: &mut Vec<u8>, n: i32) -> Result<(), AllocError>
+    ensures { OnOk result (out.new.items ≡ out.old.items ++ 32 ∷ number_text n) }
+{
+    out.push(b' ')?;
+    if n < 0 {
+        out.push(b'-')?;
+    }
+    push_decimal(out, u64::from(n.unsigned_abs()))?;
+    Ok(())
+}
+
+fn push_source(out: &mut Vec<u8>, src: Operand) -> Result<(), AllocError>
+    ensures { OnOk result (out.new.items ≡ out.old.items ++ 32 ∷ source_text src) }
+{
+    match src {
+        Operand::Reg(register) => push_register(out, register),
+        Operand::Imm(n) => push_number(out, n),
+    }
+}
+
+/// The number of 64 bits that two halves make, both without a sign.
+fn whole(low: i32, high: i32) -> u64
+    ensures { result ≡ wide_number low high }
+{
+    u64::from(high.cast_unsigned()) * 0x1_0000_0000 + u64::from(low.cast_unsigned())
+}
+
+fn end_line(out: &mut Vec<u8>) -> Result<(), AllocError>
+    ensures { OnOk result (out.new.items ≡ out.old.items ++ 10 ∷ []) }
+{
+    out.push(b'\n')?;
+    Ok(())
+}
+
+fn push_alu(
+    out: &mut Vec<u8>,
+    width: Width,
+    op: AluOp,
+    dst: u8,
+    src: Operand,
+) -> Result<(), AllocError>
+    ensures { OnOk result (out.new.items ≡ out.old.items ++ line_text (insn.Alu width op dst src)) }
+{
+    push_sized(out, operation(op), width)?;
+    push_register(out, dst)?;
+    push_source(out, src)?;
+    end_line(out)
+}
+
+fn push_neg(out: &mut Vec<u8>, width: Width, dst: u8) -> Result<(), AllocError>
+    ensures { OnOk result (out.new.items ≡ out.old.items ++ line_text (insn.Neg width dst)) }
+{
+    push_sized(out, b"neg", width)?;
+    push_register(out, dst)?;
+    end_line(out)
+}
+
+fn push_load(out: &mut Vec<u8>, name: &[u8], dst: u8, src: u8, off: i16) -> Result<(), AllocError>
+    ensures { OnOk result (out.new.items ≡ out.old.items
+        ++ ended (spaced (name.now ∷ register_text dst ∷ register_text src ∷ number_text off ∷ []))) }
+{
+    out.extend_from_slice(name)?;
+    push_register(out, dst)?;
+    push_register(out, src)?;
+    push_number(out, i32::from(off))?;
+    end_line(out)
+}
+
+fn push_wide(out: &mut Vec<u8>, dst: u8, low: i32, high: i32) -> Result<(), AllocError>
+    ensures { OnOk result (out.new.items ≡ out.old.items ++ line_text (insn.Wide dst low high)) }
+{
+    out.extend_from_slice(b"wide")?;
+    push_register(out, dst)?;
+    push_natural(out, whole(low, high))?;
+    end_line(out)
+}
+
+fn push_goto(out: &mut Vec<u8>, name: &[u8], off: i32) -> Result<(), AllocError>
+    ensures { OnOk result (out.new.items ≡ out.old.items ++ ended (spaced (name.now ∷ number_text off ∷ []))) }
+{
+    out.extend_from_slice(name)?;
+    push_number(out, off)?;
+    end_line(out)
+}
+
+fn push_jump(
+    out: &mut Vec<u8>,
+    width: Width,
+    cond: Cond,
+    dst: u8,
+    src: Operand,
+    off: i16,
+) -> Result<(), AllocError>
+    ensures { OnOk result (out.new.items ≡ out.old.items ++ line_text (insn.Jump width cond dst src off)) }
+{
+    push_sized(out, condition(cond), width)?;
+    push_register(out, dst)?;
+    push_source(out, src)?;
+    push_number(out, i32::from(off))?;
+    end_line(out)
+}
+
+fn push_exit(out: &mut Vec<u8>) -> Result<(), AllocError>
+    ensures { OnOk result (out.new.items ≡ out.old.items ++ line_text insn.Exit) }
+{
+    out.extend_from_slice(b"exit")?;
+    end_line(out)
+}
+
+fn push_mov_signed(
+    out: &mut Vec<u8>,
+    width: Width,
+    bits: u8,
+    dst: u8,
+    src: u8,
+) -> Result<(), AllocError>
+    ensures { OnOk result (out.new.items ≡ out.old.items ++ line_text (insn.MovSigned width bits dst src)) }
+{
+    push_sized(out, b"movsx", width)?;
+    push_natural(out, u64::from(bits))?;
+    push_register(out, dst)?;
+    push_register(out, src)?;
+    end_line(out)
+}
+
+fn push_swap(out: &mut Vec<u8>, order: Order, bits: u8, dst: u8) -> Result<(), AllocError>
+    ensures { OnOk result (out.new.items ≡ out.old.items ++ line_text (insn.Swap order bits dst)) }
+{
+    out.extend_from_slice(swap(order))?;
+    push_natural(out, u64::from(bits))?;
+    push_register(out, dst)?;
+    end_line(out)
+}
+
+/// Writes the line of an instruction; a second half has none.
+fn push_insn(out: &mut Vec<u8>, insn: Insn) -> Result<(), AllocError>
+    ensures { OnOk result (out.new.items ≡ out.old.items ++ line_text insn) }
+{
+    match insn {
+        Insn::Alu {
+            width,
+            op,
+            dst,
+            src,
+        } => push_alu(out, width, op, dst, src),
+        Insn::Neg { width, dst } => push_neg(out, width, dst),
+        Insn::Load {
+            size,
+            dst,
+            src,
+            off,
+        } => push_load(out, load(size), dst, src, off),
+        Insn::Wide { dst, low, high } => push_wide(out, dst, low, high),
+        Insn::Half => Ok(()),
+        Insn::Goto { off } => push_goto(out, b"ja", i32::from(off)),
+        Insn::GotoLong { off } => push_goto(out, b"jal", off),
+        Insn::Jump {
+            width,
+            cond,
+            dst,
+            src,
+            off,
+        } => push_jump(out, width, cond, dst, src, off),
+        Insn::Exit => push_exit(out),
+        Insn::LoadSigned {
+            size,
+            dst,
+            src,
+            off,
+        } => push_load(out, signed_load(size), dst, src, off),
+        Insn::MovSigned {
+            width,
+            bits,
+            dst,
+            src,
+        } => push_mov_signed(out, width, bits, dst, src),
+        Insn::Swap { order, bits, dst } => push_swap(out, order, bits, dst),
+    }
+}
+
+/// The text of instructions, without the law about it.
+fn list_exactly(alloc: Global, insns: &[Insn]) -> Result<Vec<u8>, NoMemory>
+    ensures { IfOk result (λ v. v.items ≡ disassembly insns.now) }
+{
+    let mut out = Vec::new(alloc);
+    for insn in insns {
+        push_insn(&mut out, *insn)?;
+    }
+    Ok(out)
+}

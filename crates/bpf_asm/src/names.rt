@@ -1,0 +1,39 @@
+//! The names that a text declares, each with the first line that has it and the slot behind.
+ghost use Rattle.std.specs.Prelude.{◌≡◌, ◌^◌, ◌<◌, ℕ, List, Some, OnOk, if◌then◌else◌};
+ghost use Rattle.bpf_asm.specs.Marks.{mark_in, first_mark};
+ghost use Rattle.doc_text.specs.Words.{same};
+
+use std::alloc::{AllocError, Global};
+use std::collections::BTreeMap;
+
+/// Where a name stands: the line that declares it, counted from 1, and the slot behind it.
+#[derive(Clone, Copy, Debug, PartialEq, Eq)]
+pub struct Mark {
+    pub line: u32,
+    pub slot: u32,
+}
+
+/// The mark of a name.
+pub fn mark_named(marks: &BTreeMap<&[u8], Mark>, name: &[u8]) -> Option<Mark>
+    ensures { result ≡ mark_in marks.now name.now }
+{
+    marks.get(name).copied()
+}
+
+/// Notes a name, unless it stands there already.
+pub fn note_name<'a>(
+    marks: &mut BTreeMap<&'a [u8], Mark>,
+    name: &'a [u8],
+    mark: Mark,
+) -> Result<(), AllocError>
+    ensures { OnOk result ((other : List ℕ) → mark_in marks.new other
+        ≡ first_mark (mark_in marks.old other) (same name.now other) mark) }
+{
+    match mark_named(marks, name) {
+        Some(_) => Ok(()),
+        None => {
+            marks.insert(name, mark)?;
+            Ok(())
+        }
+    }
+}

@@ -1,0 +1,9 @@
+pub mod Operands
+pub mod Flow
+pub mod Slots
+pub mod Faults
+pub mod Checks
+pub mod Table
+pub mod Decoding
+pub mod Encoding
+pub mod WellFormed
