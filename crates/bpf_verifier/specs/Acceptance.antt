@@ -4,11 +4,11 @@ use Rattle.bpf_isa.specs.declared.insn.Insn.{Insn}
 use Rattle.bpf_isa.specs.WellFormed.{IsWellFormed}
 use Rattle.bpf_verifier.specs.declared.refusal.Refusal.{Refusal}
 use Rattle.bpf_verifier.specs.declared.refusal.Refusal.TheVariants.{Back, OutOfProgram, NoValue, PointerUse, BadLoad, NoMemory}
-use Rattle.bpf_verifier.specs.Faults.{HasFault, IsFirst}
+use Rattle.bpf_verifier.specs.Faults.{HasFault, HasNone, IsFirst}
 
 -- no fault at all
 abbrev pub IsAccepted : List Insn → Type 0
-IsAccepted insns = (fault : Refusal) → ¬ (HasFault insns fault)
+IsAccepted insns = HasNone (HasFault insns)
 
 -- the first fault; want of memory says nothing of the program
 abbrev pub IsRefusal : List Insn → Refusal → Type 0

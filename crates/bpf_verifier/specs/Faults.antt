@@ -34,7 +34,8 @@ pub record UsesPointer (insns : List Insn) (slot reg : ℕ) : Type 0 where
 -- a load whose base is a number, or that reads outside the context
 pub record LoadsBadly (insns : List Insn) (slot : ℕ) : Type 0 where
   pub reached : IsReached insns slot
-  pub bad : ((base : ℕ) × (base_of (insn_at insns slot) ≡ Some base) × HasKind insns slot base Number) ⊎ (loads_outside (insn_at insns slot) ≡ true)
+  pub bad : ((base : ℕ) × (base_of (insn_at insns slot) ≡ Some base) × HasKind insns slot base Number)
+    ⊎ (loads_outside (insn_at insns slot) ≡ true)
 
 -- the program has this fault; those of edges are faults in slots that nothing reaches too
 abbrev pub HasFault : List Insn → Refusal → Type 0
@@ -72,6 +73,10 @@ abbrev pub ComesBefore : Refusal → Refusal → Type 0
 ComesBefore a b =
     (slot_of a < slot_of b) ⊎ ((slot_of a ≡ slot_of b) × (number_of a < number_of b))
     ⊎ ((slot_of a ≡ slot_of b) × (number_of a ≡ number_of b) × (register_of a < register_of b))
+
+-- none of some faults
+abbrev pub HasNone : (Refusal → Type 0) → Type 0
+HasNone Fault = (fault : Refusal) → ¬ (Fault fault)
 
 -- the first of some faults
 abbrev pub IsFirst : (Refusal → Type 0) → Refusal → Type 0

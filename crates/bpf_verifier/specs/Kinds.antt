@@ -10,6 +10,7 @@ use Rattle.bpf_isa.specs.declared.insn.Operand.TheVariants.{Reg, Imm}
 use Rattle.bpf_isa.specs.Operands.{written, byte_count}
 use Rattle.bpf_isa.specs.declared.insn.Insn.{Insn}
 use Rattle.bpf_isa.specs.declared.insn.Insn.TheVariants.{Alu, Load, LoadSigned}
+use Rattle.bpf_verifier.specs.declared.kind.TheConstants.{CONTEXT_BYTES}
 use Rattle.bpf_verifier.specs.declared.kind.Kind.{Kind}
 use Rattle.bpf_verifier.specs.declared.kind.Kind.TheVariants.{Absent, Number, Context}
 
@@ -61,9 +62,9 @@ base_of (Load size dst src off) = Some src
 base_of (LoadSigned size dst src off) = Some src
 base_of _ = None
 
--- aligned, and within the 40 bytes of the context
+-- aligned, and within the context
 abbrev pub is_in_context : Size → ℤ → Bool
-is_in_context size (pos off) = (off % byte_count size == 0) && nat_le (off + byte_count size) 40
+is_in_context size (pos off) = (off % byte_count size == 0) && nat_le (off + byte_count size) CONTEXT_BYTES
 is_in_context size (negsuc off) = false
 
 -- a load from any other place

@@ -1,6 +1,7 @@
 -- What one pass over the slots keeps and finds.
 use Rattle.std.specs.Prelude.{◌≡◌, ◌≢◌, ◌<◌, ◌⊎◌, ℕ, ℤ, pos, ◌+◌, List, length, Option, Some, None, true, false, slice_index_or}
 use Rattle.bpf_isa.specs.declared.insn.Insn.{Insn}
+use Rattle.bpf_verifier.specs.declared.kind.TheConstants.{REGISTERS}
 use Rattle.bpf_verifier.specs.declared.kind.Kind.{Kind}
 use Rattle.bpf_verifier.specs.declared.kind.Kind.TheVariants.{Absent, Number, Context}
 use Rattle.bpf_verifier.specs.declared.refusal.Refusal.{Refusal}
@@ -43,8 +44,8 @@ meet Context Context = Context
 meet _ _ = Absent
 
 pub record IsMeet (a b met : List Kind) : Type 0 where
-  pub long : length met ≡ 10
-  pub each : (reg : ℕ) → reg < 10 → kind_at met reg ≡ meet (kind_at a reg) (kind_at b reg)
+  pub long : length met ≡ REGISTERS
+  pub each : (reg : ℕ) → reg < REGISTERS → kind_at met reg ≡ meet (kind_at a reg) (kind_at b reg)
 
 -- a state with one more list of kinds
 abbrev pub Joins : Option (List Kind) → List Kind → Option (List Kind) → Type 0

@@ -1,8 +1,7 @@
 //! Where an instruction leads, and the faults of its edges.
 
 ghost use Rattle.std.specs.Prelude.{◌≡◌, ◌<◌, ◌≤◌, ◌↔◌, ◌+◌, ◌^◌, ◌+ℤ◌, pos, ℕ, Some, None, MatchOption, IfNone, IfSome, IsTrue};
-ghost use Rattle.bpf_verifier.specs.declared.refusal.Refusal.{Refusal};
-ghost use Rattle.bpf_verifier.specs.Faults.{JumpsBack, LeavesProgram, IsFirst};
+ghost use Rattle.bpf_verifier.specs.Faults.{JumpsBack, LeavesProgram, HasNone, IsFirst};
 ghost use Rattle.bpf_verifier.specs.Pass.{next_of, IsTarget, EdgeFault};
 
 use crate::refusal::Refusal;
@@ -68,7 +67,7 @@ fn leads_out(insn: Insn, slot: usize, count: usize) -> bool
 /// The first fault of the slot's edges, in a program of so many slots.
 pub fn edge_fault(insn: Insn, slot: usize, count: usize) -> Option<Refusal>
     requires { slot < 512 }
-    ensures none { IfNone result ((fault : Refusal) → EdgeFault insn slot count fault → ⊥) }
+    ensures none { IfNone result (HasNone (EdgeFault insn slot count)) }
     ensures first { IfSome result (IsFirst (EdgeFault insn slot count)) }
 {
     if jumps_back(insn, slot) {

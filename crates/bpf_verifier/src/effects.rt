@@ -4,7 +4,7 @@ ghost use Rattle.std.specs.Prelude.{◌≡◌, ◌<◌, List, length, IsTrue};
 ghost use Rattle.bpf_isa.specs.WellFormed.{HasFields};
 ghost use Rattle.bpf_verifier.specs.Kinds.{is_move, moves_whole, takes_pointer, copied, result_kind, kinds_after, is_in_context, base_of, loads_outside};
 
-use crate::kind::Kind;
+use crate::kind::{CONTEXT_BYTES, Kind, REGISTERS};
 use bpf_isa::{AluOp, Insn, Operand, Size, Width};
 
 fn is_mov(op: AluOp) -> bool
@@ -47,7 +47,7 @@ fn copy_of(kind: Kind) -> Kind
     }
 }
 
-fn kind_of_result(insn: Insn, kinds: &[Kind; 10]) -> Kind
+fn kind_of_result(insn: Insn, kinds: &[Kind; REGISTERS]) -> Kind
     requires { HasFields insn }
     ensures { result ≡ result_kind insn kinds.now }
 {
@@ -69,7 +69,7 @@ fn kind_of_result(insn: Insn, kinds: &[Kind; 10]) -> Kind
 }
 
 /// Makes of the kinds before an instruction those behind it.
-pub fn run_kinds(insn: Insn, kinds: &mut [Kind; 10])
+pub fn run_kinds(insn: Insn, kinds: &mut [Kind; REGISTERS])
     requires { HasFields insn }
     ensures { kinds.new ≡ kinds_after insn kinds.old }
 {
@@ -85,9 +85,9 @@ fn lies_in_context(size: Size, off: i16) -> bool
     if off < 0 {
         return false;
     }
-    let off = off as u32;
-    let bytes = u32::from(size.bytes());
-    off % bytes == 0 && off + bytes <= 40
+    let start = off as usize;
+    let bytes = usize::from(size.bytes());
+    start % bytes == 0 && start + bytes <= CONTEXT_BYTES
 }
 
 /// The base register of a load.

@@ -13,7 +13,7 @@ mod safety;
 mod states;
 
 pub use accept::verify;
-pub use kind::Kind;
+pub use kind::{CONTEXT_BYTES, Kind, REGISTERS};
 pub use program::Program;
 pub use refusal::{NoMemory, Refusal};
 pub use safety::accepted_runs_safely;

@@ -2,9 +2,8 @@
 
 ghost use Rattle.std.specs.Prelude.{◌≡◌, ◌<◌, ◌≤◌, ◌^◌, ℕ, Some, None, length, All, IfNone, IfSome};
 ghost use Rattle.bpf_isa.specs.WellFormed.{HasFields, IsWellFormed};
-ghost use Rattle.bpf_verifier.specs.declared.refusal.Refusal.{Refusal};
 ghost use Rattle.bpf_verifier.specs.Kinds.{kinds_at_start};
-ghost use Rattle.bpf_verifier.specs.Faults.{HasFault, IsFirst};
+ghost use Rattle.bpf_verifier.specs.Faults.{HasFault, HasNone, IsFirst};
 ghost use Rattle.bpf_verifier.specs.Acceptance.{IsAccepted};
 ghost use Rattle.bpf_verifier.specs.Pass.{SlotFault, Visits, state_at};
 
@@ -21,8 +20,12 @@ fn visit(insn: Insn, slot: usize, states: &mut [State]) -> Option<Refusal>
     requires slot { slot < 512 }
     requires inside { slot < length states.old }
     ensures length { length states.new ≡ length states.old }
-    ensures first { IfSome result (IsFirst (SlotFault insn slot (length states.old) (state_at states.old slot))) }
-    ensures faultless { IfNone result ((fault : Refusal) → SlotFault insn slot (length states.old) (state_at states.old slot) fault → ⊥) }
+    ensures first {
+        IfSome result (IsFirst (SlotFault insn slot (length states.old) (state_at states.old slot)))
+    }
+    ensures faultless {
+        IfNone result (HasNone (SlotFault insn slot (length states.old) (state_at states.old slot)))
+    }
     ensures visits { IfNone result (Visits insn slot (state_at states.old slot) states.old states.new) }
 {
     let fault = edge_fault(insn, slot, states.len());

@@ -1,6 +1,6 @@
 //! Programs that the verifier accepted.
 
-ghost use Rattle.std.specs.Prelude.{◌≡◌, ◌↔◌, length, IfOk, IsTrue};
+ghost use Rattle.std.specs.Prelude.{◌≡◌, length, IfOk};
 
 use crate::refusal::NoMemory;
 use bpf_isa::Insn;

@@ -3,13 +3,12 @@
 ghost use Rattle.std.specs.Prelude.{◌≡◌, ◌≢◌, ◌<◌, ◌↔◌, ◌^◌, ℕ, true, IfNone, IfSome, IsTrue};
 ghost use Rattle.bpf_isa.specs.Operands.{reads};
 ghost use Rattle.bpf_isa.specs.WellFormed.{HasFields};
-ghost use Rattle.bpf_verifier.specs.declared.refusal.Refusal.{Refusal};
 ghost use Rattle.bpf_verifier.specs.Kinds.{kind_at};
-ghost use Rattle.bpf_verifier.specs.Faults.{IsFirst};
+ghost use Rattle.bpf_verifier.specs.Faults.{HasNone, IsFirst};
 ghost use Rattle.bpf_verifier.specs.Pass.{IsBadLoad, KindFault, IsLowestRead};
 
 use crate::effects::{base_register, is_load_outside, may_take_pointer};
-use crate::kind::Kind;
+use crate::kind::{Kind, REGISTERS};
 use crate::refusal::Refusal;
 use bpf_isa::Insn;
 
@@ -23,12 +22,14 @@ fn is_kind(a: Kind, b: Kind) -> bool
 }
 
 /// The lowest register of this kind that the instruction reads.
-fn lowest_read(insn: Insn, kinds: &[Kind; 10], kind: Kind) -> Option<u8>
+fn lowest_read(insn: Insn, kinds: &[Kind; REGISTERS], kind: Kind) -> Option<u8>
     requires { HasFields insn }
-    ensures none { IfNone result ((reg : ℕ) → reads insn reg ≡ true → kind_at kinds.now reg ≢ kind) }
+    ensures none {
+        IfNone result ((reg : ℕ) → reads insn reg ≡ true → kind_at kinds.now reg ≢ kind)
+    }
     ensures lowest { IfSome result (IsLowestRead insn kinds.now kind) }
 {
-    for reg in 0..10u8 {
+    for reg in 0..REGISTERS as u8 {
         if insn.reads(reg) && is_kind(kinds[reg as usize], kind) {
             return Some(reg);
         }
@@ -36,7 +37,7 @@ fn lowest_read(insn: Insn, kinds: &[Kind; 10], kind: Kind) -> Option<u8>
     None
 }
 
-fn is_bad_load(insn: Insn, kinds: &[Kind; 10]) -> bool
+fn is_bad_load(insn: Insn, kinds: &[Kind; REGISTERS]) -> bool
     requires { HasFields insn }
     ensures { IsTrue result ↔ IsBadLoad insn kinds.now }
 {
@@ -47,10 +48,10 @@ fn is_bad_load(insn: Insn, kinds: &[Kind; 10]) -> bool
 }
 
 /// The first fault that the kinds show.
-pub fn kind_fault(insn: Insn, slot: usize, kinds: &[Kind; 10]) -> Option<Refusal>
+pub fn kind_fault(insn: Insn, slot: usize, kinds: &[Kind; REGISTERS]) -> Option<Refusal>
     requires slot { slot < 512 }
     requires registers { HasFields insn }
-    ensures none { IfNone result ((fault : Refusal) → KindFault insn slot kinds.now fault → ⊥) }
+    ensures none { IfNone result (HasNone (KindFault insn slot kinds.now)) }
     ensures first { IfSome result (IsFirst (KindFault insn slot kinds.now)) }
 {
     if let Some(reg) = lowest_read(insn, kinds, Kind::Absent) {

@@ -1,5 +1,8 @@
 //! Why a program is refused.
 
+use std::error::Error;
+use std::fmt;
+
 /// Memory was wanted and not found.
 #[derive(Clone, Copy, Debug, PartialEq, Eq)]
 pub struct NoMemory;
@@ -20,3 +23,26 @@ pub enum Refusal {
     /// Memory was wanted and not found, which says nothing of the program.
     NoMemory,
 }
+
+impl fmt::Display for Refusal {
+    fn fmt<W: fmt::Write>(&self, f: &mut fmt::Formatter<W>) -> fmt::Result {
+        match *self {
+            Refusal::Back { slot } => write!(f, "the jump in slot {slot} doesn't lead forward"),
+            Refusal::OutOfProgram { slot } => write!(f, "slot {slot} leads out of the program"),
+            Refusal::NoValue { slot, reg } => write!(f, "slot {slot} reads register {reg}, which has no value"),
+            Refusal::PointerUse { slot, reg } => write!(f, "slot {slot} reads the pointer in register {reg} as a number"),
+            Refusal::BadLoad { slot } => write!(f, "the load in slot {slot} doesn't read the context"),
+            Refusal::NoMemory => f.write_str("out of memory"),
+        }
+    }
+}
+
+impl Error for Refusal {}
+
+impl fmt::Display for NoMemory {
+    fn fmt<W: fmt::Write>(&self, f: &mut fmt::Formatter<W>) -> fmt::Result {
+        f.write_str("out of memory")
+    }
+}
+
+impl Error for NoMemory {}

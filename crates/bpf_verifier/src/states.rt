@@ -5,11 +5,11 @@ ghost use Rattle.bpf_verifier.specs.Faults.{JumpsBack, LeavesProgram};
 ghost use Rattle.bpf_verifier.specs.Pass.{meet, IsMeet, Joins, JoinsAt, HandsOn, state_at};
 
 use crate::edges::{forward_target, next_slot};
-use crate::kind::Kind;
+use crate::kind::{Kind, REGISTERS};
 use bpf_isa::Insn;
 
 /// The kinds on which all paths so far agree, where there is one.
-pub type State = Option<[Kind; 10]>;
+pub type State = Option<[Kind; REGISTERS]>;
 
 fn agreed(a: Kind, b: Kind) -> Kind
     ensures { result ≡ meet a b }
@@ -21,19 +21,21 @@ fn agreed(a: Kind, b: Kind) -> Kind
     }
 }
 
-fn agree(old: &mut [Kind; 10], new: &[Kind; 10])
+fn agree(old: &mut [Kind; REGISTERS], new: &[Kind; REGISTERS])
     ensures { IsMeet old.old new.now old.new }
 {
-    for reg in 0..10 {
+    for reg in 0..REGISTERS {
         old[reg] = agreed(old[reg], new[reg]);
     }
 }
 
-fn join(states: &mut [State], slot: usize, kinds: &[Kind; 10])
+fn join(states: &mut [State], slot: usize, kinds: &[Kind; REGISTERS])
     requires { slot < length states.old }
     ensures length { length states.new ≡ length states.old }
     ensures here { Joins (state_at states.old slot) kinds.now (state_at states.new slot) }
-    ensures others { (other : ℕ) → other ≢ slot → state_at states.new other ≡ state_at states.old other }
+    ensures others {
+        (other : ℕ) → other ≢ slot → state_at states.new other ≡ state_at states.old other
+    }
 {
     match states[slot] {
         None => states[slot] = Some(*kinds),
@@ -45,10 +47,12 @@ fn join(states: &mut [State], slot: usize, kinds: &[Kind; 10])
     }
 }
 
-fn join_at(states: &mut [State], to: Option<usize>, kinds: &[Kind; 10])
+fn join_at(states: &mut [State], to: Option<usize>, kinds: &[Kind; REGISTERS])
     requires { IfSome to (λ slot. slot < length states.old) }
     ensures length { length states.new ≡ length states.old }
-    ensures each { (slot : ℕ) → JoinsAt to kinds.now slot (state_at states.old slot) (state_at states.new slot) }
+    ensures each {
+        (slot : ℕ) → JoinsAt to kinds.now slot (state_at states.old slot) (state_at states.new slot)
+    }
 {
     if let Some(slot) = to {
         join(states, slot, kinds);
@@ -56,12 +60,14 @@ fn join_at(states: &mut [State], to: Option<usize>, kinds: &[Kind; 10])
 }
 
 /// Hands the kinds behind an instruction to the slots that it leads to.
-pub fn hand_on(insn: Insn, slot: usize, states: &mut [State], kinds: &[Kind; 10])
+pub fn hand_on(insn: Insn, slot: usize, states: &mut [State], kinds: &[Kind; REGISTERS])
     requires slot { slot < 512 }
     requires forward { JumpsBack insn slot → ⊥ }
     requires inside { LeavesProgram insn slot (length states.old) → ⊥ }
     ensures length { length states.new ≡ length states.old }
-    ensures each { (to : ℕ) → HandsOn insn slot kinds.now to (state_at states.old to) (state_at states.new to) }
+    ensures each {
+        (to : ℕ) → HandsOn insn slot kinds.now to (state_at states.old to) (state_at states.new to)
+    }
 {
     let next = next_slot(insn, slot);
     let target = forward_target(insn, slot);
