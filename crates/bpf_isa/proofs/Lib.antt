@@ -1,2 +1,14 @@
 pub mod Halves
 pub mod SlotLoop
+pub mod Codes
+pub mod Inverse
+pub mod InverseTable
+pub mod SlotBytes
+pub mod Facts
+pub mod Decoded
+pub mod RoundTrip
+pub mod TableAgain
+pub mod Raws
+pub mod EncodedAgain
+pub mod DecodedAgain
+pub mod InsnAt
