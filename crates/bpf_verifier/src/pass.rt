@@ -20,12 +20,8 @@ fn visit(insn: Insn, slot: usize, states: &mut [State]) -> Option<Refusal>
     requires slot { slot < 512 }
     requires inside { slot < length states.old }
     ensures length { length states.new ≡ length states.old }
-    ensures first {
-        IfSome result (IsFirst (SlotFault insn slot (length states.old) (state_at states.old slot)))
-    }
-    ensures faultless {
-        IfNone result (HasNone (SlotFault insn slot (length states.old) (state_at states.old slot)))
-    }
+    ensures first { IfSome result (IsFirst (SlotFault insn slot (length states.old) (state_at states.old slot))) }
+    ensures faultless { IfNone result (HasNone (SlotFault insn slot (length states.old) (state_at states.old slot))) }
     ensures visits { IfNone result (Visits insn slot (state_at states.old slot) states.old states.new) }
 {
     let fault = edge_fault(insn, slot, states.len());

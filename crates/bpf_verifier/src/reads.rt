@@ -24,9 +24,7 @@ fn is_kind(a: Kind, b: Kind) -> bool
 /// The lowest register of this kind that the instruction reads.
 fn lowest_read(insn: Insn, kinds: &[Kind; REGISTERS], kind: Kind) -> Option<u8>
     requires { HasFields insn }
-    ensures none {
-        IfNone result ((reg : ℕ) → reads insn reg ≡ true → kind_at kinds.now reg ≢ kind)
-    }
+    ensures none { IfNone result ((reg : ℕ) → reads insn reg ≡ true → kind_at kinds.now reg ≢ kind) }
     ensures lowest { IfSome result (IsLowestRead insn kinds.now kind) }
 {
     for reg in 0..REGISTERS as u8 {
