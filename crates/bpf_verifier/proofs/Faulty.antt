@@ -1,5 +1,5 @@
 -- The faults that a slot's state shows are exactly those that the slot has.
-use Rattle.std.proofs.Common.{◌≡◌, ◌≢◌, ◌⊎◌, inl, inr, ℕ, ◌+◌, ◌<◌, ◌≤◌, List, [], ◌∷◌, length, Option, Some, None, true, false, eqb, refl, sym, ap, ◌∙◌, subst, arith}
+use Rattle.std.proofs.Common.{◌≡◌, ◌≢◌, ◌⊎◌, inl, inr, ℕ, ◌<◌, List, ◌∷◌, length, Option, Some, None, true, eqb, refl, sym, ap, ◌∙◌, subst, arith}
 use Rattle.std.proofs.lemmas.Bool.Decides.{nat_tests}
 use Rattle.bpf_isa.specs.declared.insn.Insn.{Insn}
 use Rattle.bpf_isa.specs.declared.insn.Insn.TheVariants.{Alu, Neg, Load, Wide, Half, Goto, GotoLong, Jump, Exit, LoadSigned, MovSigned, Swap}
@@ -11,7 +11,7 @@ use Rattle.bpf_verifier.specs.declared.kind.Kind.TheVariants.{Absent, Number, Co
 use Rattle.bpf_verifier.specs.declared.refusal.Refusal.{Refusal}
 use Rattle.bpf_verifier.specs.declared.refusal.Refusal.TheVariants.{Back, OutOfProgram, NoValue, PointerUse, BadLoad, NoMemory}
 use Rattle.bpf_verifier.specs.Kinds.{kind_at, base_of, loads_outside}
-use Rattle.bpf_verifier.specs.Paths.{IsPath, kinds_along, IsReached, HasKind}
+use Rattle.bpf_verifier.specs.Paths.{kinds_along, IsReached, HasKind}
 use Rattle.bpf_verifier.specs.Faults.{JumpsBack, LeavesProgram, ReadsNoValue, UsesPointer, LoadsBadly, HasFault, slot_of}
 use Rattle.bpf_verifier.specs.Pass.{EdgeFault, KindFault, SlotFault}
 use Rattle.bpf_verifier.proofs.Summary.{SumsUp, IsState}

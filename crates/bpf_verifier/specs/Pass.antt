@@ -5,7 +5,7 @@ use Rattle.bpf_verifier.specs.declared.kind.TheConstants.{REGISTERS}
 use Rattle.bpf_verifier.specs.declared.kind.Kind.{Kind}
 use Rattle.bpf_verifier.specs.declared.kind.Kind.TheVariants.{Absent, Number, Context}
 use Rattle.bpf_verifier.specs.declared.refusal.Refusal.{Refusal}
-use Rattle.bpf_verifier.specs.declared.refusal.Refusal.TheVariants.{Back, OutOfProgram, NoValue, PointerUse, BadLoad, NoMemory}
+use Rattle.bpf_verifier.specs.declared.refusal.Refusal.TheVariants.{Back, OutOfProgram, NoValue, PointerUse, BadLoad}
 use Rattle.bpf_isa.specs.declared.insn.Insn.TheVariants.{Alu, Neg, Load, Wide, Half, Goto, GotoLong, Jump, Exit, LoadSigned, MovSigned, Swap}
 use Rattle.bpf_isa.specs.Flow.{jump_offset, target}
 use Rattle.bpf_isa.specs.Operands.{reads}

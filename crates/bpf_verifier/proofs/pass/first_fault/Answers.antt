@@ -1,13 +1,12 @@
-use Rattle.std.proofs.Common.{◌≡◌, ◌<◌, ◌≤◌, ◌+◌, ℕ, length, get_or, Option, List, Some, refl, sym, ap, ◌∙◌, subst, arith}
+use Rattle.std.proofs.Common.{ℕ, length, ◌∙◌, subst, arith}
 use Rattle.std.proofs.lemmas.List.{get_or_default}
 use Rattle.bpf_isa.specs.declared.insn.Insn.{Insn}
 use Rattle.bpf_isa.specs.Flow.{insn_at}
 use Rattle.bpf_isa.specs.WellFormed.{HasFields}
-use Rattle.bpf_verifier.specs.declared.kind.Kind.{Kind}
 use Rattle.bpf_verifier.specs.declared.refusal.Refusal.{Refusal}
-use Rattle.bpf_verifier.specs.Faults.{HasFault, IsFirst, slot_of}
+use Rattle.bpf_verifier.specs.Faults.{IsFirst}
 use Rattle.bpf_verifier.specs.Pass.{SlotFault, HandsAllOn, state_at}
-use Rattle.bpf_verifier.proofs.Forward.{begins, settled, Faultless, advances, none_below_next, first_of_all, fault_inside}
+use Rattle.bpf_verifier.proofs.Forward.{begins, settled, Faultless, advances, none_below_next, first_of_all}
 use Rattle.bpf_verifier.proofs.pass.first_fault.Goals as goal
 
 pub loop-slot-init : goal.loop-slot-init

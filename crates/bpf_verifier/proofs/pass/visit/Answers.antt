@@ -1,4 +1,4 @@
-use Rattle.std.proofs.Common.{◌≡◌, length, Option, Some, None, Bool, true, false, IfNone, refl, sym, ◌∙◌}
+use Rattle.std.proofs.Common.{◌≡◌, length, Option, Some, None, false, IfNone, refl, sym, ◌∙◌}
 use Rattle.std.specs.Option.{is_some}
 use Rattle.bpf_verifier.specs.declared.refusal.Refusal.{Refusal}
 use Rattle.bpf_verifier.specs.declared.refusal.Refusal.TheVariants.{Back, OutOfProgram}
