@@ -1,0 +1,6 @@
+pub mod Answers
+pub mod Directory
+pub mod Meanings
+pub mod Names
+pub mod Numbers
+pub mod Rows
