@@ -1,5 +1,5 @@
 -- What each call is answered, and the directory after it.
-use Rattle.std.specs.Prelude.{◌≡◌, ℕ, ◌+◌, ◌≤◌, IsTrue, IsSome, IsNone, ◌==◌, ◌&&◌, Bool, true, nat_lt, Option, Some, None, if◌then◌else◌, find, count_by}
+use Rattle.std.specs.Prelude.{◌≡◌, ℕ, ◌+◌, ◌≤◌, IsTrue, IsSome, IsNone, ◌==◌, ◌&&◌, Bool, true, nat_lt, Option, Some, None, if◌then◌else◌, find, filter, length}
 use Rattle.std.specs.Option.{option_map_or}
 use Rattle.std.specs.FinMap.{get, contains_key, insert, remove, entries}
 use Rattle.dir_table.specs.declared.calls.DirCall.{DirCall}
@@ -34,7 +34,7 @@ NoneAfter names dir bound = (other : ℕ) → IsTrue (comes_after bound other) �
 
 -- how many names the directory has
 abbrev pub count_in : Names → ℕ → ℕ
-count_in names dir = count_by (λ e. e.0.0 == dir) (entries names)
+count_in names dir = length (filter (λ e. e.0.0 == dir) (entries names))
 
 abbrev pub number_reply : Option ℕ → DirReply
 number_reply None = Absent

@@ -3,4 +3,5 @@ pub mod Directory
 pub mod Meanings
 pub mod Names
 pub mod Numbers
+pub mod ObjectLaws
 pub mod Rows

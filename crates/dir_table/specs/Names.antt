@@ -1,8 +1,7 @@
 -- The names of all directories as a finite map, each with the number of its file.
-use Rattle.std.specs.Prelude.{◌≡◌, ℕ, ◌<◌, Bool, true, List, map, Option, IsSome, is_some, IsTrue, ◌==◌, ◌&&◌, nat_lt}
+use Rattle.std.specs.Prelude.{ℕ, Bool, not, List, map}
 use Rattle.std.specs.declared.cmp.Ordering.{Ordering}
-use Rattle.std.specs.Ordering.{nat_cmp, ordering_then}
-use Rattle.std.specs.FinMap as map_of
+use Rattle.std.specs.Ordering.{nat_cmp, ordering_then, eq_by_cmp}
 use Rattle.std.specs.FinMap.{FinMap}
 use Rattle.dir_table.specs.declared.calls.DirRow.{DirRow}
 
@@ -20,6 +19,10 @@ Names = FinMap place_cmp ℕ
 
 abbrev pub entry_of : DirRow → Place × ℕ
 entry_of row = ((row.dir, row.name), row.ino)
+
+-- the test of another place
+abbrev pub is_other : Place → Place → Bool
+is_other place other = not (eq_by_cmp place_cmp place other)
 
 -- the rows of the names, in order
 abbrev pub entries_of : List DirRow → List (Place × ℕ)

@@ -1,11 +1,13 @@
 -- What the rows of a directory keep.
-use Rattle.std.specs.Prelude.{◌≡◌, ℕ, zero, suc, ◌+◌, ◌≤◌, List, [], ◌∷◌, All, IsTrue, length}
+use Rattle.std.specs.Prelude.{◌≡◌, ℕ, zero, suc, ◌+◌, ◌≤◌, List, [], ◌∷◌, All, IsTrue, length, Option, Bool, true, false, ◌==◌, ◌&&◌}
+use Rattle.std.specs.List.{AllWithin}
 use Rattle.std.specs.FinMap.{is_sorted, from_sorted}
 use Rattle.std.specs.FinMap.Entries.{below_all}
 use Rattle.std.specs.declared.cmp.Ordering.TheVariants.{Equal, Greater}
 use Rattle.dir_table.specs.declared.calls.DirRow.{DirRow}
 use Rattle.dir_table.specs.Names.{Place, Names, place_cmp, entries_of}
 use Rattle.dir_table.specs.Directory.{IsInRange}
+use Rattle.dir_table.specs.Answers.{comes_after}
 
 -- the rows stand in order of directory and name, none twice
 abbrev pub AreInOrder : List DirRow → Type 0
@@ -34,3 +36,10 @@ abbrev pub IsGapFor : List (Place × ℕ) → Place → ℕ → Type 0
 IsGapFor es place zero = IsTrue (below_all place_cmp place es)
 IsGapFor [] place (suc i) = ⊥
 IsGapFor (e ∷ es) place (suc i) = (place_cmp place e.0 ≡ Greater) × IsGapFor es place i
+
+-- before i no name is of this directory and after this one, and from i on the names of the directory are
+pub record BeginAfter (rows : List DirRow) (dir : ℕ) (bound : Option ℕ) (i : ℕ) : Type 0 where
+  pub within : i ≤ length rows
+  pub before : AllWithin (λ row. ((row.dir == dir) && comes_after bound row.name) ≡ false) rows 0 i
+  pub directories : AllWithin (λ row. dir ≤ row.dir) rows i (length rows)
+  pub later : AllWithin (λ row. row.dir ≡ dir → comes_after bound row.name ≡ true) rows i (length rows)

@@ -3,6 +3,9 @@ ghost use Rattle.dir_table.specs.Directory.{Directory};
 ghost use Rattle.dir_table.specs.Numbers.{call_numbers, reply_numbers, state_numbers};
 ghost use Rattle.dir_table.specs.Meanings.{reply_at, state_after, Reads, Admits};
 
+ghost use Rattle.dir_table.specs.ObjectLaws.{calls_differ, states_differ, reads_leave, admits_stays};
+ghost use Rattle.std.proofs.Common.{rules};
+
 use crate::calls::{DirCall, DirReply};
 use crate::dir::Dir;
 use hist_log::Object;
@@ -65,13 +68,13 @@ impl Object for Dir {
         }
     }
 
-    ghost calls_differ = { ? };
+    ghost calls_differ = { calls_differ };
 
-    ghost replies_differ = { ? };
+    ghost replies_differ = { λ a b. Prim.search rules };
 
-    ghost states_differ = { ? };
+    ghost states_differ = { states_differ };
 
-    ghost reads_leave = { ? };
+    ghost reads_leave = { reads_leave };
 
-    ghost admits_stays = { ? };
+    ghost admits_stays = { admits_stays };
 }
