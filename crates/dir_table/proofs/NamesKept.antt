@@ -4,7 +4,7 @@ use Rattle.std.specs.Prelude.{IsTrue}
 use Rattle.std.specs.declared.cmp.Ordering.TheVariants.{Less, Equal, Greater}
 use Rattle.std.specs.Ordering.{is_eq, eq_by_cmp}
 use Rattle.std.specs.Cmp.{eq_by_cmp_equiv, alike_right}
-use Rattle.std.specs.FinMap.{FinMap, find, put, is_sorted, entries, get, insert, remove, from_sorted, entries-from_sorted, entries-insert, get-from_sorted, get-remove, same_entries_map, same_map}
+use Rattle.std.specs.FinMap.{FinMap, empty, get-empty, find, put, is_sorted, entries, get, insert, remove, from_sorted, entries-from_sorted, entries-insert, get-from_sorted, get-remove, same_entries_map, same_map}
 use Rattle.std.specs.FinMap.Entries.{where_key, is_sorted-put, is_sorted-where_key, find-where_key}
 use Rattle.dir_table.specs.declared.calls.DirRow.{DirRow}
 use Rattle.dir_table.specs.Names.{Place, Names, place_cmp, is_other, entries_of}
@@ -45,3 +45,7 @@ module _ (old new : List DirRow) (sorted : AreInOrder old) where
       found_after q ∙ turned (eq_by_cmp place_cmp place q) (get (names_of old) q)
       ∙ ap (λ b. cond b None (get (names_of old) q)) ((eq_by_cmp_equiv places_total).symm place q)
       ∙ sym (get-remove places_total (names_of old) place q))
+
+-- no rows are no names
+pub no_names : names_of [] ≡ empty
+no_names = same_map places_total places_exact _ _ (λ q. get_names [] q refl ∙ sym (get-empty place_cmp q))

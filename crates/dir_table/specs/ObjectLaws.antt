@@ -7,9 +7,9 @@ use Rattle.dir_table.specs.declared.calls.DirCall.{DirCall}
 use Rattle.dir_table.specs.declared.calls.DirCall.TheVariants.{Make, Drop, Rename, Find, Count, Next}
 use Rattle.dir_table.specs.Names.{Place, Names, place_cmp}
 use Rattle.dir_table.specs.Directory.{Directory}
-use Rattle.dir_table.specs.Answers.{after}
-use Rattle.dir_table.specs.Numbers.{call_numbers, call_from, state_numbers, entry_numbers, entries_from, directory_from}
-use Rattle.dir_table.specs.Meanings.{is_read, IsAdmitted, state_after, Reads, Admits}
+use Rattle.dir_table.specs.Answers.{reply_to, after}
+use Rattle.dir_table.specs.Numbers.{call_numbers, reply_numbers, call_from, state_numbers, entry_numbers, entries_from, directory_from}
+use Rattle.dir_table.specs.Meanings.{is_read, IsAdmitted, reply_at, state_after, Reads, Admits}
 
 -- a call comes back from its numbers
 pub call_again : (call : DirCall) → call_from (call_numbers call) ≡ call
@@ -74,3 +74,29 @@ pub admits_stays : (state call other : List ℕ) → Admits state other ↔ Admi
 admits_stays state call other =
     let same = room_after state call in
     (subst (λ room. IsAdmitted room (call_from other)) (sym same), subst (λ room. IsAdmitted room (call_from other)) same)
+
+-- the numbers of a reply are the reply's at the numbers of the directory and the call
+pub reply_as : (d : Directory) (call : DirCall) → reply_numbers (reply_to d call) ≡ reply_at (state_numbers d) (call_numbers call)
+reply_as d (Make dir name) = ap (λ e. reply_numbers (reply_to e (Make dir name))) (sym (directory_again d))
+reply_as d (Drop dir name) = ap (λ e. reply_numbers (reply_to e (Drop dir name))) (sym (directory_again d))
+reply_as d (Rename dir name to_dir to_name) = ap (λ e. reply_numbers (reply_to e (Rename dir name to_dir to_name))) (sym (directory_again d))
+reply_as d (Find dir name) = ap (λ e. reply_numbers (reply_to e (Find dir name))) (sym (directory_again d))
+reply_as d (Count dir) = ap (λ e. reply_numbers (reply_to e (Count dir))) (sym (directory_again d))
+reply_as d (Next dir None) = ap (λ e. reply_numbers (reply_to e (Next dir None))) (sym (directory_again d))
+reply_as d (Next dir (Some name)) = ap (λ e. reply_numbers (reply_to e (Next dir (Some name)))) (sym (directory_again d))
+
+either_numbers : (b : Bool) (c d e f : Directory) → state_numbers c ≡ state_numbers e → state_numbers d ≡ state_numbers f → state_numbers (cond b c d) ≡ state_numbers (cond b e f)
+either_numbers true c d e f first second = first
+either_numbers false c d e f first second = second
+
+-- and so the state after it
+pub state_as : (d : Directory) (call : DirCall) → state_numbers (after d call) ≡ state_after (state_numbers d) (call_numbers call)
+state_as d (Make dir name) =
+    either_numbers (contains_key d.names (dir, name)) _ _ _ _ refl refl ∙ ap (λ e. state_numbers (after e (Make dir name))) (sym (directory_again d))
+state_as d (Drop dir name) = ap (λ e. state_numbers (after e (Drop dir name))) (sym (directory_again d))
+state_as d (Rename dir name to_dir to_name) =
+    either_numbers ((dir == to_dir) && (name == to_name)) _ _ _ _ refl refl ∙ ap (λ e. state_numbers (after e (Rename dir name to_dir to_name))) (sym (directory_again d))
+state_as d (Find dir name) = refl
+state_as d (Count dir) = refl
+state_as d (Next dir None) = refl
+state_as d (Next dir (Some name)) = refl

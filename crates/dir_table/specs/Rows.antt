@@ -1,5 +1,5 @@
 -- What the rows of a directory keep.
-use Rattle.std.specs.Prelude.{◌≡◌, ℕ, zero, suc, ◌+◌, ◌≤◌, List, [], ◌∷◌, All, IsTrue, length, Option, Bool, true, false, ◌==◌, ◌&&◌}
+use Rattle.std.specs.Prelude.{◌≡◌, ℕ, zero, suc, ◌+◌, ◌<◌, ◌≤◌, List, [], ◌∷◌, All, IsTrue, length, Option, Bool, true, false, ◌==◌, ◌&&◌}
 use Rattle.std.specs.List.{AllWithin}
 use Rattle.std.specs.FinMap.{is_sorted, from_sorted}
 use Rattle.std.specs.FinMap.Entries.{below_all}
@@ -20,6 +20,8 @@ names_of rows = from_sorted (entries_of rows)
 pub record IsConsistent (rows : List DirRow) (capacity next_number room spare : ℕ) : Type 0 where
   pub in_order : AreInOrder rows
   pub in_range : All (λ row. IsInRange room row.dir row.name) rows
+  -- each row was made with a number of its own
+  pub made : length rows < next_number
   -- the rows that the calls left may add have their memory
   pub reserved : length rows + spare ≤ capacity
   -- the numbers that they may give fit

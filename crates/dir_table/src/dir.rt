@@ -1,5 +1,5 @@
 //! The directory.
-ghost use Rattle.std.specs.Prelude.{◌≡◌, ◌≢◌, ℕ, ◌<◌, ◌≤◌, ◌↔◌, ◌-◌, All, Option, IfOk, IsSome, IsNone, IfSome, Some, None};
+ghost use Rattle.std.specs.Prelude.{◌≡◌, ◌≢◌, ℕ, ◌<◌, ◌≤◌, ◌↔◌, ◌-◌, All, Option, IfOk, IsSome, IsNone, if◌then◌else◌};
 ghost use Rattle.std.specs.FinMap.{get, empty, entries, contains_key};
 ghost use Rattle.dir_table.specs.declared.calls.DirCall.{DirCall};
 ghost use Rattle.dir_table.specs.Names.{Place, entries_of};
@@ -123,10 +123,7 @@ impl Dir {
         ensures others { OthersStay self.old self.new (dir, name) }
     {
         self.spare -= 1;
-        match remove_row(&mut self.rows, dir, name) {
-            Some(_) => DirReply::Done,
-            None => DirReply::Absent,
-        }
+        done_if(remove_row(&mut self.rows, dir, name).is_some())
     }
 
     /// Gives the file another name, in the place of one that has that name. Onto itself it changes nothing.
@@ -140,10 +137,7 @@ impl Dir {
     {
         self.spare -= 1;
         if dir == to_dir && name == to_name {
-            return match number_of(&self.rows, dir, name) {
-                Some(_) => DirReply::Done,
-                None => DirReply::Absent,
-            };
+            return done_if(number_of(&self.rows, dir, name).is_some());
         }
         match remove_row(&mut self.rows, dir, name) {
             Some(ino) => {
@@ -192,5 +186,16 @@ impl Dir {
             Some(name) => DirReply::Name(name),
             None => DirReply::End,
         }
+    }
+}
+
+// `Done` where the name was there.
+fn done_if(there: bool) -> DirReply
+    ensures { result ≡ (if there then DirReply.Done else DirReply.Absent) }
+{
+    if there {
+        DirReply::Done
+    } else {
+        DirReply::Absent
     }
 }

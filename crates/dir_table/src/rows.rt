@@ -1,6 +1,5 @@
 //! Rows in order of directory and name, kept in a vector.
-ghost use Rattle.std.specs.Prelude.{◌≡◌, ℕ, ◌+◌, ◌<◌, ◌≤◌, ◌^◌, ◌==◌, ◌&&◌, option_map, filter, find, IfOk, IfErr, IfSome, IfNone, length, vec_len, vec_capacity};
-ghost use Rattle.std.specs.Vec.{VecUnchanged};
+ghost use Rattle.std.specs.Prelude.{◌≡◌, ℕ, ◌+◌, ◌<◌, ◌≤◌, ◌^◌, ◌==◌, ◌&&◌, option_map, filter, find, IfOk, IfErr, OnSome, IfNone, length, vec_len, vec_capacity};
 ghost use Rattle.std.specs.List.Sorted.{IsSearchInRange};
 ghost use Rattle.std.specs.FinMap as map_of;
 ghost use Rattle.std.specs.FinMap.{put};
@@ -53,8 +52,9 @@ pub fn remove_row(rows: &mut Vec<DirRow>, dir: u8, name: u32) -> Option<u64>
     requires { AreInOrder rows.old.items }
     ensures number { result ≡ map_of.find place_cmp (dir, name) (entries_of rows.old.items) }
     ensures removed { entries_of rows.new.items ≡ where_key place_cmp (is_other (dir, name)) (entries_of rows.old.items) }
-    ensures len { IfSome result (λ _. vec_len rows.new + 1 ≡ vec_len rows.old) }
-    ensures absent { IfNone result (VecUnchanged rows.old rows.new) }
+    ensures fewer { vec_len rows.new ≤ vec_len rows.old }
+    ensures one_fewer { OnSome result (vec_len rows.new < vec_len rows.old) }
+    ensures absent { IfNone result (rows.new.items ≡ rows.old.items) }
     ensures capacity { vec_capacity rows.new ≡ vec_capacity rows.old }
 {
     match place_of(rows, dir, name) {
