@@ -23,11 +23,9 @@ pub fn merge<O: Object>(
     ensures once { IfOk result (λ v. IsPermutation (writes.now ++ flat_map (λ v. v.items) reads.now) v.items) }
 
     // Where the writes are legal, and each read is answered by the writes before its point, the whole is legal.
-    ensures legal {
-        (state : List ℕ) → IsLegal O.reply_at O.state_after state (operations O.call_numbers O.reply_numbers writes.now)
+    ensures legal { (state : List ℕ) → IsLegal O.reply_at O.state_after state (operations O.call_numbers O.reply_numbers writes.now)
         → ReadsFit O.call_numbers O.reply_numbers O.reads O.reply_at O.state_after state writes.now (map (λ v. v.items) reads.now)
-        → IfOk result (λ v. IsLegal O.reply_at O.state_after state (operations O.call_numbers O.reply_numbers v.items))
-    }
+        → IfOk result (λ v. IsLegal O.reply_at O.state_after state (operations O.call_numbers O.reply_numbers v.items)) }
 {
     let mut merged = Vec::with_capacity(alloc, writes.len())?;
     let mut starts = vec![in alloc; 0; reads.len()]?;
