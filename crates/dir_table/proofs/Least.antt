@@ -1,12 +1,12 @@
 -- The first entry of a directory after a name, in order, is the least.
 use Rattle.std.proofs.Common.{◌≡◌, ℕ, ◌<◌, ◌≤◌, Bool, true, false, cond, eqb, List, [], ◌∷◌, Option, Some, None, sym, refl, ap, ◌∙◌, subst, inl, inr, arith}
-use Rattle.std.specs.Prelude.{IsTrue, IsSome, IsNone, is_some, ◌&&◌}
+use Rattle.std.specs.Prelude.{IsTrue, IsSome, is_some, ◌&&◌}
 use Rattle.std.specs.List.{find}
 use Rattle.std.specs.Option.{option_map}
 use Rattle.std.specs.Ordering.{nat_cmp, is_eq, is_lt, eq_by_cmp, ordering_then}
 use Rattle.std.specs.declared.cmp.Ordering.TheVariants.{Less, Equal, Greater}
 use Rattle.std.specs.FinMap as map_of
-use Rattle.std.specs.FinMap.{is_sorted, entries, get}
+use Rattle.std.specs.FinMap.{is_sorted}
 use Rattle.std.specs.FinMap.Entries.{below_all}
 use Rattle.std.proofs.lemmas.Bool.{cases_lt}
 use Rattle.std.proofs.lemmas.Bool.Decides.{nat_tests}
@@ -14,10 +14,10 @@ use mathlib.Core.Bool.{false≢true, true≢false}
 use Rattle.dir_table.specs.declared.calls.DirRow.{DirRow}
 use Rattle.dir_table.specs.declared.calls.DirReply.{DirReply}
 use Rattle.dir_table.specs.declared.calls.DirReply.TheVariants.{Name, End}
-use Rattle.dir_table.specs.Names.{Place, Names, place_cmp, entries_of}
+use Rattle.dir_table.specs.Names.{Place, place_cmp, entries_of}
 use Rattle.dir_table.specs.Answers.{comes_after, next_name, name_reply, IsLeastAfter, NoneAfter}
 use Rattle.dir_table.specs.Rows.{AreInOrder, names_of}
-use Rattle.dir_table.proofs.Order.{places_total, places_exact, both_true, less_of, T_from_true, true_from_T}
+use Rattle.dir_table.proofs.Order.{places_total, places_exact, both_true, less_of}
 use Rattle.dir_table.proofs.Places.{find_below}
 use Rattle.dir_table.proofs.Next.{is_next}
 use Rattle.dir_table.proofs.NamesKept.{entries_names, get_names}
@@ -88,11 +88,11 @@ first_later x es dir bound e miss first = record {
   there = some_later (eq_by_cmp place_cmp (dir, e.0.1) x.0) x.1 (map_of.find place_cmp (dir, e.0.1) es) first.there;
   later = first.later;
   least = λ other there later.
-    let find_rest = map_of.find place_cmp (dir, other) es in
-    elim (eq_by_cmp place_cmp (dir, other) x.0) as (λ b. eq_by_cmp place_cmp (dir, other) x.0 ≡ b → IsSome (cond b (Some x.1) find_rest) → e.0.1 ≤ other) [
-      | true ↦ λ tie _. absurd (false≢true (sym miss ∙ passing dir bound other x (tied (dir, other) x.0 tie) later))
-      | false ↦ λ _ rest. first.least other rest later
-    ] refl there;
+      let find_rest = map_of.find place_cmp (dir, other) es in
+      elim (eq_by_cmp place_cmp (dir, other) x.0) as (λ b. eq_by_cmp place_cmp (dir, other) x.0 ≡ b → IsSome (cond b (Some x.1) find_rest) → e.0.1 ≤ other) [
+        | true ↦ λ tie _. absurd (false≢true (sym miss ∙ passing dir bound other x (tied (dir, other) x.0 tie) later))
+        | false ↦ λ _ rest. first.least other rest later
+      ] refl there;
 }
 
 pub is_first : (es : List (Place × ℕ)) (dir : ℕ) (bound : Option ℕ) (e : Place × ℕ) → IsTrue (is_sorted place_cmp es) → find (is_next dir bound) es ≡ Some e → IsFirst es dir bound e
@@ -104,7 +104,7 @@ is_first (x ∷ es) dir bound e sorted found =
     ] refl found
 
 pub none_after : (es : List (Place × ℕ)) (dir : ℕ) (bound : Option ℕ) → find (is_next dir bound) es ≡ None → (other : ℕ) → IsTrue (comes_after bound other)
-  → map_of.find place_cmp (dir, other) es ≡ None
+    → map_of.find place_cmp (dir, other) es ≡ None
 none_after [] dir bound none other later = refl
 none_after (x ∷ es) dir bound none other later =
     elim (is_next dir bound x) as (λ b. is_next dir bound x ≡ b → cond b (Some x) (find (is_next dir bound) es) ≡ None → map_of.find place_cmp (dir, other) (x ∷ es) ≡ None) [
@@ -125,7 +125,7 @@ module _ (rows : List DirRow) (sorted : AreInOrder rows) (dir : ℕ) (bound : Op
 
   -- the reply, by the name that was found
   pub next_reply : (o : Option (Place × ℕ)) (reply : Option ℕ → DirReply) → reply None ≡ End → ((n : ℕ) → reply (Some n) ≡ Name n) → (r : Option ℕ)
-    → r ≡ option_map (λ e. e.0.1) o → reply r ≡ name_reply o
+      → r ≡ option_map (λ e. e.0.1) o → reply r ≡ name_reply o
   next_reply None reply end name r is = ap reply is ∙ end
   next_reply (Some e) reply end name r is = ap reply is ∙ name e.0.1
 

@@ -1,5 +1,5 @@
 -- What each call does to the directory, by what it does to the rows.
-use Rattle.std.proofs.Common.{◌≡◌, ◌≢◌, ℕ, ◌+◌, ◌-◌, Bool, true, false, cond, eqb, List, Option, Some, None, sym, refl, ap, ◌∙◌, subst, inl, inr, arith}
+use Rattle.std.proofs.Common.{◌≡◌, ◌≢◌, ℕ, ◌+◌, ◌-◌, Bool, true, false, cond, eqb, List, Option, Some, None, sym, refl, ap, ◌∙◌, arith}
 use Rattle.std.specs.Prelude.{IsSome, IsNone, is_some, ◌↔◌, ◌&&◌}
 use Rattle.std.specs.declared.cmp.Ordering.TheVariants.{Less, Equal, Greater}
 use Rattle.std.specs.Ordering.{is_eq, eq_by_cmp}
@@ -9,7 +9,6 @@ use Rattle.std.proofs.lemmas.Bool.Decides.{nat_tests}
 use mathlib.Core.Bool.{false≢true, true≢false}
 use Rattle.dir_table.specs.declared.calls.DirRow.{DirRow}
 use Rattle.dir_table.specs.declared.calls.DirCall.TheVariants.{Make, Drop, Rename, Find}
-use Rattle.dir_table.specs.declared.calls.DirReply.{DirReply}
 use Rattle.dir_table.specs.declared.calls.DirReply.TheVariants.{Ino, Done, Exists, Absent}
 use Rattle.dir_table.specs.Names.{Place, Names, place_cmp, is_other, entries_of}
 use Rattle.dir_table.specs.Directory.{Directory, spent}
@@ -64,10 +63,10 @@ moved_others names from to other (Some n) not_from not_to =
     get_others_insert (remove names from) to other n not_to ∙ get_others_remove names from other not_from
 
 pub rename_others : (d : Directory) (dir name to_dir to_name : ℕ) (other : Place) → other ≢ (dir, name) → other ≢ (to_dir, to_name)
-  → get (after d (Rename dir name to_dir to_name)).names other ≡ get d.names other
+    → get (after d (Rename dir name to_dir to_name)).names other ≡ get d.names other
 rename_others d dir name to_dir to_name other not_from not_to =
     either_get ((eqb dir to_dir) && (eqb name to_name)) d _ other (get d.names other) refl
-      (moved_others d.names (dir, name) (to_dir, to_name) other (get d.names (dir, name)) not_from not_to)
+    (moved_others d.names (dir, name) (to_dir, to_name) other (get d.names (dir, name)) not_from not_to)
 
 same_names : (a b : Bool) → a ≡ true → b ≡ true → (a && b) ≡ true
 same_names a b first second = ap (λ x. x && b) first ∙ second
@@ -90,8 +89,8 @@ module _ (rows : List DirRow) (next room spare : ℕ) (sorted : AreInOrder rows)
       (sym (ap is_some (found dir name o is) ∙ there))
 
   pub made_one : (new : List DirRow) (dir name : ℕ) (o : Option ℕ) → o ≡ find place_cmp (dir, name) (entries_of rows) → is_some o ≡ false
-    → entries_of new ≡ put place_cmp (dir, name) next (entries_of rows)
-    → record { names = names_of new; next_number = next + 1; room = room; spare = spare - 1 } ≡ spent (after old (Make dir name))
+      → entries_of new ≡ put place_cmp (dir, name) next (entries_of rows)
+      → record { names = names_of new; next_number = next + 1; room = room; spare = spare - 1 } ≡ spent (after old (Make dir name))
   made_one new dir name o is absent edit =
       ap (λ m. record { names = m; next_number = next + 1; room = room; spare = spare - 1 }) (put_names rows new sorted (dir, name) next edit)
       ∙ ap (λ b. spent (cond b old (record old { names = insert (names_of rows) (dir, name) next; next_number = next + 1 }))) (sym (ap is_some (found dir name o is) ∙ absent))
@@ -100,7 +99,7 @@ module _ (rows : List DirRow) (next room spare : ℕ) (sorted : AreInOrder rows)
   drop_reply dir name o is = ap (λ x. cond (is_some x) Done Absent) (sym (found dir name o is))
 
   pub dropped : (new : List DirRow) (dir name : ℕ) → entries_of new ≡ where_key place_cmp (is_other (dir, name)) (entries_of rows)
-    → record { names = names_of new; next_number = next; room = room; spare = spare - 1 } ≡ spent (after old (Drop dir name))
+      → record { names = names_of new; next_number = next; room = room; spare = spare - 1 } ≡ spent (after old (Drop dir name))
   dropped new dir name edit = ap (λ m. record { names = m; next_number = next; room = room; spare = spare - 1 }) (removal_names rows new sorted (dir, name) edit)
 
   module _ (dir name to_dir to_name : ℕ) where
@@ -110,13 +109,13 @@ module _ (rows : List DirRow) (next room spare : ℕ) (sorted : AreInOrder rows)
     pub onto_itself : dir ≡ to_dir → name ≡ to_name → spent old ≡ spent (after old (Rename dir name to_dir to_name))
     onto_itself first second =
         ap (λ b. spent (cond b old (record old { names = moved (names_of rows) (dir, name) (to_dir, to_name) (get (names_of rows) (dir, name)) })))
-          (sym (same_names (eqb dir to_dir) (eqb name to_name) (grind (arith, nat_tests)) (grind (arith, nat_tests))))
+        (sym (same_names (eqb dir to_dir) (eqb name to_name) (grind (arith, nat_tests)) (grind (arith, nat_tests))))
 
     differs_or : (dir ≡ to_dir → name ≡ to_name → ⊥) → ((eqb dir to_dir) && (eqb name to_name)) ≡ false
     differs_or differs = grind (arith, nat_tests)
 
     renamed : (differs : dir ≡ to_dir → name ≡ to_name → ⊥) (o : Option ℕ) → o ≡ find place_cmp (dir, name) (entries_of rows)
-      → spent (record old { names = moved (names_of rows) (dir, name) (to_dir, to_name) o }) ≡ spent (after old (Rename dir name to_dir to_name))
+        → spent (record old { names = moved (names_of rows) (dir, name) (to_dir, to_name) o }) ≡ spent (after old (Rename dir name to_dir to_name))
     renamed differs o is =
         ap (λ x. spent (record old { names = moved (names_of rows) (dir, name) (to_dir, to_name) x })) (sym (found dir name o is))
         ∙ ap (λ b. spent (cond b old (record old { names = moved (names_of rows) (dir, name) (to_dir, to_name) (get (names_of rows) (dir, name)) }))) (sym (differs_or differs))
@@ -125,10 +124,10 @@ module _ (rows : List DirRow) (next room spare : ℕ) (sorted : AreInOrder rows)
     renamed_none differs is = renamed differs None is
 
     pub renamed_one : (dir ≡ to_dir → name ≡ to_name → ⊥) → (n : ℕ) (mid new : List DirRow) → Some n ≡ find place_cmp (dir, name) (entries_of rows)
-      → entries_of mid ≡ where_key place_cmp (is_other (dir, name)) (entries_of rows) → entries_of new ≡ put place_cmp (to_dir, to_name) n (entries_of mid)
-      → record { names = names_of new; next_number = next; room = room; spare = spare - 1 } ≡ spent (after old (Rename dir name to_dir to_name))
+        → entries_of mid ≡ where_key place_cmp (is_other (dir, name)) (entries_of rows) → entries_of new ≡ put place_cmp (to_dir, to_name) n (entries_of mid)
+        → record { names = names_of new; next_number = next; room = room; spare = spare - 1 } ≡ spent (after old (Rename dir name to_dir to_name))
     renamed_one differs n mid new is removed added =
         ap (λ m. record { names = m; next_number = next; room = room; spare = spare - 1 })
-          (put_names mid new (removal_in_order rows mid sorted (dir, name) removed) (to_dir, to_name) n added
-            ∙ ap (λ m. insert m (to_dir, to_name) n) (removal_names rows mid sorted (dir, name) removed))
+        (put_names mid new (removal_in_order rows mid sorted (dir, name) removed) (to_dir, to_name) n added
+        ∙ ap (λ m. insert m (to_dir, to_name) n) (removal_names rows mid sorted (dir, name) removed))
         ∙ renamed differs (Some n) is

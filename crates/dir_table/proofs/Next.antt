@@ -1,13 +1,10 @@
 -- The next name of a directory.
-use Rattle.std.proofs.Common.{◌≡◌, ℕ, zero, suc, ◌+◌, ◌<◌, ◌≤◌, Bool, true, false, cond, eqb, ltb, T, List, [], ◌∷◌, length, get_or, Option, Some, None, Ordering, sym, refl, ap, ◌∙◌, subst, inl, inr, arith}
-use Rattle.std.specs.Prelude.{IsTrue, IsSome, IsNone, is_some, ◌&&◌}
+use Rattle.std.proofs.Common.{◌≡◌, ℕ, zero, suc, ◌<◌, ◌≤◌, Bool, true, false, cond, eqb, ltb, List, [], ◌∷◌, length, get_or, Option, Some, None, Ordering, sym, refl, ap, ◌∙◌, inl, inr, arith}
+use Rattle.std.specs.Prelude.{◌&&◌}
 use Rattle.std.specs.List.{find, All, AllWithin}
-use Rattle.std.specs.Ordering.{nat_cmp, is_lt, is_le, is_eq, eq_by_cmp, ordering_then, ordering_index}
+use Rattle.std.specs.Ordering.{nat_cmp, is_le, ordering_then, ordering_index}
 use Rattle.std.specs.List.Sorted.{IsPartitionedBy}
 use Rattle.std.specs.declared.cmp.Ordering.TheVariants.{Less, Equal, Greater}
-use Rattle.std.specs.FinMap as map_of
-use Rattle.std.specs.FinMap.{is_sorted}
-use Rattle.std.specs.FinMap.Entries.{below_all}
 use Rattle.std.proofs.lemmas.Bool.{cases_lt, cases_eq}
 use Rattle.std.proofs.lemmas.Bool.Decides.{nat_tests}
 use Rattle.std.proofs.lemmas.List.Sorted.{searchable_from_sorted}
@@ -16,8 +13,7 @@ use Rattle.dir_table.specs.declared.calls.DirRow.{DirRow}
 use Rattle.dir_table.specs.Names.{Place, place_cmp, entry_of, entries_of}
 use Rattle.dir_table.specs.Rows.{AreInOrder, BeginAfter}
 use Rattle.dir_table.specs.Answers.{comes_after}
-use Rattle.dir_table.proofs.Order.{places_total, places_exact, place_of_row, rise, both_true, reversed, less_of}
-use Rattle.dir_table.proofs.Places.{find_below}
+use Rattle.dir_table.proofs.Order.{places_total, place_of_row, rise}
 use Rattle.dir_table.proofs.Counts.{directories_rise}
 
 -- an entry of the directory, after this name
@@ -25,7 +21,7 @@ abbrev pub is_next : ℕ → Option ℕ → Place × ℕ → Bool
 is_next dir bound e = (eqb e.0.0 dir) && comes_after bound e.0.1
 
 find_hit : (test : Place × ℕ → Bool) (rows : List DirRow) (i : ℕ) (d : DirRow) → AllWithin (λ row. test (entry_of row) ≡ false) rows 0 i → i < length rows
-  → test (entry_of (get_or rows i d)) ≡ true → find test (entries_of rows) ≡ Some (entry_of (get_or rows i d))
+    → test (entry_of (get_or rows i d)) ≡ true → find test (entries_of rows) ≡ Some (entry_of (get_or rows i d))
 find_hit test [] i d misses in_range hit = absurd (omega arith)
 find_hit test (row ∷ rows) zero d misses in_range hit = ap (λ b. cond b (Some (entry_of row)) (find test (entries_of rows))) hit
 find_hit test (row ∷ rows) (suc i) d misses in_range hit =
@@ -45,14 +41,14 @@ no_first a b first = ap (λ x. x && b) first
 
 -- the row where the names begin is the next one
 pub next_there : (rows : List DirRow) (dir : ℕ) (bound : Option ℕ) (i : ℕ) (d : DirRow) → BeginAfter rows dir bound i → i < length rows
-  → (get_or rows i d).dir ≡ dir → find (is_next dir bound) (entries_of rows) ≡ Some (entry_of (get_or rows i d))
+    → (get_or rows i d).dir ≡ dir → find (is_next dir bound) (entries_of rows) ≡ Some (entry_of (get_or rows i d))
 next_there rows dir bound i d begin in_range same =
     find_hit (is_next dir bound) rows i d begin.before in_range
-      (let yes : eqb (get_or rows i d).dir dir ≡ true = grind (arith, nat_tests) in and_is_true _ _ yes (begin.later i d (omega arith) in_range same))
+    (let yes : eqb (get_or rows i d).dir dir ≡ true = grind (arith, nat_tests) in and_is_true _ _ yes (begin.later i d (omega arith) in_range same))
 
 -- where that row is of another directory, or there is none, there is no next name
 pub next_absent : (rows : List DirRow) (dir : ℕ) (bound : Option ℕ) (i : ℕ) → AreInOrder rows → BeginAfter rows dir bound i
-  → ((d : DirRow) → i < length rows → (get_or rows i d).dir ≡ dir → ⊥) → find (is_next dir bound) (entries_of rows) ≡ None
+    → ((d : DirRow) → i < length rows → (get_or rows i d).dir ≡ dir → ⊥) → find (is_next dir bound) (entries_of rows) ≡ None
 next_absent rows dir bound i sorted begin other = find_miss (is_next dir bound) rows (λ k d below. elim (cases_lt k i) [
   | inl before ↦ begin.before k d (omega arith) before
   | inr from ↦
@@ -112,7 +108,7 @@ above_name a place h same = elim (cases_lt place.1 a.1) [
 
 -- the names after none begin behind the lesser directories
 pub begin_first : (rows : List DirRow) (dir i : ℕ) → i ≤ length rows → AllWithin (λ row. ltb row.dir dir ≡ true) rows 0 i
-  → AllWithin (λ row. ltb row.dir dir ≡ false) rows i (length rows) → BeginAfter rows dir None i
+    → AllWithin (λ row. ltb row.dir dir ≡ false) rows i (length rows) → BeginAfter rows dir None i
 begin_first rows dir i within less not_less = record {
   within = within;
   before = λ k d from below. let h = less k d from below in let apart : eqb (get_or rows k d).dir dir ≡ false = grind (arith, nat_tests) in no_first _ _ apart;
@@ -122,7 +118,7 @@ begin_first rows dir i within less not_less = record {
 
 -- those after a name begin behind it
 pub begin_later : (rows : List DirRow) (dir name i : ℕ) → i ≤ length rows → AllWithin (λ row. is_le (place_cmp (place_of_row row) (dir, name)) ≡ true) rows 0 i
-  → AllWithin (λ row. is_le (place_cmp (place_of_row row) (dir, name)) ≡ false) rows i (length rows) → BeginAfter rows dir (Some name) i
+    → AllWithin (λ row. is_le (place_cmp (place_of_row row) (dir, name)) ≡ false) rows i (length rows) → BeginAfter rows dir (Some name) i
 begin_later rows dir name i within up above = record {
   within = within;
   before = λ k d from below. le_not_later (place_of_row (get_or rows k d)) (dir, name) (up k d from below);

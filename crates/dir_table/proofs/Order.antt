@@ -1,8 +1,8 @@
 -- The order of places, and lists of entries in it.
-use Rattle.std.proofs.Common.{◌≡◌, ℕ, zero, suc, ◌+◌, ◌<◌, ◌≤◌, Bool, true, false, cond, T, List, [], ◌∷◌, length, get_or, Ordering, sym, refl, ap, ◌∙◌, subst, arith}
+use Rattle.std.proofs.Common.{◌≡◌, ℕ, zero, suc, ◌+◌, ◌<◌, Bool, true, false, T, List, [], ◌∷◌, length, get_or, Ordering, sym, refl, ap, ◌∙◌, subst, arith}
 use Rattle.std.specs.Prelude.{IsTrue, ◌&&◌}
 use Rattle.std.specs.Cmp.{IsTotalOrder}
-use Rattle.std.specs.Ordering.{nat_cmp, is_lt, is_eq, ordering_reverse, eq_by_cmp}
+use Rattle.std.specs.Ordering.{nat_cmp, is_lt, ordering_reverse}
 use Rattle.std.specs.declared.cmp.Ordering.TheVariants.{Less, Equal, Greater}
 use Rattle.std.specs.FinMap.{IsAntisymmetric, is_sorted}
 use Rattle.std.specs.FinMap.Entries.{below_all}
@@ -51,13 +51,13 @@ place_of_row row = (row.dir, row.name)
 
 -- an entry of a list that a place is below is above it
 pub below_at : (place : Place) (rows : List DirRow) → IsTrue (below_all place_cmp place (entries_of rows)) → (i : ℕ) (d : DirRow) → i < length rows
-  → place_cmp place (place_of_row (get_or rows i d)) ≡ Less
+    → place_cmp place (place_of_row (get_or rows i d)) ≡ Less
 below_at place [] below i d in_range = absurd (omega arith)
 below_at place (row ∷ rows) below zero d in_range = less_of _ (both_true _ _ below).0
 below_at place (row ∷ rows) below (suc i) d in_range = below_at place rows (both_true _ _ below).1 i d (omega arith)
 
 pub below_from : (place : Place) (rows : List DirRow) → ((i : ℕ) (d : DirRow) → i < length rows → place_cmp place (place_of_row (get_or rows i d)) ≡ Less)
-  → IsTrue (below_all place_cmp place (entries_of rows))
+    → IsTrue (below_all place_cmp place (entries_of rows))
 below_from place [] above = refl
 below_from place (row ∷ rows) above = and_true _ _ (ap is_lt (above 0 row (omega arith))) (below_from place rows (λ i d in_range. above (suc i) d (omega arith)))
 
@@ -69,7 +69,7 @@ rise (row ∷ next ∷ rows) sorted zero d from in_range =
     ap is_lt (reversed (place_of_row row) (place_of_row next) Less (below_at (place_of_row row) (next ∷ rows) (both_true _ _ sorted).0 0 d (omega arith)))
 rise (row ∷ next ∷ rows) sorted (suc k) d from in_range =
     subst (λ n. is_lt (place_cmp (place_of_row (get_or (row ∷ next ∷ rows) n d)) (place_of_row (get_or (next ∷ rows) k d))) ≡ false) {x = suc (k + 1)} (omega arith)
-      (rise (next ∷ rows) (both_true _ _ sorted).1 k d (omega arith) (omega arith))
+    (rise (next ∷ rows) (both_true _ _ sorted).1 k d (omega arith) (omega arith))
 
 -- the entries after an edit of the rows
 pub entries-insert : (rows : List DirRow) (i : ℕ) (row : DirRow) → entries_of (insert rows i row) ≡ insert (entries_of rows) i (entry_of row)

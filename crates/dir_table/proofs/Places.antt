@@ -1,8 +1,8 @@
 -- Where a place is among entries in order, and what an edit there leaves.
-use Rattle.std.proofs.Common.{◌≡◌, ℕ, zero, suc, ◌+◌, ◌<◌, ◌≤◌, Bool, true, false, cond, T, List, [], ◌∷◌, ◌++◌, take, drop, set, length, get_or, Some, None, Result, Ok, Err, IfOk, IfErr, not, sym, refl, ap, ◌∙◌, subst, arith}
+use Rattle.std.proofs.Common.{◌≡◌, ℕ, zero, suc, ◌<◌, ◌≤◌, cond, List, [], ◌∷◌, set, length, get_or, Some, None, Result, Ok, Err, IfOk, IfErr, not, sym, refl, ap, ◌∙◌, subst, arith}
 use Rattle.std.specs.Prelude.{IsTrue}
 use Rattle.std.specs.declared.cmp.Ordering.TheVariants.{Less, Equal, Greater}
-use Rattle.std.specs.Ordering.{is_lt, is_eq, eq_by_cmp, ordering_index}
+use Rattle.std.specs.Ordering.{is_eq}
 use Rattle.std.specs.List.{insert, remove}
 use Rattle.std.specs.List.Sorted.{IsSearchInRange, IsBinarySearchResult}
 use Rattle.std.specs.FinMap.{find, put, is_sorted}
@@ -11,7 +11,7 @@ use Rattle.std.proofs.lemmas.List.Sorted.{searchable_from_sorted}
 use Rattle.dir_table.specs.declared.calls.DirRow.{DirRow}
 use Rattle.dir_table.specs.Names.{Place, place_cmp, is_other, entries_of}
 use Rattle.dir_table.specs.Rows.{AreInOrder, IsAt, IsGapFor}
-use Rattle.dir_table.proofs.Order.{places_total, places_exact, both_true, and_true, reversed, place_of_row, below_at, below_from, rise, less_of}
+use Rattle.dir_table.proofs.Order.{places_total, places_exact, both_true, reversed, place_of_row, below_at, below_from, rise, less_of}
 
 pub at_in_range : (es : List (Place × ℕ)) (place : Place) (i : ℕ) → IsAt es place i → i < length es
 at_in_range [] place i here = absurd here
@@ -71,7 +71,7 @@ kept_gap (e ∷ es) place (suc i) gap =
     ap (λ r. cond (not (is_eq r)) (e ∷ rest) rest) gap.0 ∙ ap (λ l. e ∷ l) (kept_gap es place i gap.1)
 
 pub removed_at : (es : List (Place × ℕ)) (place : Place) (i : ℕ) → IsTrue (is_sorted place_cmp es) → IsAt es place i
-  → where_key place_cmp (is_other place) es ≡ remove es i
+    → where_key place_cmp (is_other place) es ≡ remove es i
 removed_at [] place i sorted here = absurd here
 removed_at (e ∷ es) place zero sorted here =
     let rest = where_key place_cmp (is_other place) es in
@@ -83,30 +83,31 @@ removed_at (e ∷ es) place (suc i) sorted here =
 
 -- the place of a row that is found: those before it are of lesser places
 at_from : (rows : List DirRow) (place : Place) (i : ℕ) → AreInOrder rows → i < length rows → ((d : DirRow) → place_cmp (place_of_row (get_or rows i d)) place ≡ Equal)
-  → IsAt (entries_of rows) place i
+    → IsAt (entries_of rows) place i
 at_from [] place i sorted in_range same = absurd (omega arith)
 at_from (row ∷ rows) place zero sorted in_range same = reversed (place_of_row row) place Equal (same row)
 at_from (row ∷ rows) place (suc i) sorted in_range same =
     let is = places_exact _ _ (same row) in
     let below : place_cmp (place_of_row row) place ≡ Less =
-      subst (λ p. place_cmp (place_of_row row) p ≡ Less) is (below_at (place_of_row row) rows (both_true _ _ sorted).0 i row (omega arith)) in
+    subst (λ p. place_cmp (place_of_row row) p ≡ Less) is (below_at (place_of_row row) rows (both_true _ _ sorted).0 i row (omega arith)) in
     (reversed (place_of_row row) place Less below, at_from rows place i (both_true _ _ sorted).1 (omega arith) same)
 
 gap_from : (rows : List DirRow) (place : Place) (i : ℕ) → i ≤ length rows
-  → ((j : ℕ) (d : DirRow) → j < i → place_cmp (place_of_row (get_or rows j d)) place ≡ Less)
-  → ((j : ℕ) (d : DirRow) → i ≤ j → j < length rows → place_cmp (place_of_row (get_or rows j d)) place ≡ Greater)
-  → IsGapFor (entries_of rows) place i
+    → ((j : ℕ) (d : DirRow) → j < i → place_cmp (place_of_row (get_or rows j d)) place ≡ Less)
+    → ((j : ℕ) (d : DirRow) → i ≤ j → j < length rows → place_cmp (place_of_row (get_or rows j d)) place ≡ Greater)
+    → IsGapFor (entries_of rows) place i
 gap_from rows place zero in_range less greater =
     below_from place rows (λ j d below. reversed (place_of_row (get_or rows j d)) place Greater (greater j d (omega arith) below))
 gap_from [] place (suc i) in_range less greater = absurd (omega arith)
-gap_from (row ∷ rows) place (suc i) in_range less greater =
-    (reversed (place_of_row row) place Less (less 0 row (omega arith)),
-      gap_from rows place i (omega arith) (λ j d below. less (suc j) d (omega arith)) (λ j d from below. greater (suc j) d (omega arith) (omega arith)))
+gap_from (row ∷ rows) place (suc i) in_range less greater = (
+  reversed (place_of_row row) place Less (less 0 row (omega arith)),
+  gap_from rows place i (omega arith) (λ j d below. less (suc j) d (omega arith)) (λ j d from below. greater (suc j) d (omega arith) (omega arith)),
+)
 
 -- what a binary search answers
 pub searched : (rows : List DirRow) (place : Place) (r : Result ℕ ℕ) → AreInOrder rows → IsSearchInRange r (length rows)
-  → IsBinarySearchResult (λ row. place_cmp (place_of_row row) place) rows r
-  → IfOk r (IsAt (entries_of rows) place) × IfErr r (IsGapFor (entries_of rows) place)
+    → IsBinarySearchResult (λ row. place_cmp (place_of_row row) place) rows r
+    → IfOk r (IsAt (entries_of rows) place) × IfErr r (IsGapFor (entries_of rows) place)
 searched rows place (Ok i) sorted in_range same = (at_from rows place i sorted in_range same, tt)
 searched rows place (Err i) sorted in_range parted =
     let parts = parted (searchable_from_sorted places_total place_of_row rows place (rise rows sorted)) in

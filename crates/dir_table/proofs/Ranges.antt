@@ -1,5 +1,5 @@
 -- Edits keep the places in range.
-use Rattle.std.proofs.Common.{◌≡◌, ℕ, Bool, true, false, cond, List, [], ◌∷◌, sym, subst}
+use Rattle.std.proofs.Common.{◌≡◌, ℕ, true, false, cond, List, [], ◌∷◌, sym, subst}
 use Rattle.std.specs.List.{All, AllByRecursion}
 use Rattle.std.specs.declared.cmp.Ordering.TheVariants.{Less, Equal, Greater}
 use Rattle.std.specs.FinMap.{put}
@@ -25,7 +25,7 @@ module _ (room : ℕ) where
   to_rows (row ∷ rows) ranged = (ranged.0, to_rows rows ranged.1)
 
   after_put : (place : Place) (v : ℕ) (es : List (Place × ℕ)) → IsInRange room place.0 place.1 → AllByRecursion IsEntryInRange es
-    → AllByRecursion IsEntryInRange (put place_cmp place v es)
+      → AllByRecursion IsEntryInRange (put place_cmp place v es)
   after_put place v [] here ranged = (here, ranged)
   after_put place v (e ∷ es) here ranged =
       elim (place_cmp place e.0) as (λ r. AllByRecursion IsEntryInRange (by_order r ((place, v) ∷ e ∷ es) ((e.0, v) ∷ es) (e ∷ put place_cmp place v es))) [
@@ -43,13 +43,13 @@ module _ (room : ℕ) where
       ]
 
   pub put_in_range : (old new : List DirRow) (place : Place) (v : ℕ) → All IsRowInRange old → IsInRange room place.0 place.1
-    → entries_of new ≡ put place_cmp place v (entries_of old) → All IsRowInRange new
+      → entries_of new ≡ put place_cmp place v (entries_of old) → All IsRowInRange new
   put_in_range old new place v ranged here edit =
       All-from_recursion IsRowInRange new (to_rows new (subst (AllByRecursion IsEntryInRange) (sym edit)
-        (after_put place v (entries_of old) here (to_entries old (recursion_from_All IsRowInRange old ranged)))))
+      (after_put place v (entries_of old) here (to_entries old (recursion_from_All IsRowInRange old ranged)))))
 
   pub removal_in_range : (old new : List DirRow) (place : Place) → All IsRowInRange old
-    → entries_of new ≡ where_key place_cmp (is_other place) (entries_of old) → All IsRowInRange new
+      → entries_of new ≡ where_key place_cmp (is_other place) (entries_of old) → All IsRowInRange new
   removal_in_range old new place ranged edit =
       All-from_recursion IsRowInRange new (to_rows new (subst (AllByRecursion IsEntryInRange) (sym edit)
-        (after_removal place (entries_of old) (to_entries old (recursion_from_All IsRowInRange old ranged)))))
+      (after_removal place (entries_of old) (to_entries old (recursion_from_All IsRowInRange old ranged)))))

@@ -1,6 +1,5 @@
 -- What each call is answered, and the directory after it.
-use Rattle.std.specs.Prelude.{◌≡◌, ℕ, ◌+◌, ◌≤◌, IsTrue, IsSome, IsNone, ◌==◌, ◌&&◌, Bool, true, nat_lt, Option, Some, None, if◌then◌else◌, find, filter, length}
-use Rattle.std.specs.Option.{option_map_or}
+use Rattle.std.specs.Prelude.{ℕ, ◌+◌, ◌≤◌, IsTrue, IsSome, IsNone, ◌==◌, ◌&&◌, Bool, true, nat_lt, Option, Some, None, if◌then◌else◌, find, filter, length}
 use Rattle.std.specs.FinMap.{get, contains_key, insert, remove, entries}
 use Rattle.dir_table.specs.declared.calls.DirCall.{DirCall}
 use Rattle.dir_table.specs.declared.calls.DirCall.TheVariants.{Make, Drop, Rename, Find, Count, Next}
@@ -57,12 +56,12 @@ moved names old new (Some number) = insert (remove names old) new number
 -- the directory after the call, as it was where the call is a read or is refused. A name that is renamed onto itself stays
 abbrev pub after : Directory → DirCall → Directory
 after d (Make dir name) =
-  if contains_key d.names (dir, name) then d
-  else record d { names = insert d.names (dir, name) d.next_number; next_number = d.next_number + 1 }
+    if contains_key d.names (dir, name) then d
+    else record d { names = insert d.names (dir, name) d.next_number; next_number = d.next_number + 1 }
 after d (Drop dir name) = record d { names = remove d.names (dir, name) }
 after d (Rename dir name to_dir to_name) =
-  if (dir == to_dir) && (name == to_name) then d
-  else record d { names = moved d.names (dir, name) (to_dir, to_name) (get d.names (dir, name)) }
+    if (dir == to_dir) && (name == to_name) then d
+    else record d { names = moved d.names (dir, name) (to_dir, to_name) (get d.names (dir, name)) }
 after d (Find dir name) = d
 after d (Count dir) = d
 after d (Next dir bound) = d

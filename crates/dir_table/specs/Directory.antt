@@ -18,7 +18,7 @@ pub record Directory : Type 0 where
 -- as a map and three numbers
 abbrev pub coded_directory : Coded Directory
 coded_directory = code_by (Names × (ℕ × (ℕ × ℕ))) (coded× (code (coded× coded_ℕ coded_ℕ) coded_ℕ) (coded× coded_ℕ (coded× coded_ℕ coded_ℕ)))
-  (λ d. (d.names, (d.next_number, (d.room, d.spare)))) (λ p. record { names = p.0; next_number = p.1.0; room = p.1.1.0; spare = p.1.1.1 }) (λ _. refl)
+    (λ d. (d.names, (d.next_number, (d.room, d.spare)))) (λ p. record { names = p.0; next_number = p.1.0; room = p.1.1.0; spare = p.1.1.1 }) (λ _. refl)
 
 -- the directory after one more call that writes
 abbrev pub spent : Directory → Directory

@@ -1,5 +1,5 @@
 -- What a directory means as an object: replies and states as functions of the state and the call.
-use Rattle.std.specs.Prelude.{◌≡◌, ℕ, ◌<◌, List, Option, Some, None, Bool, true, false, IsTrue, if◌then◌else◌, slice_index}
+use Rattle.std.specs.Prelude.{ℕ, ◌<◌, List, Some, None, Bool, true, false, IsTrue, if◌then◌else◌, slice_index}
 use Rattle.dir_table.specs.declared.calls.DirCall.{DirCall}
 use Rattle.dir_table.specs.declared.calls.DirCall.TheVariants.{Make, Drop, Rename, Find, Count, Next}
 use Rattle.dir_table.specs.Directory.{IsInRange}

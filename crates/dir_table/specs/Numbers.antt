@@ -1,5 +1,5 @@
 -- States, calls and replies as lists of numbers, and back.
-use Rattle.std.specs.Prelude.{ℕ, suc, zero, List, [], ◌∷◌, Option, Some, None, drop, slice_index}
+use Rattle.std.specs.Prelude.{ℕ, suc, zero, List, [], ◌∷◌, Some, None, drop, slice_index}
 use Rattle.std.specs.FinMap.{entries, from_sorted}
 use Rattle.dir_table.specs.declared.calls.DirCall.{DirCall}
 use Rattle.dir_table.specs.declared.calls.DirCall.TheVariants.{Make, Drop, Rename, Find, Count, Next}

@@ -1,5 +1,5 @@
 -- The laws of a directory as an object.
-use Rattle.std.specs.Prelude.{◌≡◌, ℕ, ◌+◌, ◌<◌, ◌↔◌, zero, suc, List, [], ◌∷◌, drop, slice_index, Bool, true, false, cond, Option, Some, None, ◌==◌, ◌&&◌}
+use Rattle.std.specs.Prelude.{◌≡◌, ℕ, ◌↔◌, List, [], ◌∷◌, slice_index, Bool, true, false, cond, Some, None, ◌==◌, ◌&&◌}
 use Rattle.std.proofs.Common.{refl, sym, ap, ◌∙◌, subst}
 use mathlib.Core.Bool.{false≢true}
 use Rattle.std.specs.FinMap.{entries, from_sorted, entries-from_sorted, entries_sorted, same_entries_map, contains_key}

@@ -1,5 +1,5 @@
 -- What the rows of a directory keep.
-use Rattle.std.specs.Prelude.{◌≡◌, ℕ, zero, suc, ◌+◌, ◌<◌, ◌≤◌, List, [], ◌∷◌, All, IsTrue, length, Option, Bool, true, false, ◌==◌, ◌&&◌}
+use Rattle.std.specs.Prelude.{◌≡◌, ℕ, zero, suc, ◌+◌, ◌<◌, ◌≤◌, List, [], ◌∷◌, All, IsTrue, length, Option, true, false, ◌==◌, ◌&&◌}
 use Rattle.std.specs.List.{AllWithin}
 use Rattle.std.specs.FinMap.{is_sorted, from_sorted}
 use Rattle.std.specs.FinMap.Entries.{below_all}

@@ -4,9 +4,15 @@
 #[derive(Clone, Copy, Debug, PartialEq, Eq)]
 pub enum DirCall {
     /// Makes a file of this name, where there is none.
-    Make { dir: u8, name: u32 },
+    Make {
+        dir: u8,
+        name: u32,
+    },
     /// Removes the name.
-    Drop { dir: u8, name: u32 },
+    Drop {
+        dir: u8,
+        name: u32,
+    },
     /// Gives a file another name, which then is this file's and no other's, as POSIX says.
     Rename {
         dir: u8,
@@ -15,11 +21,19 @@ pub enum DirCall {
         to_name: u32,
     },
     /// Asks for the number of the file of this name.
-    Find { dir: u8, name: u32 },
+    Find {
+        dir: u8,
+        name: u32,
+    },
     /// Asks how many names the directory has.
-    Count { dir: u8 },
+    Count {
+        dir: u8,
+    },
     /// Asks for the least name of the directory above `after`, or for the least one.
-    Next { dir: u8, after: Option<u32> },
+    Next {
+        dir: u8,
+        after: Option<u32>,
+    },
 }
 
 /// What a call is answered.

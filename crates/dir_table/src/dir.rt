@@ -31,16 +31,24 @@ impl Model for Dir {
 
     ghost coded = { coded_directory };
 
-    ghost view = { λ d. record { names = names_of d.rows.items; next_number = d.next_number; room = d.room; spare = d.spare } };
+    ghost view = { λ d. record {
+      names = names_of d.rows.items;
+      next_number = d.next_number;
+      room = d.room;
+      spare = d.spare;
+    } };
 
-    ghost invariant = { λ d. IsConsistent d.rows.items (vec_capacity d.rows) d.next_number d.room d.spare };
+    ghost invariant = { λ d. IsConsistent d.rows.items (vec_capacity d.rows)
+        d.next_number d.room d.spare };
 }
 
 impl Dir {
-    /// An empty directory for `room` names and `calls` calls that write, for which all memory is taken here.
+    /// An empty directory for `room` names and `calls` calls that write, for which all memory is
+    /// taken here.
     pub fn open(alloc: Global, room: u32, calls: u32) -> Result<Dir, NoMemory>
         requires { calls ≤ 65536 }
-        ensures { IfOk result (λ d. d ≡ record { names = empty; next_number = 1; room = room; spare = calls }) }
+        ensures { IfOk result (λ d.
+            d ≡ record { names = empty; next_number = 1; room = room; spare = calls }) }
     {
         Ok(Dir {
             rows: Vec::with_capacity(alloc, calls as usize)?,
@@ -62,13 +70,6 @@ impl Dir {
             room: self.room,
             spare: self.spare,
         })
-    }
-
-    /// Names are below this number.
-    pub fn room(&self) -> u32
-        ensures { result ≡ self.now.room }
-    {
-        self.room
     }
 
     /// How many calls that write are left.
@@ -126,14 +127,17 @@ impl Dir {
         done_if(remove_row(&mut self.rows, dir, name).is_some())
     }
 
-    /// Gives the file another name, in the place of one that has that name. Onto itself it changes nothing.
+    /// Gives the file another name, in the place of one that has that name. Onto itself it changes
+    /// nothing.
     pub fn rename(&mut self, dir: u8, name: u32, to_dir: u8, to_name: u32) -> DirReply
-        requires in_range { IsInRange self.old.room dir name × IsInRange self.old.room to_dir to_name }
+        requires in_range { IsInRange self.old.room dir name
+            × IsInRange self.old.room to_dir to_name }
         requires left { 0 < self.old.spare }
         ensures reply { result ≡ reply_to self.old (DirCall.Rename dir name to_dir to_name) }
         ensures absent { (result ≡ DirReply.Absent) ↔ IsNone (get self.old.names (dir, name)) }
         ensures after { self.new ≡ spent (after self.old (DirCall.Rename dir name to_dir to_name)) }
-        ensures others { (other : Place) → other ≢ (dir, name) → other ≢ (to_dir, to_name) → get self.new.names other ≡ get self.old.names other }
+        ensures others { (other : Place) → other ≢ (dir, name) → other ≢ (to_dir, to_name)
+            → get self.new.names other ≡ get self.old.names other }
     {
         self.spare -= 1;
         if dir == to_dir && name == to_name {
@@ -179,7 +183,8 @@ impl Dir {
     pub fn next(&self, dir: u8, after: Option<u32>) -> DirReply
         requires { IsAdmitted self.now.room (DirCall.Next dir after) }
         ensures reply { result ≡ reply_to self.now (DirCall.Next dir after) }
-        ensures least { (name : ℕ) → result ≡ DirReply.Name name → IsLeastAfter self.now.names dir after name }
+        ensures least { (name : ℕ) → result ≡ DirReply.Name name
+            → IsLeastAfter self.now.names dir after name }
         ensures end { result ≡ DirReply.End → NoneAfter self.now.names dir after }
     {
         match next_of(&self.rows, dir, after) {

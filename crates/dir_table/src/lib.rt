@@ -5,11 +5,11 @@ mod calls;
 mod dir;
 mod object;
 mod rows;
+#[cfg(test)]
+mod tests;
 
 pub use calls::{DirCall, DirReply, DirRow};
 pub use dir::Dir;
-
-
 use std::alloc::{AllocError, AllocFailed};
 use std::error::Error;
 use std::fmt;

@@ -2,7 +2,6 @@
 ghost use Rattle.dir_table.specs.Directory.{Directory};
 ghost use Rattle.dir_table.specs.Numbers.{call_numbers, reply_numbers, state_numbers};
 ghost use Rattle.dir_table.specs.Meanings.{reply_at, state_after, Reads, Admits};
-
 ghost use Rattle.dir_table.specs.ObjectLaws.{calls_differ, states_differ, reads_leave, admits_stays};
 ghost use Rattle.std.proofs.Common.{rules};
 
@@ -64,7 +63,8 @@ impl Object for Dir {
             DirCall::Find { dir, name } => self.find(dir, name),
             DirCall::Count { dir } => self.count(dir),
             DirCall::Next { dir, after } => self.next(dir, after),
-            DirCall::Make { .. } | DirCall::Drop { .. } | DirCall::Rename { .. } => DirReply::Absent,
+            DirCall::Make { .. } | DirCall::Drop { .. } | DirCall::Rename { .. } =>
+                DirReply::Absent,
         }
     }
 

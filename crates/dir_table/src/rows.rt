@@ -35,7 +35,8 @@ pub fn number_of(rows: &[DirRow], dir: u8, name: u32) -> Option<u64>
 pub fn put_row(rows: &mut Vec<DirRow>, row: DirRow)
     requires in_order { AreInOrder rows.old.items }
     requires room { vec_len rows.old < vec_capacity rows.old }
-    ensures put { entries_of rows.new.items ≡ put place_cmp (row.dir, row.name) row.ino (entries_of rows.old.items) }
+    ensures put { entries_of rows.new.items
+        ≡ put place_cmp (row.dir, row.name) row.ino (entries_of rows.old.items) }
     ensures len { vec_len rows.new ≤ vec_len rows.old + 1 }
     ensures capacity { vec_capacity rows.new ≡ vec_capacity rows.old }
 {
@@ -51,7 +52,8 @@ pub fn put_row(rows: &mut Vec<DirRow>, row: DirRow)
 pub fn remove_row(rows: &mut Vec<DirRow>, dir: u8, name: u32) -> Option<u64>
     requires { AreInOrder rows.old.items }
     ensures number { result ≡ map_of.find place_cmp (dir, name) (entries_of rows.old.items) }
-    ensures removed { entries_of rows.new.items ≡ where_key place_cmp (is_other (dir, name)) (entries_of rows.old.items) }
+    ensures removed { entries_of rows.new.items
+        ≡ where_key place_cmp (is_other (dir, name)) (entries_of rows.old.items) }
     ensures fewer { vec_len rows.new ≤ vec_len rows.old }
     ensures one_fewer { OnSome result (vec_len rows.new < vec_len rows.old) }
     ensures absent { IfNone result (rows.new.items ≡ rows.old.items) }
@@ -77,7 +79,8 @@ pub fn count_of(rows: &[DirRow], dir: u8) -> u32
 /// The first name of the directory after this one.
 pub fn next_of(rows: &[DirRow], dir: u8, after: Option<u32>) -> Option<u32>
     requires { AreInOrder rows.now }
-    ensures { result ≡ option_map (λ e. e.0.1) (find (λ e. (e.0.0 == dir) && comes_after after e.0.1) (entries_of rows.now)) }
+    ensures { result ≡ option_map (λ e. e.0.1)
+        (find (λ e. (e.0.0 == dir) && comes_after after e.0.1) (entries_of rows.now)) }
 {
     let at = place_after(rows, dir, after);
     if at < rows.len() && rows[at].dir == dir {

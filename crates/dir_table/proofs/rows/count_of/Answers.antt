@@ -1,4 +1,4 @@
-use Rattle.std.proofs.Common.{◌≡◌, ◌+◌, ◌-◌, ltb, leb, eqb, length, rules, arith}
+use Rattle.std.proofs.Common.{◌≡◌, ◌+◌, ltb, leb, eqb, length, rules, arith}
 use Rattle.std.specs.List.{filter}
 use Rattle.std.proofs.lemmas.List.Sorted.{IsPartitionedBy-ltb, IsPartitionedBy-leb}
 use Rattle.std.proofs.lemmas.Fn.{always_returns_same}
@@ -8,7 +8,7 @@ use Rattle.dir_table.proofs.rows.count_of.Goals as goal
 
 -- the rows between the two partition points
 between : (c : goal.After-partition_point-end)
-  → c.partition_point-start.result + length (filter (λ e. eqb e.0.0 c.args.dir) (entries_of c.args.rows.now)) ≡ c.partition_point-end.result
+    → c.partition_point-start.result + length (filter (λ e. eqb e.0.0 c.args.dir) (entries_of c.args.rows.now)) ≡ c.partition_point-end.result
 between c =
     let rows = c.args.rows.now in
     let rises = directories_rise rows c.requires.in_order in

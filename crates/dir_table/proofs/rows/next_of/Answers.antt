@@ -1,4 +1,4 @@
-use Rattle.std.proofs.Common.{◌≡◌, ◌<◌, ap, sym, ◌∙◌, length, get_or, arith}
+use Rattle.std.proofs.Common.{ap, sym, ◌∙◌, arith}
 use Rattle.std.specs.Option.{option_map}
 use Rattle.std.proofs.lemmas.List.{get_or_default}
 use Rattle.dir_table.specs.declared.calls.DirRow.{DirRow}
@@ -17,7 +17,7 @@ returns-else-at-rows c =
     let rows = c.args.rows.now in
     let at = c.place_after-at.result in
     ap (option_map (λ e. e.0.1)) (sym (next_absent rows c.args.dir c.args.after at c.requires c.place_after-at.ensures (λ d below same.
-      elim c.else-at-rows.branch [
-        | else-at-rows-via-then-at-rows+else-rows-at w ↦ w.if-rows-at.false (ap (λ row. row.dir) (get_or_default rows at (record { dir = 0; name = 0; ino = 0 }) d below) ∙ same)
-        | else-at-rows-via-else-at-rows w ↦ omega (arith, w.if-at-rows.false)
-      ])))
+    elim c.else-at-rows.branch [
+      | else-at-rows-via-then-at-rows+else-rows-at w ↦ w.if-rows-at.false (ap (λ row. row.dir) (get_or_default rows at (record { dir = 0; name = 0; ino = 0 }) d below) ∙ same)
+      | else-at-rows-via-else-at-rows w ↦ omega (arith, w.if-at-rows.false)
+    ])))

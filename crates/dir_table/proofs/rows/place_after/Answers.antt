@@ -1,4 +1,4 @@
-use Rattle.std.proofs.Common.{ltb, sym, subst, rules, Some}
+use Rattle.std.proofs.Common.{ltb, sym, subst, rules}
 use Rattle.std.specs.Ordering.{is_le}
 use Rattle.std.proofs.lemmas.List.Sorted.{IsPartitionedBy-ltb}
 use Rattle.std.proofs.lemmas.Fn.{always_returns_same}

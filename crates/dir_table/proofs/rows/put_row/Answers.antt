@@ -2,7 +2,6 @@ use Rattle.std.proofs.Common.{◌≡◌, cond, set, get_or, ap, sym, ◌∙◌, 
 use Rattle.std.specs.List.{insert}
 use Rattle.std.proofs.Math.ListN.{get_or-map}
 use Rattle.std.proofs.lemmas.List.{map-set}
-use Rattle.dir_table.specs.declared.calls.DirRow.{DirRow}
 use Rattle.dir_table.specs.Names.{entry_of, entries_of}
 use Rattle.dir_table.specs.Rows.{IsAt, IsGapFor}
 use Rattle.dir_table.proofs.Places.{put_at, put_gap}
@@ -24,6 +23,6 @@ returns-in-Err-clause-put c =
     let rows = c.args.rows.now.items in
     let gap = subst (λ rs. IsGapFor (entries_of rs) (c.args.row.dir, c.args.row.name) c.in-Err.at) c.deref.ensures.value c.in-Err.ensures.absent in
     let done : c.insert.new.self.items ≡ insert rows c.in-Err.at c.args.row =
-      c.insert.ensures.items ∙ ap (λ b. cond b (insert rows c.in-Err.at c.args.row) rows) (c.insert.ensures.succeeds c.requires.room) in
+    c.insert.ensures.items ∙ ap (λ b. cond b (insert rows c.in-Err.at c.args.row) rows) (c.insert.ensures.succeeds c.requires.room) in
     ap entries_of done ∙ entries-insert rows c.in-Err.at c.args.row
     ∙ sym (put_gap (entries_of rows) (c.args.row.dir, c.args.row.name) c.args.row.ino c.in-Err.at gap)

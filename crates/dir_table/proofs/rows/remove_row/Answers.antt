@@ -25,9 +25,9 @@ returns-in-Ok-clause-removed c =
 pub returns-in-Err-clause-number : goal.returns-in-Err-clause-number
 returns-in-Err-clause-number c =
     sym (find_gap (entries_of c.args.rows.now.items) (c.args.dir, c.args.name) c.in-Err.field-0
-      (subst (λ rs. IsGapFor (entries_of rs) (c.args.dir, c.args.name) c.in-Err.field-0) c.deref.ensures.value c.in-Err.ensures.absent))
+    (subst (λ rs. IsGapFor (entries_of rs) (c.args.dir, c.args.name) c.in-Err.field-0) c.deref.ensures.value c.in-Err.ensures.absent))
 
 pub returns-in-Err-clause-removed : goal.returns-in-Err-clause-removed
 returns-in-Err-clause-removed c =
     sym (kept_gap (entries_of c.args.rows.now.items) (c.args.dir, c.args.name) c.in-Err.field-0
-      (subst (λ rs. IsGapFor (entries_of rs) (c.args.dir, c.args.name) c.in-Err.field-0) c.deref.ensures.value c.in-Err.ensures.absent))
+    (subst (λ rs. IsGapFor (entries_of rs) (c.args.dir, c.args.name) c.in-Err.field-0) c.deref.ensures.value c.in-Err.ensures.absent))

@@ -1,6 +1,5 @@
-use Rattle.std.proofs.Common.{◌≡◌, ◌<◌, eqb, length, ap, sym, ◌∙◌, arith}
+use Rattle.std.proofs.Common.{eqb, length, ap, sym, ◌∙◌, arith}
 use Rattle.std.specs.List.{filter}
-use Rattle.std.specs.FinMap.{entries}
 use Rattle.dir_table.specs.declared.calls.DirReply.TheVariants.{Number}
 use Rattle.dir_table.specs.Names.{entries_of}
 use Rattle.dir_table.specs.Answers.{count_in}
@@ -13,6 +12,6 @@ count_of-requires-clause-few c = let made = c.self.invariant.made in let numbere
 pub returns : goal.returns
 returns c =
     ap Number (c.count_of.ensures
-      ∙ ap (λ rs. length (filter (λ e. eqb e.0.0 c.args.dir) (entries_of rs))) c.deref.ensures.value
-      ∙ ap (λ es. length (filter (λ e. eqb e.0.0 c.args.dir) es)) (sym (entries_names c.self.inside.rows.items c.self.invariant.in_order))
-      ∙ ap (λ d. count_in d.names c.args.dir) c.self.view_is)
+    ∙ ap (λ rs. length (filter (λ e. eqb e.0.0 c.args.dir) (entries_of rs))) c.deref.ensures.value
+    ∙ ap (λ es. length (filter (λ e. eqb e.0.0 c.args.dir) es)) (sym (entries_names c.self.inside.rows.items c.self.invariant.in_order))
+    ∙ ap (λ d. count_in d.names c.args.dir) c.self.view_is)

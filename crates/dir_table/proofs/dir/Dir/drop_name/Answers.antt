@@ -1,5 +1,5 @@
-use Rattle.std.proofs.Common.{◌≡◌, ◌-◌, ◌<◌, true, false, cond, ap, sym, ◌∙◌, subst, arith}
-use Rattle.std.specs.Prelude.{◌↔◌, IsNone, is_some}
+use Rattle.std.proofs.Common.{◌≡◌, ◌-◌, cond, ap, sym, ◌∙◌, subst, arith}
+use Rattle.std.specs.Prelude.{◌↔◌, IsNone}
 use Rattle.std.specs.FinMap.{get}
 use Rattle.dir_table.specs.declared.calls.DirCall.TheVariants.{Drop}
 use Rattle.dir_table.specs.declared.calls.DirReply.TheVariants.{Done, Absent}
@@ -30,19 +30,19 @@ pub returns-clause-reply : goal.returns-clause-reply
 returns-clause-reply c =
     let i = c.self.inside in
     subst (λ d. c.done_if.result ≡ reply_to d (Drop c.args.dir c.args.name)) c.self.view_is
-      (c.done_if.ensures ∙ ap (λ b. cond b Done Absent) c.is_some.ensures
-      ∙ drop_reply i.rows.items i.next_number i.room i.spare c.self.invariant.in_order c.args.dir c.args.name c.remove_row.result c.remove_row.ensures.number)
+    (c.done_if.ensures ∙ ap (λ b. cond b Done Absent) c.is_some.ensures
+    ∙ drop_reply i.rows.items i.next_number i.room i.spare c.self.invariant.in_order c.args.dir c.args.name c.remove_row.result c.remove_row.ensures.number)
 
 pub returns-clause-absent : goal.returns-clause-absent
 returns-clause-absent c =
     subst (λ r. (r ≡ Absent) ↔ IsNone (get c.args.self.now.names (c.args.dir, c.args.name))) (sym (returns-clause-reply c))
-      (done_absent (get c.args.self.now.names (c.args.dir, c.args.name)))
+    (done_absent (get c.args.self.now.names (c.args.dir, c.args.name)))
 
 pub returns-clause-after : goal.returns-clause-after
 returns-clause-after c =
     let i = c.self.inside in
     subst (λ d. record { names = names_of c.remove_row.new.rows.items; next_number = i.next_number; room = i.room; spare = i.spare - 1 } ≡ spent (after d (Drop c.args.dir c.args.name))) c.self.view_is
-      (dropped i.rows.items i.next_number i.room i.spare c.self.invariant.in_order c.remove_row.new.rows.items c.args.dir c.args.name c.remove_row.ensures.removed)
+    (dropped i.rows.items i.next_number i.room i.spare c.self.invariant.in_order c.remove_row.new.rows.items c.args.dir c.args.name c.remove_row.ensures.removed)
 
 pub returns-clause-others : goal.returns-clause-others
 returns-clause-others c other differs =

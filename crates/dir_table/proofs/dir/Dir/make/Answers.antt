@@ -1,5 +1,5 @@
-use Rattle.std.proofs.Common.{◌≡◌, ℕ, ◌+◌, ◌-◌, ◌<◌, true, false, cond, ap, sym, ◌∙◌, subst, arith}
-use Rattle.std.specs.Prelude.{◌↔◌, IsSome, is_some}
+use Rattle.std.proofs.Common.{◌≡◌, ◌+◌, ◌-◌, ◌<◌, cond, ap, sym, ◌∙◌, subst, arith}
+use Rattle.std.specs.Prelude.{◌↔◌, IsSome}
 use Rattle.std.specs.FinMap.{get, find}
 use Rattle.dir_table.specs.declared.calls.DirCall.TheVariants.{Make}
 use Rattle.dir_table.specs.declared.calls.DirReply.TheVariants.{Ino, Exists}
@@ -17,22 +17,22 @@ pub returns-then-is_some-clause-reply : goal.returns-then-is_some-clause-reply
 returns-then-is_some-clause-reply c =
     let i = c.self.inside in
     subst (λ d. Exists ≡ reply_to d (Make c.args.dir c.args.name)) c.self.view_is
-      (ap (λ b. cond b Exists (Ino i.next_number)) (sym c.if-is_some.true ∙ c.is_some.ensures)
-      ∙ make_reply i.rows.items i.next_number i.room i.spare c.self.invariant.in_order c.args.dir c.args.name c.number_of.result
-        (c.number_of.ensures ∙ ap (λ rs. find place_cmp (c.args.dir, c.args.name) (entries_of rs)) c.deref.ensures.value))
+    (ap (λ b. cond b Exists (Ino i.next_number)) (sym c.if-is_some.true ∙ c.is_some.ensures)
+    ∙ make_reply i.rows.items i.next_number i.room i.spare c.self.invariant.in_order c.args.dir c.args.name c.number_of.result
+    (c.number_of.ensures ∙ ap (λ rs. find place_cmp (c.args.dir, c.args.name) (entries_of rs)) c.deref.ensures.value))
 
 pub returns-then-is_some-clause-exists : goal.returns-then-is_some-clause-exists
 returns-then-is_some-clause-exists c =
     subst (λ r. (r ≡ Exists) ↔ IsSome (get c.args.self.now.names (c.args.dir, c.args.name))) (sym (returns-then-is_some-clause-reply c))
-      (make_exists (get c.args.self.now.names (c.args.dir, c.args.name)) c.args.self.now.next_number)
+    (make_exists (get c.args.self.now.names (c.args.dir, c.args.name)) c.args.self.now.next_number)
 
 pub returns-then-is_some-clause-after : goal.returns-then-is_some-clause-after
 returns-then-is_some-clause-after c =
     let i = c.self.inside in
     subst (λ d. record { names = names_of i.rows.items; next_number = i.next_number; room = i.room; spare = i.spare - 1 } ≡ spent (after d (Make c.args.dir c.args.name))) c.self.view_is
-      (made_none i.rows.items i.next_number i.room i.spare c.self.invariant.in_order c.args.dir c.args.name c.number_of.result
-        (c.number_of.ensures ∙ ap (λ rs. find place_cmp (c.args.dir, c.args.name) (entries_of rs)) c.deref.ensures.value)
-        (sym c.is_some.ensures ∙ c.if-is_some.true))
+    (made_none i.rows.items i.next_number i.room i.spare c.self.invariant.in_order c.args.dir c.args.name c.number_of.result
+    (c.number_of.ensures ∙ ap (λ rs. find place_cmp (c.args.dir, c.args.name) (entries_of rs)) c.deref.ensures.value)
+    (sym c.is_some.ensures ∙ c.if-is_some.true))
 
 -- the name is new
 pub invariant_of-self-2 : goal.invariant_of-self-2
@@ -56,22 +56,22 @@ pub returns-clause-reply : goal.returns-clause-reply
 returns-clause-reply c =
     let i = c.self.inside in
     subst (λ d. Ino i.next_number ≡ reply_to d (Make c.args.dir c.args.name)) c.self.view_is
-      (ap (λ b. cond b Exists (Ino i.next_number)) (sym c.if-is_some.false ∙ c.is_some.ensures)
-      ∙ make_reply i.rows.items i.next_number i.room i.spare c.self.invariant.in_order c.args.dir c.args.name c.number_of.result
-        (c.number_of.ensures ∙ ap (λ rs. find place_cmp (c.args.dir, c.args.name) (entries_of rs)) c.deref.ensures.value))
+    (ap (λ b. cond b Exists (Ino i.next_number)) (sym c.if-is_some.false ∙ c.is_some.ensures)
+    ∙ make_reply i.rows.items i.next_number i.room i.spare c.self.invariant.in_order c.args.dir c.args.name c.number_of.result
+    (c.number_of.ensures ∙ ap (λ rs. find place_cmp (c.args.dir, c.args.name) (entries_of rs)) c.deref.ensures.value))
 
 pub returns-clause-exists : goal.returns-clause-exists
 returns-clause-exists c =
     subst (λ r. (r ≡ Exists) ↔ IsSome (get c.args.self.now.names (c.args.dir, c.args.name))) (sym (returns-clause-reply c))
-      (make_exists (get c.args.self.now.names (c.args.dir, c.args.name)) c.args.self.now.next_number)
+    (make_exists (get c.args.self.now.names (c.args.dir, c.args.name)) c.args.self.now.next_number)
 
 pub returns-clause-after : goal.returns-clause-after
 returns-clause-after c =
     let i = c.self.inside in
     subst (λ d. record { names = names_of c.put_row.new.rows.items; next_number = i.next_number + 1; room = i.room; spare = i.spare - 1 } ≡ spent (after d (Make c.args.dir c.args.name))) c.self.view_is
-      (made_one i.rows.items i.next_number i.room i.spare c.self.invariant.in_order c.put_row.new.rows.items c.args.dir c.args.name c.number_of.result
-        (c.number_of.ensures ∙ ap (λ rs. find place_cmp (c.args.dir, c.args.name) (entries_of rs)) c.deref.ensures.value)
-        (sym c.is_some.ensures ∙ c.if-is_some.false) c.put_row.ensures.put)
+    (made_one i.rows.items i.next_number i.room i.spare c.self.invariant.in_order c.put_row.new.rows.items c.args.dir c.args.name c.number_of.result
+    (c.number_of.ensures ∙ ap (λ rs. find place_cmp (c.args.dir, c.args.name) (entries_of rs)) c.deref.ensures.value)
+    (sym c.is_some.ensures ∙ c.if-is_some.false) c.put_row.ensures.put)
 
 pub returns-clause-others : goal.returns-clause-others
 returns-clause-others c other differs =

@@ -1,4 +1,4 @@
-use Rattle.std.proofs.Common.{◌≡◌, ℕ, Option, Some, None, ap, sym, ◌∙◌, subst, refl}
+use Rattle.std.proofs.Common.{ℕ, Option, Some, None, ap, sym, ◌∙◌, subst, refl}
 use Rattle.std.specs.List.{find}
 use Rattle.std.specs.Option.{option_map}
 use Rattle.dir_table.specs.declared.calls.DirReply.{DirReply}
@@ -26,8 +26,8 @@ returns-in-Some-clause-reply c =
 pub returns-in-Some-clause-least : goal.returns-in-Some-clause-least
 returns-in-Some-clause-least c name is =
     subst (λ d. IsLeastAfter d.names c.args.dir c.args.after name) c.self.view_is
-      (least_name c.self.inside.rows.items c.self.invariant.in_order c.args.dir c.args.after name
-        (sym is ∙ returns-in-Some-clause-reply c ∙ ap (λ d. name_reply (next_name d.names c.args.dir c.args.after)) (sym c.self.view_is)))
+    (least_name c.self.inside.rows.items c.self.invariant.in_order c.args.dir c.args.after name
+    (sym is ∙ returns-in-Some-clause-reply c ∙ ap (λ d. name_reply (next_name d.names c.args.dir c.args.after)) (sym c.self.view_is)))
 
 pub returns-in-None-clause-reply : goal.returns-in-None-clause-reply
 unfolding reply_by
@@ -42,5 +42,5 @@ returns-in-None-clause-reply c =
 pub returns-in-None-clause-end : goal.returns-in-None-clause-end
 returns-in-None-clause-end c is =
     subst (λ d. NoneAfter d.names c.args.dir c.args.after) c.self.view_is
-      (no_name c.self.inside.rows.items c.self.invariant.in_order c.args.dir c.args.after
-        (returns-in-None-clause-reply c ∙ ap (λ d. name_reply (next_name d.names c.args.dir c.args.after)) (sym c.self.view_is)))
+    (no_name c.self.inside.rows.items c.self.invariant.in_order c.args.dir c.args.after
+    (returns-in-None-clause-reply c ∙ ap (λ d. name_reply (next_name d.names c.args.dir c.args.after)) (sym c.self.view_is)))

@@ -1,5 +1,5 @@
-use Rattle.std.proofs.Common.{◌≡◌, ◌-◌, ◌<◌, true, false, cond, Some, None, ap, sym, ◌∙◌, subst, ⊎_elim, arith}
-use Rattle.std.specs.Prelude.{◌↔◌, IsNone, is_some}
+use Rattle.std.proofs.Common.{◌≡◌, ◌-◌, cond, Some, None, ap, sym, ◌∙◌, subst, ⊎_elim, arith}
+use Rattle.std.specs.Prelude.{◌↔◌, IsNone}
 use Rattle.std.specs.FinMap.{get, find}
 use Rattle.dir_table.specs.declared.calls.DirCall.TheVariants.{Rename}
 use Rattle.dir_table.specs.declared.calls.DirReply.TheVariants.{Done, Absent}
@@ -17,20 +17,20 @@ pub returns-then-name-to_name-clause-reply : goal.returns-then-name-to_name-clau
 returns-then-name-to_name-clause-reply c =
     let i = c.self.inside in
     subst (λ d. c.done_if.result ≡ reply_to d (Rename c.args.dir c.args.name c.args.to_dir c.args.to_name)) c.self.view_is
-      (c.done_if.ensures ∙ ap (λ b. cond b Done Absent) c.is_some.ensures
-      ∙ rename_reply i.rows.items i.next_number i.room i.spare c.self.invariant.in_order c.args.dir c.args.name c.args.to_dir c.args.to_name c.number_of.result
-        (c.number_of.ensures ∙ ap (λ rs. find place_cmp (c.args.dir, c.args.name) (entries_of rs)) c.deref.ensures.value))
+    (c.done_if.ensures ∙ ap (λ b. cond b Done Absent) c.is_some.ensures
+    ∙ rename_reply i.rows.items i.next_number i.room i.spare c.self.invariant.in_order c.args.dir c.args.name c.args.to_dir c.args.to_name c.number_of.result
+    (c.number_of.ensures ∙ ap (λ rs. find place_cmp (c.args.dir, c.args.name) (entries_of rs)) c.deref.ensures.value))
 
 pub returns-then-name-to_name-clause-absent : goal.returns-then-name-to_name-clause-absent
 returns-then-name-to_name-clause-absent c =
     subst (λ r. (r ≡ Absent) ↔ IsNone (get c.args.self.now.names (c.args.dir, c.args.name))) (sym (returns-then-name-to_name-clause-reply c))
-      (done_absent (get c.args.self.now.names (c.args.dir, c.args.name)))
+    (done_absent (get c.args.self.now.names (c.args.dir, c.args.name)))
 
 pub returns-then-name-to_name-clause-after : goal.returns-then-name-to_name-clause-after
 returns-then-name-to_name-clause-after c =
     let i = c.self.inside in
     subst (λ d. record { names = names_of i.rows.items; next_number = i.next_number; room = i.room; spare = i.spare - 1 } ≡ spent (after d (Rename c.args.dir c.args.name c.args.to_dir c.args.to_name))) c.self.view_is
-      (onto_itself i.rows.items i.next_number i.room i.spare c.self.invariant.in_order c.args.dir c.args.name c.args.to_dir c.args.to_name c.if-dir-to_dir.true c.if-name-to_name.true)
+    (onto_itself i.rows.items i.next_number i.room i.spare c.self.invariant.in_order c.args.dir c.args.name c.args.to_dir c.args.to_name c.if-dir-to_dir.true c.if-name-to_name.true)
 
 -- to another name, where the old one is there
 pub put_row-requires-clause-in_order : goal.put_row-requires-clause-in_order
@@ -60,21 +60,21 @@ pub returns-in-Some-clause-reply : goal.returns-in-Some-clause-reply
 returns-in-Some-clause-reply c =
     let i = c.self.inside in
     subst (λ d. Done ≡ reply_to d (Rename c.args.dir c.args.name c.args.to_dir c.args.to_name)) c.self.view_is
-      (rename_reply i.rows.items i.next_number i.room i.spare c.self.invariant.in_order c.args.dir c.args.name c.args.to_dir c.args.to_name (Some c.in-Some.ino)
-        c.in-Some.ensures.number)
+    (rename_reply i.rows.items i.next_number i.room i.spare c.self.invariant.in_order c.args.dir c.args.name c.args.to_dir c.args.to_name (Some c.in-Some.ino)
+    c.in-Some.ensures.number)
 
 pub returns-in-Some-clause-absent : goal.returns-in-Some-clause-absent
 returns-in-Some-clause-absent c =
     subst (λ r. (r ≡ Absent) ↔ IsNone (get c.args.self.now.names (c.args.dir, c.args.name))) (sym (returns-in-Some-clause-reply c))
-      (done_absent (get c.args.self.now.names (c.args.dir, c.args.name)))
+    (done_absent (get c.args.self.now.names (c.args.dir, c.args.name)))
 
 pub returns-in-Some-clause-after : goal.returns-in-Some-clause-after
 returns-in-Some-clause-after c =
     let i = c.self.inside in
     subst (λ d. record { names = names_of c.put_row.new.rows.items; next_number = i.next_number; room = i.room; spare = i.spare - 1 } ≡ spent (after d (Rename c.args.dir c.args.name c.args.to_dir c.args.to_name))) c.self.view_is
-      (renamed_one i.rows.items i.next_number i.room i.spare c.self.invariant.in_order c.args.dir c.args.name c.args.to_dir c.args.to_name
-        (λ first second. ⊎_elim (λ h. h.1 second) (λ h. h first) c.else-dir-to_dir.either)
-        c.in-Some.ino c.remove_row.new.rows.items c.put_row.new.rows.items c.in-Some.ensures.number c.remove_row.ensures.removed c.put_row.ensures.put)
+    (renamed_one i.rows.items i.next_number i.room i.spare c.self.invariant.in_order c.args.dir c.args.name c.args.to_dir c.args.to_name
+    (λ first second. ⊎_elim (λ h. h.1 second) (λ h. h first) c.else-dir-to_dir.either)
+    c.in-Some.ino c.remove_row.new.rows.items c.put_row.new.rows.items c.in-Some.ensures.number c.remove_row.ensures.removed c.put_row.ensures.put)
 
 pub returns-in-Some-clause-others : goal.returns-in-Some-clause-others
 returns-in-Some-clause-others c other not_from not_to =
@@ -85,17 +85,17 @@ pub returns-in-None-clause-reply : goal.returns-in-None-clause-reply
 returns-in-None-clause-reply c =
     let i = c.self.inside in
     subst (λ d. Absent ≡ reply_to d (Rename c.args.dir c.args.name c.args.to_dir c.args.to_name)) c.self.view_is
-      (rename_reply i.rows.items i.next_number i.room i.spare c.self.invariant.in_order c.args.dir c.args.name c.args.to_dir c.args.to_name None c.in-None.ensures.number)
+    (rename_reply i.rows.items i.next_number i.room i.spare c.self.invariant.in_order c.args.dir c.args.name c.args.to_dir c.args.to_name None c.in-None.ensures.number)
 
 pub returns-in-None-clause-absent : goal.returns-in-None-clause-absent
 returns-in-None-clause-absent c =
     subst (λ r. (r ≡ Absent) ↔ IsNone (get c.args.self.now.names (c.args.dir, c.args.name))) (sym (returns-in-None-clause-reply c))
-      (done_absent (get c.args.self.now.names (c.args.dir, c.args.name)))
+    (done_absent (get c.args.self.now.names (c.args.dir, c.args.name)))
 
 pub returns-in-None-clause-after : goal.returns-in-None-clause-after
 returns-in-None-clause-after c =
     let i = c.self.inside in
     ap (λ rs. record { names = names_of rs; next_number = i.next_number; room = i.room; spare = i.spare - 1 }) c.in-None.ensures.absent
     ∙ subst (λ d. record { names = names_of i.rows.items; next_number = i.next_number; room = i.room; spare = i.spare - 1 } ≡ spent (after d (Rename c.args.dir c.args.name c.args.to_dir c.args.to_name))) c.self.view_is
-      (renamed_none i.rows.items i.next_number i.room i.spare c.self.invariant.in_order c.args.dir c.args.name c.args.to_dir c.args.to_name
-        (λ first second. ⊎_elim (λ h. h.1 second) (λ h. h first) c.else-dir-to_dir.either) c.in-None.ensures.number)
+    (renamed_none i.rows.items i.next_number i.room i.spare c.self.invariant.in_order c.args.dir c.args.name c.args.to_dir c.args.to_name
+    (λ first second. ⊎_elim (λ h. h.1 second) (λ h. h first) c.else-dir-to_dir.either) c.in-None.ensures.number)

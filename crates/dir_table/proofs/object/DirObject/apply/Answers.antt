@@ -1,4 +1,4 @@
-use Rattle.std.proofs.Common.{◌≡◌, ap, sym, ◌∙◌}
+use Rattle.std.proofs.Common.{ap, sym, ◌∙◌}
 use Rattle.dir_table.specs.declared.calls.DirCall.TheVariants.{Make, Drop, Rename}
 use Rattle.dir_table.specs.Numbers.{call_numbers, reply_numbers, state_numbers}
 use Rattle.dir_table.specs.Meanings.{reply_at, state_after}
