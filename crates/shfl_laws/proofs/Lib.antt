@@ -41,3 +41,4 @@ pub mod BeginBits
 pub mod OwedBatch
 pub mod BeginRow
 pub mod BeginGroup
+pub mod BeginLaw
