@@ -30,7 +30,7 @@ use Rattle.shfl_laws.proofs.HeadRows.{heads, ahead, Going, Modes, going-to, goin
 use Rattle.shfl_laws.proofs.Counts.{few-readers}
 
 -- who goes on by Top neither holds nor is counted besides
-top-out : (r : Regs) → is_holding (top r).phase ≡ false
+pub top-out : (r : Regs) → is_holding (top r).phase ≡ false
 top-out r = by ((r.batch == 0) || r.flag) r.mode
   where
     by : (b : Bool) (m : Mode) → is_holding (cond b (to Begin (record r { headed = true })) (to (seek m) r)).phase ≡ false
@@ -38,7 +38,7 @@ top-out r = by ((r.batch == 0) || r.flag) r.mode
     by false Write = refl
     by false Read = refl
 
-top-none : (r : Regs) → backs (top r) ≡ 0
+pub top-none : (r : Regs) → backs (top r) ≡ 0
 top-none r = by ((r.batch == 0) || r.flag) r.mode
   where
     by : (b : Bool) (m : Mode) → backs (cond b (to Begin (record r { headed = true })) (to (seek m) r)) ≡ 0

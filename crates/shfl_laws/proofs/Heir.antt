@@ -58,7 +58,7 @@ module _ (limit : ℕ) (w : View) (s : Line) (g p h : ℕ) (o : Ordered w s g) (
     }
 
     -- the walking pass, if there is one, stands behind p, and so does all that its registers name
-    walker-behind : (q : ℕ) → q ≢ p → is_round (w.pass q).phase ≡ true → (0 < mark_of s p) × ((w.pass q).reg.last ≢ p)
+    pub walker-behind : (q : ℕ) → q ≢ p → is_round (w.pass q).phase ≡ true → (0 < mark_of s p) × ((w.pass q).reg.last ≢ p)
     walker-behind q n r = let c = subst (λ l. EachPair (MarkedFirst (mark_of s)) l) e k.prefix in let wq = k.walker q (k.walks q r) in
         let q-in : 0 < times q (p ∷ h ∷ ys) = subst (λ l. 0 < times q l) e (let a = o.stands q in let b = k.hand q in let m = wq.1 in let u : is_queued (w.pass q) ≡ true = grind (arith, r) in grind (arith, nat_tests)) in (
           Marks.first-marked (mark_of s) p q (h ∷ ys) c q-in wq.1,
@@ -85,7 +85,7 @@ module _ (limit : ℕ) (w : View) (s : Line) (g p h : ℕ) (o : Ordered w s g) (
           marking = λ a. let u = d.marking a in (Chain.updated-else w.next p (w.pass q).reg.last 0 t.1 ∙ u.0, u.1, λ m. let y = u.2 m in (Chain.updated-else w.next p (w.pass q).reg.cand 0 (off-zero (w.pass q).reg.cand u.1) ∙ y.0, y.1));
         }
 
-    leave-order : Ordered (left w p h) (record s { line = h ∷ ys }) (suc p)
+    pub leave-order : Ordered (left w p h) (record s { line = h ∷ ys }) (suc p)
     leave-order = record {
       walks = (
         Chain.chain-map (Follows w) (Follows (left w p h)) h ys (λ a b m n r. keep a b m (grind (arith, n)) r) v.walks.1,

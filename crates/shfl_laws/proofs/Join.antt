@@ -84,7 +84,7 @@ module _ (limit : ℕ) (w : View) (s : Line) (g p : ℕ) (o : Ordered w s g) (k 
     join-links = Chain.updated-all (λ q t. is_linking t.phase ≡ true → 0 < times q (s.line ++ p ∷ [])) w.pass p v (λ e. let t = Chain.times-push p p s.line in grind (arith, nat_tests)) (λ q n e. let t = Chain.times-push q p s.line in let i = o.links q e in omega arith)
 
   -- into the empty line
-  first-order : w.tail ≡ 0 → s.line ≡ [] → Ordered (row_swap w p) (joined s p) g
+  pub first-order : w.tail ≡ 0 → s.line ≡ [] → Ordered (row_swap w p) (joined s p) g
   first-order z e =
       let g0 : g ≡ 0 = no-giver g refl in
       let none : (q : ℕ) → is_queued (w.pass q) ≡ false = λ q. (let a = o.stands q in let t : times q s.line ≡ 0 = ap (times q) e in let h : link_word s.hand ≡ 0 = ap link_word (no-hand limit w s g o k e) in grind (arith, nat_tests)) in rw z (record {
@@ -112,7 +112,7 @@ module _ (limit : ℕ) (w : View) (s : Line) (g p : ℕ) (o : Ordered w s g) (k 
   late b = record { phase = Link; reg = record (w.pass p).reg { before = b }; nap = Awake }
 
   -- behind the line's end
-  behind-order : (b x : ℕ) (xs : List ℕ) → w.tail ≡ suc b → Order.Scene w s x xs → Ordered (row_swap w p) (joined s p) g
+  pub behind-order : (b x : ℕ) (xs : List ℕ) → w.tail ≡ suc b → Order.Scene w s x xs → Ordered (row_swap w p) (joined s p) g
   behind-order b x xs z v =
       let end_b : end x xs ≡ b = (let t = v.tail in omega arith) in
       let calm : ((late b).phase ≢ Ready) × ((late b).phase ≢ Swap) × (is_round (late b).phase ≡ false) = ((λ h. grind arith), (λ h. grind arith), refl) in

@@ -30,6 +30,13 @@ pub mod StateBits
 pub mod Slept
 pub mod NapRows
 pub mod InitRow
+pub mod Remark
+pub mod SwapRow
+pub mod WellFormed
+pub mod LeaveGroup
+pub mod LeaveRows
+pub mod CutRow
+pub mod ReadyRow
 pub mod Flagged
 pub mod GiveRow
 pub mod GiveLaw
@@ -42,3 +49,4 @@ pub mod OwedBatch
 pub mod BeginRow
 pub mod BeginGroup
 pub mod BeginLaw
+pub mod LookRow

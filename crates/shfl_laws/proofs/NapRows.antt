@@ -28,17 +28,17 @@ use Rattle.shfl_laws.proofs.StateBits.{or-parked, and-parked}
 use Rattle.shfl_laws.proofs.Slept.{slept, slept-agrees, slept-state, slept-bell, naps_at, parked_at}
 
 -- what a step of the pass p that neither sets a wakeup word nor is about to must show
-record Naps (form : Form) (w : View) (p : ℕ) (x : Nap) (y : Bool) (bells : ℕ → ℕ) : Type 0 where
-  before : (q : ℕ) → (w.pass p).nap ≢ Ring q
-  now : (q : ℕ) → x ≢ Ring q
-  place : fits x (w.pass p).phase ≡ true
-  announced : y ≡ announces x
-  roused : x ≡ Rouse → called (w.node p) ≡ true
-  parking : parks form ≡ false → ⊥
-  others : (q : ℕ) → q ≢ p → bells q ≡ w.bell q
-  owed : x ≡ Hear → called (w.node p) ≡ true → bells p ≡ 0 → (r : ℕ) × ((w.pass r).nap ≡ Ring p)
-  rung : 0 < bells p → (x ≡ Hear) × (called (w.node p) ≡ true) × ((r : ℕ) → (w.pass r).nap ≢ Ring p)
-  rings : (r : ℕ) → (w.pass r).nap ≡ Ring p → (x ≡ Hear) × (called (w.node p) ≡ true) × (bells p ≡ 0)
+pub record Naps (form : Form) (w : View) (p : ℕ) (x : Nap) (y : Bool) (bells : ℕ → ℕ) : Type 0 where
+  pub before : (q : ℕ) → (w.pass p).nap ≢ Ring q
+  pub now : (q : ℕ) → x ≢ Ring q
+  pub place : fits x (w.pass p).phase ≡ true
+  pub announced : y ≡ announces x
+  pub roused : x ≡ Rouse → called (w.node p) ≡ true
+  pub parking : parks form ≡ false → ⊥
+  pub others : (q : ℕ) → q ≢ p → bells q ≡ w.bell q
+  pub owed : x ≡ Hear → called (w.node p) ≡ true → bells p ≡ 0 → (r : ℕ) × ((w.pass r).nap ≡ Ring p)
+  pub rung : 0 < bells p → (x ≡ Hear) × (called (w.node p) ≡ true) × ((r : ℕ) → (w.pass r).nap ≢ Ring p)
+  pub rings : (r : ℕ) → (w.pass r).nap ≡ Ring p → (x ≡ Hear) × (called (w.node p) ≡ true) × (bells p ≡ 0)
 
 module _ (form : Form) (w : View) (p : ℕ) (x : Nap) (y : Bool) (bells : ℕ → ℕ) (h : Owed form w) (k : Naps form w p x y bells) where
   nap-else : (q : ℕ) → q ≢ p → naps_at w p x q ≡ (w.pass q).nap
@@ -69,7 +69,7 @@ module _ (form : Form) (w : View) (p : ℕ) (x : Nap) (y : Bool) (bells : ℕ �
   here-new : x ≡ Hear → called (w.node p) ≡ true → IsCalledSleeper then p
   here-new e c = record { sleeps = nap-here ∙ e; called = c }
 
-  napped : Owed form then
+  pub napped : Owed form then
   napped = record {
     places = Chain.updated-all (λ q z. fits z (w.pass q).phase ≡ true) (λ z. (w.pass z).nap) p x k.place (λ q n. h.places q);
     parked = λ q. Chain.by_eq q p
@@ -102,7 +102,7 @@ hears-look : (f : Phase) → fits Hear f ≡ true → f ≡ Look
 hears-look f e = grind arith
 
 -- whoever parks is in a form with parking
-must-park : (form : Form) (w : View) (p : ℕ) → Owed form w → (w.pass p).nap ≢ Awake → parks form ≡ false → ⊥
+pub must-park : (form : Form) (w : View) (p : ℕ) → Owed form w → (w.pass p).nap ≢ Awake → parks form ≡ false → ⊥
 must-park form w p h n s = n (h.spinning s p).0
 
 doze-naps : (form : Form) (w : View) (p : ℕ) → Owed form w → (w.pass p).nap ≡ Doze → Naps form w p (cond (called (w.node p)) Rouse Hear) true w.bell

@@ -110,3 +110,10 @@ slept-bell w p i n x = λ j. record w { node = λ q. nodes q j; bell = updated w
   where
     nodes : (q : ℕ) → record (w.node q) { parked = parked_at w p (w.node p).parked q } ≡ w.node q
     nodes q = ap (λ (b : Bool). record (w.node q) { parked = b }) (Chain.updated-all (λ z b. b ≡ (w.node z).parked) (λ z. (w.node z).parked) p (w.node p).parked refl (λ z n. refl) q)
+
+-- the pass writes no word
+pub slept-pass : (w : View) (p : ℕ) (x : Nap) → slept w (naps_at w p x) (parked_at w p (w.node p).parked) w.bell ≡ record w { pass = updated w.pass p (record (w.pass p) { nap = x }) }
+slept-pass w p x = λ j. record w { node = λ q. nodes q j; pass = λ q. nap-path w p x q j }
+  where
+    nodes : (q : ℕ) → record (w.node q) { parked = parked_at w p (w.node p).parked q } ≡ w.node q
+    nodes q = ap (λ (b : Bool). record (w.node q) { parked = b }) (Chain.updated-all (λ z b. b ≡ (w.node z).parked) (λ z. (w.node z).parked) p (w.node p).parked refl (λ z n. refl) q)
