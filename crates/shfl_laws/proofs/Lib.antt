@@ -1,3 +1,12 @@
+pub mod InRange
+pub mod SeenAs
+pub mod ShownOne
+pub mod Laws
+pub mod MoveLaws
+pub mod MoveRows
+pub mod Headline
+pub mod AttemptRows
+pub mod Opens
 pub mod Rows
 pub mod Order
 pub mod Quiet
@@ -44,9 +53,9 @@ pub mod OwedCall
 pub mod MarkBits
 pub mod MarkOrder
 pub mod MarkLaw
+pub mod LookRow
 pub mod BeginBits
 pub mod OwedBatch
 pub mod BeginRow
 pub mod BeginGroup
 pub mod BeginLaw
-pub mod LookRow

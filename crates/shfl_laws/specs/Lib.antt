@@ -1,0 +1,5 @@
+pub mod Moves
+pub mod Headline
+pub mod Rows
+pub mod Theorem
+pub mod Seen
