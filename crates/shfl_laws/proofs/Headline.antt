@@ -58,7 +58,7 @@ two-writers p q n (x ∷ xs) = let ih = two-writers p q n xs in by (x.0 == p) (x
 link-is : (f : Phase) → is_linking f ≡ true → f ≡ Link
 link-is f h = grind arith
 
-fore-queued : (q : PassState) → is_fore q ≡ true → is_queued q ≡ true
+pub fore-queued : (q : PassState) → is_fore q ≡ true → is_queued q ≡ true
 fore-queued q h = grind arith
 
 hand-round : (f : Phase) → has_hand f ≡ true → is_round f ≡ true
@@ -136,7 +136,7 @@ module _ (t : Terms) (w : World) (ok : Lawful t w) where
       by true e = refl
       by false e = e
 
-  first-head : (x : ℕ) → first s.line ≡ suc x → IsHead w x
+  pub first-head : (x : ℕ) → first s.line ≡ suc x → IsHead w x
   first-head x e = by ok.giver refl
     where
       by : (g : ℕ) → ok.giver ≡ g → IsHead w x
@@ -220,7 +220,7 @@ module _ (t : Terms) (w : World) (ok : Lawful t w) where
           has true i h = refl
           has false i h = absurd (let j = some-hand s.hand c e in omega arith)
 
-  marks : (p : ℕ) → IsQueued w p → mark_of s p ≡ batch w p
+  pub marks : (p : ℕ) → IsQueued w p → mark_of s p ≡ batch w p
   marks p q = k.mark p ∙ ap (λ b. cond b (batch w p) 0) q
 
   prefix-line : (l : List ℕ) → ((q : ℕ) → 0 < times q l → IsQueued w q) → EachPair (MarkedFirst (mark_of s)) l → EachPair (MarkedFirst (batch w)) l

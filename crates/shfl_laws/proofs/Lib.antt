@@ -1,3 +1,4 @@
+pub mod Facts
 pub mod InRange
 pub mod SeenAs
 pub mod ShownOne

@@ -3,3 +3,4 @@ pub mod Headline
 pub mod Rows
 pub mod Theorem
 pub mod Seen
+pub mod Facts

@@ -18,7 +18,7 @@ ShowsWellFormed = (t : Terms) (w : World) (ok : Lawful t w) → IsWellFormed t.r
 
 -- a world shows one state
 abbrev pub ShowsOne : Type 0
-ShowsOne = (t : Terms) (w : World) (a b : Lawful t w) → (a.shown.line ≡ b.shown.line) × (a.shown.hand ≡ b.shown.hand) × (a.shown.role ≡ b.shown.role)
+ShowsOne = (t : Terms) (w : World) (a b : Lawful t w) → a.shown ≡ b.shown
 
 -- after every schedule from the opening the plain words hold
 abbrev pub RunHeadline : Type 0
