@@ -1,3 +1,13 @@
+pub mod Facts
+pub mod InRange
+pub mod SeenAs
+pub mod ShownOne
+pub mod Laws
+pub mod MoveLaws
+pub mod MoveRows
+pub mod Headline
+pub mod AttemptRows
+pub mod Opens
 pub mod Rows
 pub mod Order
 pub mod Quiet
@@ -45,7 +55,13 @@ pub mod LookRow
 pub mod MarkBits
 pub mod MarkOrder
 pub mod MarkLaw
+pub mod LookRow
 pub mod BeginBits
 pub mod OwedBatch
 pub mod BeginRow
 pub mod BeginGroup
+pub mod BeginLaw
+pub mod Stretch
+pub mod MeasureRows
+pub mod MeasureMoves
+pub mod MeasureRounds

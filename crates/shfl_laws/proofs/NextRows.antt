@@ -103,7 +103,7 @@ module _ (t : Terms) (w : World) (p : ℕ) (ok : Lawful t w) (below : p < length
       (subst (λ n. Grouping t.rules.limit (written_next (view w) q.reg.before n p (to Look q.reg)) ok.shown) (sym (add-one p)) laws.1)
 
   -- what a next word of the line names is a pass of the line
-  named : (a b : ℕ) → 0 < times a ok.shown.line → look w.words (NextOf a) ≡ suc b → b < count t
+  pub named : (a b : ℕ) → 0 < times a ok.shown.line → look w.words (NextOf a) ≡ suc b → b < count t
   named a b h e = let z = Order.scene (view w) ok.shown ok.giver a ok.agrees.order h in let v = z.2 in
       let i = Order.succ-in (view w) z.0 z.1 a b v.walks v.stop (subst (λ l. 0 < times a l) v.line h) e in
       ok.of_passes.line b (subst (λ l. 0 < times b l) (sym v.line) (let y = i.0 in let x : 0 < times b (z.0 ∷ z.1) = omega arith in x))
@@ -112,7 +112,7 @@ module _ (t : Terms) (w : World) (p : ℕ) (ok : Lawful t w) (below : p < length
   in-line a h = ok.of_passes.line a h
 
   -- the detached waiter is a pass that is there
-  hand-there : is_round q.phase ≡ true → has_hand q.phase ≡ true → (link_word ok.shown.hand ≡ suc q.reg.cand) × (q.reg.cand < count t)
+  pub hand-there : is_round q.phase ≡ true → has_hand q.phase ≡ true → (link_word ok.shown.hand ≡ suc q.reg.cand) × (q.reg.cand < count t)
   hand-there a b = let e : link_word ok.shown.hand ≡ suc q.reg.cand = (ok.agrees.order.round p a).hand_is ∙ (λ j. cond (b j) (suc q.reg.cand) 0) in (e, ok.of_passes.hand q.reg.cand e)
 
   law-pick-row : q.phase ≡ Pick → Advances t w ok (PickEvent p q.reg.cand) (record { words = set w.words (index (NextOf q.reg.prev)) (q.reg.after + 1); passes = set w.passes p (to Aim q.reg) })

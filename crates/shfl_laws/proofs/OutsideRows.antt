@@ -97,14 +97,14 @@ module _ (t : Terms) (w : World) (p : ℕ) (ok : Lawful t w) (below : p < length
   n = look w.words Lock
 
   -- an outside pass goes on, the lock word becomes m, and the hold becomes hold
-  outside-lock : (f : Phase) (m : ℕ) (v : PassState) (e : _) (form : IsLockWord m) → q.phase ≡ f → outside f ≡ true → GoesOn t (view w) ok.shown p v → v.reg.me ≡ q.reg.me
+  pub outside-lock : (f : Phase) (m : ℕ) (v : PassState) (e : _) (form : IsLockWord m) → q.phase ≡ f → outside f ≡ true → GoesOn t (view w) ok.shown p v → v.reg.me ≡ q.reg.me
       → Admits t.rules.limit ok.shown e → NamesBelow (count t) e → (hold : _) → after ok.shown e ≡ record ok.shown { hold = hold } → Holding (count t) (held_of m) (readers_of m) (updated (known w.passes) p v) hold
       → Advances t w ok e (record { words = set w.words (index Lock) m; passes = set w.passes p v })
   outside-lock f m v e form was out on me may names hold same holding = advance-lock t w ok p below v e ok.giver me may names m form
       (subst (λ (z : Line). Agrees t (written_lock (view w) m p v) z ok.giver) (sym same) (quiet-agrees t (view w) ok.shown ok.giver p v ok.agrees nap on (held_of m) (closed_of m) (readers_of m) hold holding))
 
   -- the same where the line shows nothing of it
-  outside-still : (f : Phase) (m : ℕ) (v : PassState) → IsLockWord m → q.phase ≡ f → outside f ≡ true → GoesOn t (view w) ok.shown p v → v.reg.me ≡ q.reg.me
+  pub outside-still : (f : Phase) (m : ℕ) (v : PassState) → IsLockWord m → q.phase ≡ f → outside f ≡ true → GoesOn t (view w) ok.shown p v → v.reg.me ≡ q.reg.me
       → Holding (count t) (held_of m) (readers_of m) (updated (known w.passes) p v) ok.shown.hold → Advances t w ok Nothing (record { words = set w.words (index Lock) m; passes = set w.passes p v })
   outside-still f m v form was out on me holding = outside-lock f m v Nothing form was out on me tt tt ok.shown.hold refl holding
 

@@ -41,13 +41,13 @@ module _ (t : Terms) (w : World) (p : ℕ) (ok : Lawful t w) (below : p < length
   rounded : is_round q.phase ≡ true → Rounded (view w) ok.shown q
   rounded h = ok.agrees.order.round p h
 
-  prev-there : is_round q.phase ≡ true → q.reg.prev < count t
+  pub prev-there : is_round q.phase ≡ true → q.reg.prev < count t
   prev-there h = ok.of_passes.line q.reg.prev (rounded h).prev_in
 
   here : is_round q.phase ≡ true → tail_to_pick q.phase ≡ true → Candidate (view w) ok.shown q
   here h k = candidate t.rules.limit (view w) ok.shown ok.giver p ok.agrees.order ok.agrees.grouping h k
 
-  cand-there : is_round q.phase ≡ true → tail_to_pick q.phase ≡ true → q.reg.cand < count t
+  pub cand-there : is_round q.phase ≡ true → tail_to_pick q.phase ≡ true → q.reg.cand < count t
   cand-there h k = ok.of_passes.line q.reg.cand (here h k).inside
 
   own-there : p < count t
