@@ -114,11 +114,11 @@ module _ (t : Terms) (w : World) (p : ℕ) (ok : Lawful t w) (below : p < length
             (λ i h x. told i (sym (queued-same i) ∙ h) x)
             (λ y i h r x. grouped y i (sym (queued-same i) ∙ h) (sym (fore-same i) ∙ r) x)
             (owed-awake t.rules.form (view w) (record (view w) { pass = updated (view w).pass p v }) p v refl refl refl nap a.owed (record {
-          awake = awake;
-          told = λ i. a.owed.told p (sym quiet.queued ∙ i);
-          grouped = λ x i r. a.owed.grouped x p (sym quiet.queued ∙ i) (sym quiet.fore ∙ r);
-          fresh = λ h. absurd (quiet.no_swap h);
-        }));
+              awake = awake;
+              told = λ i. a.owed.told p (sym quiet.queued ∙ i);
+              grouped = λ x i r. a.owed.grouped x p (sym quiet.queued ∙ i) (sym quiet.fore ∙ r);
+              fresh = λ h. absurd (quiet.no_swap h);
+            }));
       })))
     where
       queued-same : (i : ℕ) → is_queued (updated (view w).pass p v i) ≡ is_queued ((view w).pass i)

@@ -46,7 +46,6 @@ module _ (t : Terms) (w : World) (p : ℕ) (ok : Lawful t w) (below : p < length
   own : Ended q here
   own = ended q (record q.reg { flag = q.reg.flag || (q.reg.last == p) }) refl
 
-
   agrees : (m : ℕ) → state_of m ≡ record ((view w).node q.reg.last) { shuffler = true } → Agrees t (written_state (view w) q.reg.last m p here) s' ok.giver
   agrees m e = subst (λ (z : NodeState). Agrees t (record (view w) { node = updated (view w).node q.reg.last z; pass = updated (view w).pass p here }) s' ok.giver) (sym e) (let a = ok.agrees in record {
     order = give-order t.rules.limit (view w) ok.shown ok.giver p a.order a.grouping f;

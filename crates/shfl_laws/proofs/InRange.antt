@@ -87,7 +87,7 @@ module _ (t : Terms) (w : World) (p : ℕ) (ok : Lawful t w) (below : p < length
       sleeper = ⊎_elim
           (λ b. (let s = ok.seats in omega arith))
           (λ b. absurd (let s : (known w.passes whom).nap ≡ Hear = (ok.agrees.owed.rings p whom e).0.sleeps in let i : known w.passes whom ≡ idle whom = past w.passes whom (idle whom) b in
-              let j : Awake ≡ Hear = sym (ap (λ (z : PassState). z.nap) i) ∙ s in grind arith))
+          let j : Awake ≡ Hear = sym (ap (λ (z : PassState). z.nap) i) ∙ s in grind arith))
           (below-or whom (length w.passes))
 
 pub in-range-law : (t : Terms) → InRangeLaw t

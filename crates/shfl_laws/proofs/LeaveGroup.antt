@@ -90,7 +90,7 @@ module _ (limit : ℕ) (w : View) (s : Line) (p : ℕ) (v : PassState) (stands :
   leave-grouping = record {
     mark = λ q. Chain.by_eq q p
         (λ i. subst (λ z. marks z ≡ cond (is_queued (updated w.pass p v z)) (w.node z).batch 0) (sym i)
-            (off ∙ sym (λ j. cond ((ap is_queued (Chain.updated-same w.pass p v) ∙ gone) j) (w.node p).batch 0)))
+        (off ∙ sym (λ j. cond ((ap is_queued (Chain.updated-same w.pass p v) ∙ gone) j) (w.node p).batch 0)))
         (λ n. else_ q n ∙ (k.mark q ∙ (λ j. cond (is_queued (sym (pass-else q n) j)) (w.node q).batch 0)));
     hand = λ q e. lower q (k.hand q e);
     within = wf'.within;

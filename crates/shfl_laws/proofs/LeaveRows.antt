@@ -96,13 +96,13 @@ module _ (t : Terms) (w : World) (p : ℕ) (ok : Lawful t w) (below : p < length
     heir-order : Ordered (left (view w) p h) (after ok.shown (Leave p)) (suc p)
     heir-order = let x = heirs (view w) ok.shown ok.giver p h ok.agrees.order front.0 found in
         let o = leave-order t.rules.limit (view w) ok.shown ok.giver p h ok.agrees.order ok.agrees.grouping (l.fore, l.calm, l.queued, l.linked) found x.0 x.1
-            (Orders.scene-at (view w) ok.shown ok.giver p (h ∷ x.0) ok.agrees.order x.1) x.2 in
+        (Orders.scene-at (view w) ok.shown ok.giver p (h ∷ x.0) ok.agrees.order x.1) x.2 in
         let gone : without p ok.shown.line ≡ h ∷ x.0 = ap (without p) x.1 ∙ Chain.without-hit p p (h ∷ x.0) refl in
         let o' : Ordered (left (view w) p h) (record ok.shown { line = without p ok.shown.line }) (suc p) =
-            subst (λ (z : List ℕ). Ordered (left (view w) p h) (record ok.shown { line = z }) (suc p)) (sym gone) o in
+        subst (λ (z : List ℕ). Ordered (left (view w) p h) (record ok.shown { line = z }) (suc p)) (sym gone) o in
         order-lower (left (view w) p h) (record ok.shown { line = without p ok.shown.line }) (suc p) (role_without p ok.shown.role) (slice_set ok.shown.mark p 0)
-            (lower t.rules.limit (view w) ok.shown p v ok.agrees.order.stands ok.agrees.grouping fine fine-after room front.0 l.calm refl refl refl (λ e. absurd (cc)))
-            (λ e. ok.agrees.order.still (role-calm p ok.shown.role e)) o'
+        (lower t.rules.limit (view w) ok.shown p v ok.agrees.order.stands ok.agrees.grouping fine fine-after room front.0 l.calm refl refl refl (λ e. absurd (cc)))
+        (λ e. ok.agrees.order.still (role-calm p ok.shown.role e)) o'
 
     heir-agrees : Agrees t (written_next (view w) p 0 p v) (after ok.shown (Leave p)) (suc p)
     heir-agrees = record {

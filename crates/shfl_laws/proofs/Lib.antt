@@ -60,3 +60,7 @@ pub mod OwedBatch
 pub mod BeginRow
 pub mod BeginGroup
 pub mod BeginLaw
+pub mod Stretch
+pub mod MeasureRows
+pub mod MeasureMoves
+pub mod MeasureRounds

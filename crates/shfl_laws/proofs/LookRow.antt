@@ -206,7 +206,7 @@ module _ (t : Terms) (w : World) (p : ℕ) (ok : Lawful t w) (below : p < length
   twice : (z : ℕ) → updated mid.pass p (record (mid.pass p) { nap = Doze }) z ≡ updated (known w.passes) p dozing z
   twice z = Chain.by_eq z p
       (λ i. subst (λ y. updated mid.pass p (record (mid.pass p) { nap = Doze }) y ≡ updated (known w.passes) p dozing y) (sym i)
-          (Chain.updated-same mid.pass p (record (mid.pass p) { nap = Doze }) ∙ (ap (λ (y : PassState). record y { nap = Doze }) mid-here ∙ sym (Chain.updated-same (known w.passes) p dozing))))
+      (Chain.updated-same mid.pass p (record (mid.pass p) { nap = Doze }) ∙ (ap (λ (y : PassState). record y { nap = Doze }) mid-here ∙ sym (Chain.updated-same (known w.passes) p dozing))))
       (λ m. Chain.updated-else mid.pass p z (record (mid.pass p) { nap = Doze }) m ∙ (Chain.updated-else (known w.passes) p z (to Look r) m ∙ sym (Chain.updated-else (known w.passes) p z dozing m)))
 
   doze-agrees : parks t.rules.form ≡ true → Agrees t (passed (view w) p dozing) ok.shown ok.giver

@@ -136,22 +136,22 @@ module _ (t : Terms) (w : World) (p : ℕ) (ok : Lawful t w) (below : p < length
   calls : Calls t.rules.form (view w) p c new v
   calls = let own = in-round v (still-round t.rules.limit (view w) ok.shown ok.giver p ok.agrees.order ok.agrees.grouping f ring (parks t.rules.form) at.inside) in
       let k = quiet t.rules.limit (view w) ok.shown ok.giver p ok.agrees.order ok.agrees.grouping f ring (parks t.rules.form) at.inside in record {
-    awake = nap;
-    other = not-own;
-    parked = refl;
-    keeps = λ e. keeps old.ready old.spin no-spin e;
-    wakes = λ e. wakes (parks t.rules.form) refl e;
-    rings = ap (λ b. cond b (Ring c) Awake) (sleeps-is t n unparked);
-    same = λ e h i. wakes-if old.parked old.ready old.spin e i;
-    places = places (sleeps t.rules n) (nat_lt more t.rules.limit);
-    spinning = λ s. s;
-    told = λ a b. omega arith;
-    grouped = λ s a b d. s;
-    fresh = λ e. absurd (let z = cand-queued in grind (arith, e, z));
-    own_told = λ a. ok.agrees.owed.told p (sym k.queued ∙ a);
-    own_grouped = λ s a b. ok.agrees.owed.grouped s p (sym k.queued ∙ a) (sym k.fore ∙ b);
-    own_fresh = λ e. absurd (own.swap e);
-  }
+        awake = nap;
+        other = not-own;
+        parked = refl;
+        keeps = λ e. keeps old.ready old.spin no-spin e;
+        wakes = λ e. wakes (parks t.rules.form) refl e;
+        rings = ap (λ b. cond b (Ring c) Awake) (sleeps-is t n unparked);
+        same = λ e h i. wakes-if old.parked old.ready old.spin e i;
+        places = places (sleeps t.rules n) (nat_lt more t.rules.limit);
+        spinning = λ s. s;
+        told = λ a b. omega arith;
+        grouped = λ s a b d. s;
+        fresh = λ e. absurd (let z = cand-queued in grind (arith, e, z));
+        own_told = λ a. ok.agrees.owed.told p (sym k.queued ∙ a);
+        own_grouped = λ s a b. ok.agrees.owed.grouped s p (sym k.queued ∙ a) (sym k.fore ∙ b);
+        own_fresh = λ e. absurd (own.swap e);
+      }
     where
       keeps : (r s : Bool) → s ≡ false → (r || s) ≡ true → (r || parks t.rules.form) ≡ true
       keeps true s e h = refl
@@ -187,21 +187,21 @@ module _ (t : Terms) (w : World) (p : ℕ) (ok : Lawful t w) (below : p < length
   agrees : Agrees t w' s' ok.giver
   agrees = let a = ok.agrees in let z = Order.scene (view w) ok.shown ok.giver q.reg.last a.order last-in in
       let own = in-round v (still-round t.rules.limit (view w) ok.shown ok.giver p a.order a.grouping f ring (parks t.rules.form) at.inside) in let was = in-round q rp in record {
-    order = mark-order t.rules.limit (view w) ok.shown ok.giver p a.order a.grouping f ring (parks t.rules.form) at.inside (slice_set ok.shown.mark c more) (λ i d. mark-set ok.shown.mark c more i in-marks ∙ Chain.updated-else (mark_of ok.shown) c i more d);
-    grouping = mark-grouping t.rules.limit (view w) ok.shown ok.giver p z.0 z.1 a.order a.grouping z.2 f in-marks ring (parks t.rules.form);
-    holding = stay (count t) (view w).held (view w).readers (known w.passes) ok.shown.hold a.holding p v (below-count t w ok p below) (view w).readers (own.holding ∙ sym was.holding) refl (let x = was.backing in let y = own.backing in omega arith);
-    registered = registered-set t.rules.form (view w) w' p v refl refl (λ z i h. a.registered.late z h) a.registered (record {
-      writing = λ e. absurd (let z = own.writing in cc);
-      reading = λ e. absurd (let z = own.reading in cc);
-      writers = λ x i. a.registered.writers x p was.idle;
-      no_compare = λ x. own.compare;
-      no_or = λ x. own.grab;
-      saw = λ e. absurd (own.compare e);
-      late = λ e. absurd (own.late e);
-      seen = λ e. absurd (picks (nat_lt more t.rules.limit) e);
-    });
-    owed = owed-call t.rules.form (view w) p c new v a.owed calls;
-  }
+        order = mark-order t.rules.limit (view w) ok.shown ok.giver p a.order a.grouping f ring (parks t.rules.form) at.inside (slice_set ok.shown.mark c more) (λ i d. mark-set ok.shown.mark c more i in-marks ∙ Chain.updated-else (mark_of ok.shown) c i more d);
+        grouping = mark-grouping t.rules.limit (view w) ok.shown ok.giver p z.0 z.1 a.order a.grouping z.2 f in-marks ring (parks t.rules.form);
+        holding = stay (count t) (view w).held (view w).readers (known w.passes) ok.shown.hold a.holding p v (below-count t w ok p below) (view w).readers (own.holding ∙ sym was.holding) refl (let x = was.backing in let y = own.backing in omega arith);
+        registered = registered-set t.rules.form (view w) w' p v refl refl (λ z i h. a.registered.late z h) a.registered (record {
+          writing = λ e. absurd (let z = own.writing in cc);
+          reading = λ e. absurd (let z = own.reading in cc);
+          writers = λ x i. a.registered.writers x p was.idle;
+          no_compare = λ x. own.compare;
+          no_or = λ x. own.grab;
+          saw = λ e. absurd (own.compare e);
+          late = λ e. absurd (own.late e);
+          seen = λ e. absurd (picks (nat_lt more t.rules.limit) e);
+        });
+        owed = owed-call t.rules.form (view w) p c new v a.owed calls;
+      }
     where
       picks : (b : Bool) → decide_to_pick (cond b Next Give) ≡ true → ⊥
       picks true e = cc

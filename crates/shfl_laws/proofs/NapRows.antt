@@ -82,12 +82,12 @@ module _ (form : Form) (w : View) (p : ℕ) (x : Nap) (y : Bool) (bells : ℕ �
     fresh = h.fresh;
     owed = λ q. Chain.by_eq q p
         (λ i. subst (λ z. IsCalledSleeper then z → bells z ≡ 0 → (r : ℕ) × (naps_at w p x r ≡ Ring z)) (sym i)
-            (λ c e. let t = k.owed (sym nap-here ∙ c.sleeps) c.called e in (t.0, ring-new t.0 p t.1)))
+        (λ c e. let t = k.owed (sym nap-here ∙ c.sleeps) c.called e in (t.0, ring-new t.0 p t.1)))
         (λ n c e. let t = h.owed q (sleeper-old q n c) (sym (k.others q n) ∙ e) in (t.0, ring-new t.0 q t.1));
     one = λ q a b c d. h.one q a b (ring-old a q c) (ring-old b q d);
     rung = λ q. Chain.by_eq q p
         (λ i. subst (λ z. 0 < bells z → IsCalledSleeper then z × ((r : ℕ) → naps_at w p x r ≢ Ring z)) (sym i)
-            (λ e. let t = k.rung e in (here-new t.0 t.1, λ r f. t.2 r (ring-old r p f))))
+        (λ e. let t = k.rung e in (here-new t.0 t.1, λ r f. t.2 r (ring-old r p f))))
         (λ n e. let t = h.rung q (subst (λ z. 0 < z) (k.others q n) e) in (sleeper-new q n t.0, λ r f. t.1 r (ring-old r q f)));
     rings = λ r q e. (let old = ring-old r q e in Chain.by_eq q p
         (λ i. subst (λ z. IsCalledSleeper then z × (bells z ≡ 0)) (sym i) (let t = k.rings r (old ∙ ap Ring i) in (here-new t.0 t.1, t.2)))
@@ -252,7 +252,7 @@ module _ (form : Form) (w : View) (p whom : ℕ) (h : Owed form w) (was : (w.pas
     one = λ q a b c d. h.one q a b (ring-past a q c).1 (ring-past b q d).1;
     rung = λ q. Chain.by_eq q whom
         (λ i. subst (λ z. 0 < updated w.bell whom 1 z → IsCalledSleeper rang z × ((r : ℕ) → naps_at w p Awake r ≢ Ring z)) (sym i)
-            (λ e. (kept whom (h.rings p whom was).0, λ r f. ring-other r whom f refl)))
+        (λ e. (kept whom (h.rings p whom was).0, λ r f. ring-other r whom f refl)))
         (λ n e. let t = h.rung q (subst (λ z. 0 < z) (Chain.updated-else w.bell whom q 1 n) e) in (kept q t.0, λ r f. t.1 r (ring-past r q f).1));
     rings = λ r q e. let t = h.rings r q (ring-past r q e).1 in (kept q t.0, Chain.updated-else w.bell whom q 1 (ring-other r q e) ∙ t.1);
   }

@@ -115,7 +115,6 @@ module _ (form : Form) (w : View) (p c : ℕ) (n : NodeState) (v : PassState) (h
       (λ e. subst (λ z. IsCalledSleeper w' z) (sym e) (let s0 : IsCalledSleeper w c = subst (λ z. IsCalledSleeper w z) e s in record { sleeps = nap-else c k.other ∙ s0.sleeps; called = ap called node-own ∙ k.keeps s0.called }))
       (λ d. sleeper-else q d (not-own q s) s)
 
-
   owed-by : (b : Bool) → asleep (w.node c) ≡ b → Owed form w'
   owed-by b e = record {
     places = Chain.updated-all (λ q t. fits t.nap t.phase ≡ true) w.pass p v k.places (λ q d. h.places q);

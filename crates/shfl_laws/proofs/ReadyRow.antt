@@ -157,7 +157,7 @@ module _ (w : View) (s : Line) (g p h : ℕ) (o : Ordered w s g) (f : (w.pass p)
       only = λ q e a. Chain.by_eq q h
           (λ i. (heir-first ∙ ap suc (sym i), refl))
           (λ n. absurd (let m = now-queued q e in let y : awake w q ≡ true = (λ j. is_fore (sym (pass-else q m) j) || (sym (node-else q n) j).ready) ∙ a in
-              let t = o.fronted.only q (sym (queued-same q) ∙ e) y in let b = giver in omega arith));
+          let t = o.fronted.only q (sym (queued-same q) ∙ e) y in let b = giver in omega arith));
       front = λ q _ e. (let i : h ≡ q = (let a = heir-first in omega arith) in subst (λ z. awake then z ≡ true) i heir-awake);
       heir = λ q e. absurd (omega arith);
       linking = λ q e. (let l = sym (linking-same q) ∙ e in let n : q ≢ h = λ i. (let a : is_linking (w.pass h).phase ≡ true = subst (λ z. is_linking (w.pass z).phase ≡ true) i l in let b = heir-linked in cc) in
@@ -169,9 +169,13 @@ module _ (w : View) (s : Line) (g p h : ℕ) (o : Ordered w s g) (f : (w.pass p)
       init = λ e. (let n : q ≢ p = λ i. (let a : (then.pass p).phase ≡ Swap = subst (λ z. (then.pass z).phase ≡ Swap) i e in let b = ap (λ (z : PassState). z.phase) (Chain.updated-same w.pass p v) in cc) in
           let old : (w.pass q).phase ≡ Swap = ap (λ (z : PassState). z.phase) (sym (pass-else q n)) ∙ e in
           let m : q ≢ h = λ i. (let a : is_queued (w.pass q) ≡ true = subst (λ z. is_queued (w.pass z) ≡ true) (sym i) heir-queued in grind (arith, old)) in
-          let t = (o.clean q).init old in
-          (ap (λ (z : NodeState). z.batch) (node-else q m) ∙ t.0, ap (λ (z : NodeState). z.shuffler) (node-else q m) ∙ t.1, ap (λ (z : NodeState). z.ready) (node-else q m) ∙ t.2,
-            ap (λ (z : PassState). z.reg.batch) (pass-else q n) ∙ t.3, ap (λ (z : PassState). z.reg.flag) (pass-else q n) ∙ t.4));
+          let t = (o.clean q).init old in (
+            ap (λ (z : NodeState). z.batch) (node-else q m) ∙ t.0,
+            ap (λ (z : NodeState). z.shuffler) (node-else q m) ∙ t.1,
+            ap (λ (z : NodeState). z.ready) (node-else q m) ∙ t.2,
+            ap (λ (z : PassState). z.reg.batch) (pass-else q n) ∙ t.3,
+            ap (λ (z : PassState). z.reg.flag) (pass-else q n) ∙ t.4,
+          ));
     };
     links = λ q e. o.links q (sym (linking-same q) ∙ e);
     round = Chain.updated-all (λ q t. is_round t.phase ≡ true → Round w.next (mark_of s) w.tail s.line (link_word s.hand) t) w.pass p v (λ e. absurd (cc)) (λ q n. o.round q);
@@ -227,7 +231,7 @@ module _ (w : View) (s : Line) (g p h : ℕ) (o : Ordered w s g) (f : (w.pass p)
       places = Chain.updated-all (λ q t. fits t.nap t.phase ≡ true) w.pass p v place (λ q n. ow.places q);
       parked = λ q. Chain.by_eq q p
           (λ i. subst (λ z. (then.node z).parked ≡ announces (then.pass z).nap) (sym i)
-              (parked-same p ∙ (ow.parked p ∙ (ap announces was ∙ (sym quiet ∙ ap announces (sym nap-here))))))
+          (parked-same p ∙ (ow.parked p ∙ (ap announces was ∙ (sym quiet ∙ ap announces (sym nap-here))))))
           (λ n. parked-same q ∙ (ow.parked q ∙ ap announces (sym (nap-else q n))));
       roused = λ q e. (let n : q ≢ p = λ i. (let a : (then.pass p).nap ≡ Rouse = subst (λ z. (then.pass z).nap ≡ Rouse) i e in not-roused (sym nap-here ∙ a)) in called-more q (ow.roused q (sym (nap-else q n) ∙ e)));
       spinning = λ sp q. (let t = ow.spinning sp q in (Chain.updated-all (λ z u. u.nap ≡ Awake) w.pass p v (spins sp) (λ z n. (ow.spinning sp z).0) q, spin-same q ∙ t.1, t.2));
@@ -259,17 +263,20 @@ module _ (w : View) (s : Line) (g p h : ℕ) (o : Ordered w s g) (f : (w.pass p)
     pub ring-owed : x ≡ Ring h → (w.pass h).nap ≡ Hear → called (w.node h) ≡ false → Owed form then
     ring-owed e sl un = ready-owed
         (λ q c b. Chain.by_eq q h
-            (λ i. (p, nap-here ∙ (e ∙ ap Ring (sym i))))
-            (λ n. let t = ow.owed q (past q n c) b in (t.0, ring-new t.0 q t.1)))
+        (λ i. (p, nap-here ∙ (e ∙ ap Ring (sym i))))
+        (λ n. let t = ow.owed q (past q n c) b in (t.0, ring-new t.0 q t.1)))
         (λ q a b i j. Chain.by_eq a p
-            (λ m. Chain.by_eq b p (λ n. m ∙ sym n) (λ n. absurd (both b q n j (mine a q m i))))
-            (λ m. Chain.by_eq b p (λ n. absurd (both a q m i (mine b q n j))) (λ n. ow.one q a b (ring-old a q m i) (ring-old b q n j))))
-        (λ q b. let t = ow.rung q b in (kept q t.0, λ r i. Chain.by_eq r p
-            (λ m. (let k = mine r q m i in let c : called (w.node h) ≡ true = subst (λ z. called (w.node z) ≡ true) k t.0.called in cc))
-            (λ m. t.1 r (ring-old r q m i))))
+        (λ m. Chain.by_eq b p (λ n. m ∙ sym n) (λ n. absurd (both b q n j (mine a q m i))))
+        (λ m. Chain.by_eq b p (λ n. absurd (both a q m i (mine b q n j))) (λ n. ow.one q a b (ring-old a q m i) (ring-old b q n j))))
+        (λ q b. let t = ow.rung q b in (
+          kept q t.0,
+          λ r i. Chain.by_eq r p
+              (λ m. (let k = mine r q m i in let c : called (w.node h) ≡ true = subst (λ z. called (w.node z) ≡ true) k t.0.called in cc))
+              (λ m. t.1 r (ring-old r q m i)),
+        ))
         (λ r q i. Chain.by_eq r p
-            (λ m. let k = mine r q m i in subst (λ z. IsCalledSleeper then z × (w.bell z ≡ 0)) (sym k) (record { sleeps = nap-else h apart ∙ sl; called = ap called node-here }, quiet-bell))
-            (λ m. let t = ow.rings r q (ring-old r q m i) in (kept q t.0, t.1)))
+        (λ m. let k = mine r q m i in subst (λ z. IsCalledSleeper then z × (w.bell z ≡ 0)) (sym k) (record { sleeps = nap-else h apart ∙ sl; called = ap called node-here }, quiet-bell))
+        (λ m. let t = ow.rings r q (ring-old r q m i) in (kept q t.0, t.1)))
       where
         mine : (r q : ℕ) → r ≡ p → (then.pass r).nap ≡ Ring q → q ≡ h
         mine r q m i = let a : (then.pass p).nap ≡ Ring q = subst (λ z. (then.pass z).nap ≡ Ring q) m i in let b : Ring q ≡ Ring h = sym (sym nap-here ∙ a) ∙ e in cc
@@ -328,15 +335,15 @@ module _ (t : Terms) (w : World) (p : ℕ) (ok : Lawful t w) (below : p < length
             (let e : is_holding q.phase ≡ true = grind (arith, f) in sym e) refl (let b : backs q ≡ 0 = grind (arith, f) in omega arith);
         registered = registered-set t.rules.form (view w) (record (view w) { node = updated (view w).node h (record ((view w).node h) { ready = true }); pass = updated (known w.passes) p (record { phase = Held; reg = q.reg; nap = x }) }) p
             (record { phase = Held; reg = q.reg; nap = x }) refl refl (λ z m e. ok.agrees.registered.late z e) ok.agrees.registered (record {
-          writing = λ e. absurd (cc);
-          reading = λ e. absurd (cc);
-          writers = λ y _. ok.agrees.registered.writers y p (λ i. absurd (cc));
-          no_compare = λ y e. absurd (cc);
-          no_or = λ y e. absurd (cc);
-          saw = λ e. absurd (cc);
-          late = λ e. absurd (cc);
-          seen = λ e. absurd (cc);
-        });
+              writing = λ e. absurd (cc);
+              reading = λ e. absurd (cc);
+              writers = λ y _. ok.agrees.registered.writers y p (λ i. absurd (cc));
+              no_compare = λ y e. absurd (cc);
+              no_or = λ y e. absurd (cc);
+              saw = λ e. absurd (cc);
+              late = λ e. absurd (cc);
+              seen = λ e. absurd (cc);
+            });
         owed = ow;
       }))
 
@@ -353,8 +360,8 @@ module _ (t : Terms) (w : World) (p : ℕ) (ok : Lawful t w) (below : p < length
       hears : IsCalledSleeper (record (view w) { node = updated (view w).node h (record ((view w).node h) { ready = true }); pass = updated (known w.passes) p (record { phase = Held; reg = q.reg; nap = Awake }) }) h → (known w.passes h).nap ≡ Hear
       hears c = Chain.by_eq h p
           (λ i. absurd (let a : updated (known w.passes) p (record { phase = Held; reg = q.reg; nap = Awake }) p ≡ record { phase = Held; reg = q.reg; nap = Awake } = Chain.updated-same (known w.passes) p (record { phase = Held; reg = q.reg; nap = Awake }) in
-              let b : (updated (known w.passes) p (record { phase = Held; reg = q.reg; nap = Awake }) p).nap ≡ Hear = subst (λ z. (updated (known w.passes) p (record { phase = Held; reg = q.reg; nap = Awake }) z).nap ≡ Hear) i c.sleeps in
-              let d : Awake ≡ Hear = ap (λ (z : PassState). z.nap) (sym a) ∙ b in cc))
+          let b : (updated (known w.passes) p (record { phase = Held; reg = q.reg; nap = Awake }) p).nap ≡ Hear = subst (λ z. (updated (known w.passes) p (record { phase = Held; reg = q.reg; nap = Awake }) z).nap ≡ Hear) i c.sleeps in
+          let d : Awake ≡ Hear = ap (λ (z : PassState). z.nap) (sym a) ∙ b in cc))
           (λ m. ap (λ (z : PassState). z.nap) (sym (Chain.updated-else (known w.passes) p h (record { phase = Held; reg = q.reg; nap = Awake }) m)) ∙ c.sleeps)
 
       parking : (known w.passes h).nap ≡ Hear → (b : Bool) → parks t.rules.form ≡ b → b ≡ true

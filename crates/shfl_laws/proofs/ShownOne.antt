@@ -75,8 +75,10 @@ rises-above least n q [] r h = (refl, refl)
 rises-above least n q (x ∷ xs) r h = let a = r.0 in let t = rises-above (suc x.0) n q xs r.2 (omega arith) in let e : (x.0 == q) ≡ false = grind (arith, nat_tests) in by e t
   where
     by : (x.0 == q) ≡ false → (write_of q xs ≡ 0) × (read_of q xs ≡ 0) → (write_of q (x ∷ xs) ≡ 0) × (read_of q (x ∷ xs) ≡ 0)
-    by e t = (ap (λ (b : Bool). cond (b && is_write x.1) 1 0 + write_of q xs) e ∙ (let u = t.0 in let z : 0 + write_of q xs ≡ 0 = omega arith in z),
-      ap (λ (b : Bool). cond (b && not (is_write x.1)) 1 0 + read_of q xs) e ∙ (let u = t.1 in let z : 0 + read_of q xs ≡ 0 = omega arith in z))
+    by e t = (
+      ap (λ (b : Bool). cond (b && is_write x.1) 1 0 + write_of q xs) e ∙ (let u = t.0 in let z : 0 + write_of q xs ≡ 0 = omega arith in z),
+      ap (λ (b : Bool). cond (b && not (is_write x.1)) 1 0 + read_of q xs) e ∙ (let u = t.1 in let z : 0 + read_of q xs ≡ 0 = omega arith in z),
+    )
 
 -- the first stands in the hold, in its mode
 first-in : (x : ℕ × Mode) (xs : List (ℕ × Mode)) → (write_of x.0 (x ∷ xs) ≡ cond (is_write x.1) 1 0 + write_of x.0 xs) × (read_of x.0 (x ∷ xs) ≡ cond (not (is_write x.1)) 1 0 + read_of x.0 xs)

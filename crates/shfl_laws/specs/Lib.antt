@@ -4,3 +4,5 @@ pub mod Rows
 pub mod Theorem
 pub mod Seen
 pub mod Facts
+pub mod RoundMeasure
+pub mod Rounds
