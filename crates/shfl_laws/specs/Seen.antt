@@ -1,6 +1,6 @@
 -- What the layers over shared words rest on: a planned word is there, a told word has its form, and a pass that has
 -- entered or is about to leave is still seen as idle or as a holder.
-use Rattle.std.specs.Prelude.{◌≡◌, ℕ, true, false}
+use Rattle.std.specs.Prelude.{◌≡◌, ℕ, Bool, true, false}
 use mathlib.Core.Option.{some}
 use lib.ListN.{get_elem?}
 use Rattle.shfl_line.specs.declared.events.Form.{Form}
@@ -8,9 +8,10 @@ use Rattle.shfl_line.specs.declared.events.Mode.{Mode}
 use Rattle.shfl_line.specs.declared.events.LineEvent.TheVariants.{Nothing}
 use Rattle.shfl_core.specs.declared.phase.Phase.TheVariants.{Idle}
 use Rattle.shfl_core.specs.declared.phase.PassState.{PassState}
+use Rattle.shfl_core.specs.declared.phase.Rules.{Rules}
 use Rattle.shfl_core.specs.Words.{look, site, told, is_store}
 use Rattle.shfl_core.specs.Plan.{plan, is_resting}
-use Rattle.shfl_core.specs.Take.{entry, exit, acquired, released}
+use Rattle.shfl_core.specs.Take.{take, entry, exit, acquired, released}
 use Rattle.shfl_core.specs.Waiting.{MayUse}
 use Rattle.shfl_core.specs.Worlds.{World, placed_at}
 use Rattle.shfl_core.specs.Lawful.{Terms, Lawful, Advances, Formed, InRange}
@@ -23,6 +24,10 @@ InRangeLaw t = (w : World) (p : ℕ) (q : PassState) → Lawful t w → get_elem
 abbrev pub ToldLaw : Terms → Type 0
 ToldLaw t = (w : World) (p : ℕ) (q : PassState) → Lawful t w → is_store (plan t.rules p q) ≡ false
     → Formed (site (plan t.rules p q)) (told (plan t.rules p q) (look w.words (site (plan t.rules p q))))
+
+-- a step that stores looks at nothing: what its operation tells serves as well as what it found
+abbrev pub StoresBlindly : Type 0
+StoresBlindly = (rules : Rules) (p : ℕ) (q : PassState) (found : ℕ) (choice : Bool) → take rules p q (told (plan rules p q) found) choice ≡ take rules p q found choice
 
 -- how a pass is seen by others: as it stands; or still idle, where it has entered and made no step; or still as a
 -- holder, where it leaves and has made no step

@@ -1,7 +1,8 @@
 //! One law for each step of the table. The functions do nothing when they run: their contracts are the laws, which speak
 //! of every lawful world, and not of those of a run alone.
 ghost use Rattle.shfl_core.specs.Lawful.{Terms};
-ghost use Rattle.shfl_laws.specs.Rows.{OutsideLaws, AttemptLaws, JoinLaws, ChoosingLaws, RelinkLaws, HeadLaws, LeaveLaws, ParkLaws};
+ghost use Rattle.shfl_laws.specs.Rows.{OutsideLaws, AttemptLaws, JoinLaws, ChoosingLaws};
+ghost use Rattle.shfl_laws.specs.Rows.{RelinkLaws, HeadLaws, LeaveLaws, ParkLaws};
 
 /// Taking the lock past the queue, and giving it back.
 pub fn laws_outside_the_queue()
