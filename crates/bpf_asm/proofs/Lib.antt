@@ -7,3 +7,5 @@ pub mod Formed
 pub mod NamesStand
 pub mod Brought
 pub mod WholeFormed
+pub mod WordsAgain
+pub mod LinesAgain

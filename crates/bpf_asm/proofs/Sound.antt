@@ -49,7 +49,7 @@ magnitude_holds most word =
     cond_both (is_decimal word) _ _ (Holds (λ n. n ≤ most)) (λ _. cond_both (nat_le (value_on 0 word) most) _ _ (Holds (λ n. n ≤ most)) (λ e. leb-true (value_on 0 word) most e) (λ _. tt)) (λ _. tt)
 
 -- a number whose magnitude is at most this
-abbrev Within : ℕ → ℕ → ℤ → Type 0
+abbrev pub Within : ℕ → ℕ → ℤ → Type 0
 Within low high (pos n) = n ≤ high
 Within low high (negsuc n) = suc n ≤ low
 
