@@ -9,3 +9,5 @@ pub mod Brought
 pub mod WholeFormed
 pub mod WordsAgain
 pub mod LinesAgain
+pub mod ListingAgain
+pub mod SlotsAgain

@@ -42,7 +42,7 @@ slots_for (insn.Wide dst low high) = insn.Wide dst low high ∷ insn.Half ∷ []
 slots_for x = x ∷ []
 
 -- a word that can begin a line which is no name
-abbrev begins : List ℕ → Bool
+abbrev pub begins : List ℕ → Bool
 begins [] = false
 begins (b ∷ bs) = not (b == 58)
 
@@ -61,58 +61,58 @@ says_form (c ∷ cs) ws f b = let colon : (c == 58) ≡ false = from_not (c == 5
     from_not true h = absurd (false≢true h)
     from_not false h = refl
 
-alu_begins : (w : Width) (op : AluOp) → Begins (operation_name op ++ width_name w) (form.Alu w op)
+pub alu_begins : (w : Width) (op : AluOp) → Begins (operation_name op ++ width_name w) (form.Alu w op)
 unfolding form_of
 alu_begins width.W32 alu.Add = record { first = refl; named = refl; plain = refl; whole = refl }
 alu_begins width.W64 alu.Add = record { first = refl; named = refl; plain = refl; whole = refl }
 alu_begins w op = record { first = refl; named = refl; plain = refl; whole = refl }
 
-jump_begins : (w : Width) (c : Cond) → Begins (condition_name c ++ width_name w) (form.Jump w c)
+pub jump_begins : (w : Width) (c : Cond) → Begins (condition_name c ++ width_name w) (form.Jump w c)
 unfolding form_of
 jump_begins width.W32 condition.Eq = record { first = refl; named = refl; plain = refl; whole = refl }
 jump_begins width.W64 condition.Eq = record { first = refl; named = refl; plain = refl; whole = refl }
 jump_begins w c = record { first = refl; named = refl; plain = refl; whole = refl }
 
-neg_begins : (w : Width) → Begins (codes "neg" ++ width_name w) (form.Neg w)
+pub neg_begins : (w : Width) → Begins (codes "neg" ++ width_name w) (form.Neg w)
 unfolding form_of
 neg_begins width.W32 = record { first = refl; named = refl; plain = refl; whole = refl }
 neg_begins width.W64 = record { first = refl; named = refl; plain = refl; whole = refl }
 
-mov_begins : (w : Width) → Begins (codes "movsx" ++ width_name w) (form.MovSigned w)
+pub mov_begins : (w : Width) → Begins (codes "movsx" ++ width_name w) (form.MovSigned w)
 unfolding form_of
 mov_begins width.W32 = record { first = refl; named = refl; plain = refl; whole = refl }
 mov_begins width.W64 = record { first = refl; named = refl; plain = refl; whole = refl }
 
-load_begins : (s : Size) → Begins (load_name s) (form.Load s)
+pub load_begins : (s : Size) → Begins (load_name s) (form.Load s)
 unfolding form_of
 load_begins size.B = record { first = refl; named = refl; plain = refl; whole = refl }
 load_begins s = record { first = refl; named = refl; plain = refl; whole = refl }
 
-signed_load_begins : (s : Size) → s ≢ size.DW → Begins (signed_load_name s) (form.LoadSigned s)
+pub signed_load_begins : (s : Size) → s ≢ size.DW → Begins (signed_load_name s) (form.LoadSigned s)
 unfolding form_of
 signed_load_begins size.B short = record { first = refl; named = refl; plain = refl; whole = refl }
 signed_load_begins size.H short = record { first = refl; named = refl; plain = refl; whole = refl }
 signed_load_begins size.W short = record { first = refl; named = refl; plain = refl; whole = refl }
 signed_load_begins size.DW short = absurd (short refl)
 
-swap_begins : (o : Order) → Begins (swap_name o) (form.Swap o)
+pub swap_begins : (o : Order) → Begins (swap_name o) (form.Swap o)
 unfolding form_of
 swap_begins order.Little = record { first = refl; named = refl; plain = refl; whole = refl }
 swap_begins o = record { first = refl; named = refl; plain = refl; whole = refl }
 
-wide_begins : Begins (codes "wide") form.Wide
+pub wide_begins : Begins (codes "wide") form.Wide
 unfolding form_of
 wide_begins = record { first = refl; named = refl; plain = refl; whole = refl }
 
-goto_begins : Begins (codes "ja") form.Goto
+pub goto_begins : Begins (codes "ja") form.Goto
 unfolding form_of
 goto_begins = record { first = refl; named = refl; plain = refl; whole = refl }
 
-goto_long_begins : Begins (codes "jal") form.GotoLong
+pub goto_long_begins : Begins (codes "jal") form.GotoLong
 unfolding form_of
 goto_long_begins = record { first = refl; named = refl; plain = refl; whole = refl }
 
-exit_begins : Begins (codes "exit") form.Exit
+pub exit_begins : Begins (codes "exit") form.Exit
 unfolding form_of
 exit_begins = record { first = refl; named = refl; plain = refl; whole = refl }
 
@@ -132,7 +132,7 @@ halves_again dst low high f g =
     two_ways (λ (a b : ℤ). insn.Wide dst a b ∷ insn.Half ∷ [])
     (ap (cast_signed w32) first ∙ to_z-of_z w32 low f) (ap (cast_signed w32) second ∙ to_z-of_z w32 high g)
 
-wide_small : (low high : ℤ) → FitsSigned w32 low → FitsSigned w32 high → wide_number low high < 2 ^ 64
+pub wide_small : (low high : ℤ) → FitsSigned w32 low → FitsSigned w32 high → wide_number low high < 2 ^ 64
 wide_small low high f g = omega (arith, (Fits-of_z f).fits, (Fits-of_z g).fits)
 
 extension_again : (w : Width) (bits : ℕ) → is_extended w bits ≡ true → extension_named w (decimal bits) ≡ Some bits

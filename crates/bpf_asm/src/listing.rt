@@ -306,3 +306,12 @@ fn list_exactly(alloc: Global, insns: &[Insn]) -> Result<Vec<u8>, NoMemory>
     }
     Ok(out)
 }
+
+/// The one text without names that stands for instructions that decoding can give, one line each.
+pub fn disassemble(alloc: Global, insns: &[Insn]) -> Result<Vec<u8>, NoMemory>
+    requires { IsWellFormed insns.now }
+    ensures text { IfOk result (λ v. v.items ≡ disassembly insns.now) }
+    ensures assembles { IfOk result (λ v. assembly profile.Two v.items ≡ Ok insns.now) }
+{
+    list_exactly(alloc, insns)
+}
