@@ -1,8 +1,7 @@
 -- The line of an instruction says that instruction.
-use Rattle.std.proofs.Common.{◌≡◌, ◌≢◌, ℕ, ℤ, pos, negsuc, ◌+◌, ◌*◌, ◌/◌, ◌%◌, ◌^◌, ◌<◌, ◌≤◌, zero, suc, List, [], ◌∷◌, ◌++◌, length, map, Bool, true, false, not, ◌&&◌, ◌||◌, ◌==◌, Option, Some, None, Result, Ok, Err, refl, sym, ap, ◌∙◌, subst, arith, FitsSigned, codes, inl, inr}
-use Rattle.std.specs.Int.{w16, w32, cast_signed, cast_unsigned}
-use Rattle.std.specs.Fmt.{decimal, signed_decimal}
-use Rattle.std.specs.List.{flat_map, AllByRecursion}
+use Rattle.std.proofs.Common.{◌≡◌, ◌≢◌, ℕ, ℤ, pos, ◌/◌, ◌%◌, ◌^◌, ◌<◌, List, [], ◌∷◌, ◌++◌, Bool, true, false, not, ◌||◌, ◌==◌, Option, Some, Result, Ok, refl, sym, ap, ◌∙◌, subst, arith, FitsSigned, codes, inl, inr}
+use Rattle.std.specs.Int.{w32, cast_signed, cast_unsigned}
+use Rattle.std.specs.Fmt.{decimal}
 use Rattle.std.proofs.lemmas.Bool.{false≢true, true≢false, or_cases, eqb-true}
 use Rattle.std.proofs.lemmas.Int.{to_z-of_z}
 use Rattle.std.proofs.Math.Facts.{Fits-of_z}
@@ -13,7 +12,6 @@ use Rattle.bpf_isa.specs.declared.insn.Cond.TheVariants as condition
 use Rattle.bpf_isa.specs.declared.insn.Insn.{Insn}
 use Rattle.bpf_isa.specs.declared.insn.Insn.TheVariants as insn
 use Rattle.bpf_isa.specs.declared.insn.Operand.{Operand}
-use Rattle.bpf_isa.specs.declared.insn.Operand.TheVariants as operand
 use Rattle.bpf_isa.specs.declared.insn.Order.{Order}
 use Rattle.bpf_isa.specs.declared.insn.Order.TheVariants as order
 use Rattle.bpf_isa.specs.declared.insn.Profile.TheVariants as profile
@@ -21,20 +19,18 @@ use Rattle.bpf_isa.specs.declared.insn.Size.{Size}
 use Rattle.bpf_isa.specs.declared.insn.Size.TheVariants as size
 use Rattle.bpf_isa.specs.declared.insn.Width.{Width}
 use Rattle.bpf_isa.specs.declared.insn.Width.TheVariants as width
-use Rattle.bpf_isa.specs.Flow.{is_half, is_wide}
-use Rattle.bpf_isa.specs.WellFormed.{HasFields, HasOperand, is_extended}
-use Rattle.doc_text.specs.Text.{ended, IsPlain}
-use Rattle.doc_text.specs.Words.{words, spaced, HasNoBlank}
-use Rattle.doc_text.proofs.Joining.{text_in-ended, words-spaced, plain-spaced, decimal-word}
+use Rattle.bpf_isa.specs.Flow.{is_half}
+use Rattle.bpf_isa.specs.WellFormed.{HasFields, is_extended}
+use Rattle.doc_text.specs.Text.{IsPlain}
+use Rattle.doc_text.specs.Words.{HasNoBlank}
 use Rattle.bpf_asm.specs.declared.form.Form.{Form}
 use Rattle.bpf_asm.specs.declared.form.Form.TheVariants as form
-use Rattle.bpf_asm.specs.Assembly.{Line}
-use Rattle.bpf_asm.specs.Disassembly.{operation_name, condition_name, width_name, load_name, signed_load_name, swap_name, register_text, source_text, wide_number, words_of, line_text}
+use Rattle.bpf_asm.specs.Disassembly.{operation_name, condition_name, width_name, load_name, signed_load_name, swap_name, wide_number, words_of}
 use Rattle.bpf_asm.specs.Faults.{◌>>=◌, both, found}
 use Rattle.bpf_asm.specs.Forms.{form_of}
-use Rattle.bpf_asm.specs.Operands.{short_in, long_in, wide_in, register_in, source_in, Place, place_in}
-use Rattle.bpf_asm.specs.Statements.{Statement, jump, wide_slots, extension_named, swap_named, registers_in, one_slot, of_form, line_says, or_unfinished, line_in}
-use Rattle.bpf_asm.proofs.WordsAgain.{short_again, long_again, wide_again, register_again, source_again, short_place_again, long_place_again, decimal_8, decimal_16, decimal_32, decimal_64}
+use Rattle.bpf_asm.specs.Operands.{Place}
+use Rattle.bpf_asm.specs.Statements.{Statement, jump, wide_slots, extension_named, swap_named, one_slot, of_form, line_says}
+use Rattle.bpf_asm.proofs.WordsAgain.{short_again, wide_again, register_again, source_again, short_place_again, long_place_again, decimal_8, decimal_16, decimal_32, decimal_64}
 
 -- what a line brings for an instruction
 abbrev pub slots_for : Insn → List Insn

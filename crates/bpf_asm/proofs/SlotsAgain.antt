@@ -1,53 +1,22 @@
 -- The text of well-formed instructions assembles to them, slot after slot.
-use Rattle.std.proofs.Common.{◌≡◌, ◌≢◌, ℕ, ℤ, pos, negsuc, ◌+◌, ◌*◌, ◌/◌, ◌%◌, ◌^◌, ◌<◌, ◌≤◌, zero, suc, List, [], ◌∷◌, ◌++◌, length, map, Bool, true, false, not, ◌&&◌, ◌||◌, ◌==◌, nat_lt, Option, Some, None, Result, Ok, Err, refl, sym, ap, ◌∙◌, subst, arith, FitsSigned, codes, inl, inr}
-use Rattle.std.specs.Int.{w16, w32, cast_signed, cast_unsigned}
-use Rattle.std.specs.Fmt.{decimal, signed_decimal}
-use Rattle.std.specs.List.{flat_map, AllByRecursion}
-use Rattle.std.proofs.lemmas.Bool.{false≢true, true≢false, or_cases, eqb-true}
-use Rattle.std.proofs.lemmas.Int.{to_z-of_z}
-use Rattle.std.proofs.Math.Facts.{Fits-of_z}
-use Rattle.bpf_isa.specs.declared.insn.AluOp.{AluOp}
-use Rattle.bpf_isa.specs.declared.insn.AluOp.TheVariants as alu
-use Rattle.bpf_isa.specs.declared.insn.Cond.{Cond}
-use Rattle.bpf_isa.specs.declared.insn.Cond.TheVariants as condition
+use Rattle.std.proofs.Common.{◌≡◌, ℕ, ℤ, pos, negsuc, ◌+◌, ◌<◌, ◌≤◌, suc, List, [], ◌∷◌, length, Bool, true, false, nat_lt, Option, Some, None, Result, Ok, Err, refl, sym, ap, ◌∙◌, subst, arith, inl, inr}
+use Rattle.std.specs.List.{flat_map}
+use Rattle.std.proofs.lemmas.Bool.{false≢true, true≢false}
 use Rattle.bpf_isa.specs.declared.insn.Insn.{Insn}
 use Rattle.bpf_isa.specs.declared.insn.Insn.TheVariants as insn
-use Rattle.bpf_isa.specs.declared.insn.Operand.{Operand}
-use Rattle.bpf_isa.specs.declared.insn.Operand.TheVariants as operand
-use Rattle.bpf_isa.specs.declared.insn.Order.{Order}
-use Rattle.bpf_isa.specs.declared.insn.Order.TheVariants as order
 use Rattle.bpf_isa.specs.declared.insn.Profile.TheVariants as profile
-use Rattle.bpf_isa.specs.declared.insn.Size.{Size}
-use Rattle.bpf_isa.specs.declared.insn.Size.TheVariants as size
-use Rattle.bpf_isa.specs.declared.insn.Width.{Width}
-use Rattle.bpf_isa.specs.declared.insn.Width.TheVariants as width
-use Rattle.bpf_isa.specs.Flow.{is_half, is_wide}
-use Rattle.bpf_isa.specs.WellFormed.{HasFields, HasOperand, is_extended}
-use Rattle.doc_text.specs.Text.{ended, IsPlain}
-use Rattle.doc_text.specs.Words.{words, spaced, HasNoBlank}
-use Rattle.doc_text.proofs.Joining.{text_in-ended, words-spaced, plain-spaced, decimal-word}
-use Rattle.bpf_asm.specs.declared.form.Form.{Form}
-use Rattle.bpf_asm.specs.declared.form.Form.TheVariants as form
+use Rattle.bpf_isa.specs.Flow.{is_half}
 use Rattle.bpf_asm.specs.Assembly.{Line}
-use Rattle.bpf_asm.specs.Disassembly.{operation_name, condition_name, width_name, load_name, signed_load_name, swap_name, register_text, source_text, wide_number, words_of, line_text}
-use Rattle.bpf_asm.specs.Faults.{◌>>=◌, both, found}
-use Rattle.bpf_asm.specs.Forms.{form_of}
-use Rattle.bpf_asm.specs.Operands.{short_in, long_in, wide_in, register_in, source_in, Place, place_in}
-use Rattle.bpf_asm.specs.Statements.{Statement, jump, wide_slots, extension_named, swap_named, registers_in, one_slot, of_form, line_says, or_unfinished, line_in}
-use Rattle.bpf_asm.proofs.WordsAgain.{short_again, long_again, wide_again, register_again, source_again, short_place_again, long_place_again, decimal_8, decimal_16, decimal_32, decimal_64}
+use Rattle.bpf_asm.specs.Statements.{Statement}
 use Rattle.bpf_isa.specs.Flow.{insn_at, jump_offset, target}
 use Rattle.bpf_isa.specs.WellFormed.{IsWellFormed}
 use Rattle.bpf_isa.proofs.Raws.{Shape, well_shaped}
-use Rattle.doc_text.specs.Text.{pieces, text_in}
-use Rattle.doc_text.proofs.Joining.{pieces-ended}
+use Rattle.doc_text.specs.Text.{pieces}
 use Rattle.bpf_asm.specs.declared.error.AsmError.{AsmError}
-use Rattle.bpf_asm.specs.Assembly.{slots_of, layout, half_at, into_half, first_offset, within, code_at, slots_in, in_front, followed, slots_from, some_slots, lines_in, assembly}
+use Rattle.bpf_asm.specs.Assembly.{layout, half_at, into_half, first_offset, in_front, slots_from, some_slots, lines_in, assembly}
 use Rattle.bpf_asm.specs.Disassembly.{disassembly}
-use Rattle.bpf_asm.proofs.LinesAgain.{slots_for, alu_begins, jump_begins, neg_begins, mov_begins, load_begins, signed_load_begins, swap_begins, wide_begins, goto_begins, goto_long_begins, exit_begins, wide_small, says_again}
 use Rattle.std.proofs.lemmas.Bool.{le-leb, lt-ltb, le-ltb, cases_lt, and_left}
-use Rattle.std.proofs.lemmas.List.{append-nil}
-use Rattle.bpf_asm.proofs.ListingAgain.{lines_for, lines_again, pending, layout_again}
-use Rattle.bpf_asm.specs.Statements.{with_short}
+use Rattle.bpf_asm.proofs.ListingAgain.{lines_for, lines_again, layout_again}
 
 nothing_in_front : (r : Result (List Insn) AsmError) → in_front [] r ≡ r
 nothing_in_front (Ok xs) = refl

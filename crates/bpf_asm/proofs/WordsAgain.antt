@@ -1,14 +1,14 @@
 -- Registers, numbers and places that were written are read again.
-use Rattle.std.proofs.Common.{◌≡◌, ◌≢◌, ℕ, ℤ, pos, negsuc, ◌+◌, ◌-◌, ◌*◌, ◌^◌, ◌<◌, ◌≤◌, zero, suc, List, [], ◌∷◌, ◌++◌, Bool, true, false, not, ◌&&◌, ◌==◌, nat_le, Option, Some, None, Result, Ok, Err, refl, sym, ap, ◌∙◌, subst, arith, FitsSigned, codes}
-use Rattle.std.specs.Int.{w16, w32, cast_signed, cast_unsigned}
+use Rattle.std.proofs.Common.{◌≡◌, ℕ, ℤ, pos, negsuc, ◌-◌, ◌^◌, ◌<◌, ◌≤◌, suc, List, [], ◌∷◌, true, false, not, ◌==◌, nat_le, Result, Ok, refl, sym, ap, ◌∙◌, subst, arith, FitsSigned, codes}
+use Rattle.std.specs.Int.{w16, w32}
 use Rattle.std.specs.Fmt.{decimal, signed_decimal}
 use Rattle.std.specs.Str.{all_ascii_digits}
 use Rattle.std.specs.Char.{is_ascii_digit}
-use Rattle.std.proofs.lemmas.Bool.{and_parts, le-leb, ne_eqb, leb-true, true≢false, false≢true}
+use Rattle.std.proofs.lemmas.Bool.{and_parts, le-leb, ne_eqb, leb-true, false≢true}
 use Rattle.bpf_isa.specs.declared.insn.Operand.{Operand}
 use Rattle.bpf_isa.specs.declared.insn.Operand.TheVariants as operand
 use Rattle.bpf_isa.specs.WellFormed.{HasOperand}
-use Rattle.doc_text.specs.Numbers.{is_decimal, is_padded, value_on}
+use Rattle.doc_text.specs.Numbers.{is_decimal, is_padded}
 use Rattle.doc_text.proofs.Counting.{is_decimal-decimal, decimal-value}
 use Rattle.bpf_asm.specs.Disassembly.{register_text, source_text}
 use Rattle.bpf_asm.specs.Faults.{◌>>=◌}
