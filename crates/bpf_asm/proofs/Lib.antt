@@ -7,3 +7,7 @@ pub mod Formed
 pub mod NamesStand
 pub mod Brought
 pub mod WholeFormed
+pub mod WordsAgain
+pub mod LinesAgain
+pub mod ListingAgain
+pub mod SlotsAgain

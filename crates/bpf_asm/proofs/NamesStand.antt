@@ -1,25 +1,13 @@
 -- A name stands in front of a whole line, and so never in front of a second half.
-use Rattle.std.proofs.Common.{◌≡◌, ◌≢◌, ℕ, ℤ, pos, negsuc, ◌-ℤ◌, ◌+ℤ◌, ◌+◌, ◌<◌, ◌≤◌, zero, suc, List, [], ◌∷◌, ◌++◌, length, length-append, get_or, map, Bool, true, false, ◌&&◌, ◌==◌, nat_lt, nat_le, Option, Some, None, Result, Ok, Err, refl, sym, ap, ◌∙◌, subst, arith, FitsSigned, append_assoc}
-use Rattle.std.specs.Int.{w16, w32}
-use Rattle.std.specs.List.{flat_map}
-use Rattle.std.proofs.lemmas.Bool.{cond_both, ltb-true, leb-true, false≢true, true≢false, lt-ltb, le-ltb, cases_lt, and_left, and_right}
-use Rattle.std.proofs.lemmas.Int.{ints}
-use Rattle.std.proofs.lemmas.List.{map-append}
-use Rattle.std.proofs.Common.{inl, inr}
+use Rattle.std.proofs.Common.{◌≡◌, ℕ, pos, ◌+◌, List, [], ◌∷◌, ◌++◌, length, length-append, false, nat_lt, Option, Some, None, refl, sym, ap, ◌∙◌, subst, arith, append_assoc}
+use Rattle.std.proofs.lemmas.Bool.{cond_both, le-ltb, and_left, and_right}
 use Rattle.bpf_isa.specs.declared.insn.Insn.{Insn}
-use Rattle.bpf_isa.specs.declared.insn.Insn.TheVariants as insn
 use Rattle.bpf_isa.specs.declared.insn.Profile.{Profile}
-use Rattle.bpf_isa.specs.Flow.{insn_at, is_half, is_wide, jump_offset, target}
-use Rattle.bpf_isa.specs.WellFormed.{HasFields, has, IsWellFormed, IsOf}
+use Rattle.bpf_isa.specs.Flow.{insn_at, is_half}
 use Rattle.bpf_isa.proofs.Raws.{Shape}
-use Rattle.bpf_asm.specs.declared.error.AsmError.{AsmError}
 use Rattle.bpf_asm.specs.declared.names.Mark.{Mark}
-use Rattle.bpf_asm.specs.Assembly.{Line, slots_of, layout, declares, mark_of, half_at, into_half, first_offset, within, fits_short, fits_long, fits, at_offset, reaching, jump_to, name_at, code_at, slots_in, in_front, followed, slots_from, some_slots, lines_in, assembly}
-use Rattle.bpf_asm.specs.Statements.{Statement, with_offset, line_in}
-use Rattle.bpf_asm.proofs.Resolving.{few_slots}
-use Rattle.bpf_asm.proofs.Sound.{Holds}
-use Rattle.bpf_asm.proofs.SoundLines.{IsPlain, IsJump, offset_width, GoodCode, GoodStatement, GoodLine, line_holds}
-use Rattle.bpf_asm.proofs.Formed.{GoodLines, code_shape, layout_shape, good_pieces}
+use Rattle.bpf_asm.specs.Assembly.{Line, slots_of, layout, declares, mark_of, half_at}
+use Rattle.bpf_asm.proofs.Formed.{GoodLines, layout_shape}
 
 insn_at-behind : (front back : List Insn) → insn_at (front ++ back) (length front) ≡ insn_at back 0
 insn_at-behind [] back = refl

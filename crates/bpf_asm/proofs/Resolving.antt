@@ -8,7 +8,7 @@ use Rattle.bpf_asm.specs.declared.error.AsmError.{AsmError}
 use Rattle.bpf_asm.specs.declared.error.AsmError.TheVariants as errors
 use Rattle.bpf_asm.specs.declared.names.Mark.{Mark}
 use Rattle.bpf_asm.specs.Assembly.{Line, at_offset, within, into_half, first_offset, layout, mark_of, reaching, jump_to, name_at, code_at, slots_in, in_front, followed, slots_from, some_slots}
-use Rattle.bpf_asm.specs.Views.{slots_held, GivesSlots}
+use Rattle.bpf_asm.specs.Views.{GivesSlots}
 use Rattle.bpf_asm.specs.Statements as line
 
 -- a jump that has the offset which it needs

@@ -1,29 +1,12 @@
 -- What a line says is well formed: its registers are 0 to 9, its numbers are within their fields, and its forms are the profile's.
-use Rattle.std.proofs.Common.{◌≡◌, ◌≢◌, ℕ, ℤ, pos, negsuc, neg_ℤ, ◌+◌, ◌-◌, ◌*◌, ◌/◌, ◌%◌, ◌^◌, ◌<◌, ◌≤◌, zero, suc, List, [], ◌∷◌, length, take, drop, Bool, true, false, not, ◌&&◌, ◌||◌, ◌==◌, nat_le, nat_lt, Option, Some, None, Result, Ok, Err, refl, sym, ap, ◌∙◌, subst, arith, FitsSigned}
-use Rattle.std.specs.Int.{w16, w32, cast_signed}
-use Rattle.std.proofs.Math.Facts.{sfits_to_z}
+use Rattle.std.proofs.Common.{◌≡◌, ℕ, ℤ, pos, negsuc, ◌-◌, ◌^◌, ◌<◌, ◌≤◌, zero, suc, List, [], ◌∷◌, false, ◌==◌, nat_le, Option, Some, None, Result, Ok, Err, refl, arith, FitsSigned}
+use Rattle.std.specs.Int.{w16, w32}
 use Rattle.std.proofs.lemmas.Bool.{cond_both, leb-true, ne_eqb}
-use Rattle.bpf_isa.specs.declared.insn.Insn.{Insn}
-use Rattle.bpf_isa.specs.declared.insn.Insn.TheVariants as insn
-use Rattle.bpf_isa.specs.declared.insn.Operand.{Operand}
 use Rattle.bpf_isa.specs.declared.insn.Operand.TheVariants as operand
-use Rattle.bpf_isa.specs.declared.insn.Profile.{Profile}
-use Rattle.bpf_isa.specs.declared.insn.Profile.TheVariants as profile
-use Rattle.bpf_isa.specs.declared.insn.Size.TheVariants as size
-use Rattle.bpf_isa.specs.declared.insn.Width.{Width}
-use Rattle.bpf_isa.specs.declared.insn.Width.TheVariants as width
-use Rattle.bpf_isa.specs.Flow.{is_half, is_wide, jump_offset}
-use Rattle.bpf_isa.specs.WellFormed.{HasFields, HasOperand, is_extended, has}
-use Rattle.bpf_isa.proofs.Inverse.{old_form}
+use Rattle.bpf_isa.specs.WellFormed.{HasOperand}
 use Rattle.doc_text.specs.Numbers.{is_decimal, value_on}
-use Rattle.doc_text.specs.Words.{words, one, two, three, same}
-use Rattle.doc_text.specs.Text.{text_in}
-use Rattle.bpf_asm.specs.declared.form.Form.{Form}
-use Rattle.bpf_asm.specs.declared.form.Form.TheVariants as form
 use Rattle.bpf_asm.specs.Faults.{◌>>=◌, both, found}
-use Rattle.bpf_asm.specs.Forms.{form_of, plain_form, further_form, with_width, sized_form, operation_named, condition_named, neg_form, extension_form, width_named, or_else, in_profile_two}
 use Rattle.bpf_asm.specs.Operands.{magnitude_in, below_zero, signed_in, short_in, long_in, wide_in, register_number, register_in, source_in, is_name, Place, place_in}
-use Rattle.bpf_asm.specs.Statements.{Statement, with_short, with_offset, jump, wide_slots, extension_named, swap_named, registers_in, alu_in, neg_in, load_in, signed_load_in, mov_signed_in, swap_in, exit_in, wide_load_in, goto_in, goto_long_in, jump_in, one_slot, of_form, name_in, line_says, or_unfinished, line_in}
 
 -- the value that a result has is such
 abbrev pub Holds : {A : Type 0} → (A → Type 0) → Result A ℕ → Type 0
@@ -49,7 +32,7 @@ magnitude_holds most word =
     cond_both (is_decimal word) _ _ (Holds (λ n. n ≤ most)) (λ _. cond_both (nat_le (value_on 0 word) most) _ _ (Holds (λ n. n ≤ most)) (λ e. leb-true (value_on 0 word) most e) (λ _. tt)) (λ _. tt)
 
 -- a number whose magnitude is at most this
-abbrev Within : ℕ → ℕ → ℤ → Type 0
+abbrev pub Within : ℕ → ℕ → ℤ → Type 0
 Within low high (pos n) = n ≤ high
 Within low high (negsuc n) = suc n ≤ low
 

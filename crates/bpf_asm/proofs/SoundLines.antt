@@ -1,6 +1,6 @@
 -- What a line says is well formed, form by form.
-use Rattle.std.proofs.Common.{◌≡◌, ◌≢◌, ℕ, ℤ, pos, negsuc, ◌+◌, ◌-◌, ◌*◌, ◌/◌, ◌%◌, ◌^◌, ◌<◌, ◌≤◌, zero, suc, List, [], ◌∷◌, length, take, drop, Bool, true, false, ◌&&◌, ◌||◌, ◌==◌, nat_lt, Option, Some, None, Result, Ok, Err, refl, sym, ap, ◌∙◌, subst, arith, FitsSigned, codes}
-use Rattle.std.specs.Int.{w16, w32, cast_signed}
+use Rattle.std.proofs.Common.{◌≡◌, ◌≢◌, ℕ, ℤ, pos, ◌-◌, ◌^◌, ◌<◌, List, [], ◌∷◌, length, take, drop, true, false, ◌&&◌, ◌||◌, ◌==◌, nat_lt, Option, Some, None, Result, Ok, Err, refl, sym, subst, arith, FitsSigned, codes}
+use Rattle.std.specs.Int.{w16, w32}
 use Rattle.std.specs.Int.{Width as W}
 use Rattle.std.proofs.Math.Facts.{sfits_to_z}
 use Rattle.std.proofs.lemmas.Bool.{cond_both}
@@ -23,10 +23,10 @@ use Rattle.doc_text.specs.Text.{text_in}
 use Rattle.bpf_asm.specs.declared.form.Form.{Form}
 use Rattle.bpf_asm.specs.declared.form.Form.TheVariants as form
 use Rattle.bpf_asm.specs.Assembly.{Line}
-use Rattle.bpf_asm.specs.Faults.{◌>>=◌, both, found}
+use Rattle.bpf_asm.specs.Faults.{both}
 use Rattle.bpf_asm.specs.Forms.{form_of, plain_form, further_form, with_width, sized_form, operation_named, condition_named, neg_form, extension_form, width_named, or_else, in_profile_two}
 use Rattle.bpf_asm.specs.Operands.{short_in, long_in, wide_in, register_in, source_in, is_name, Place, place_in}
-use Rattle.bpf_asm.specs.Statements.{Statement, no_words, with_short, with_offset, jump, wide_slots, extension_named, swap_named, registers_in, alu_in, neg_in, load_in, signed_load_in, mov_signed_in, swap_in, exit_in, wide_load_in, goto_in, goto_long_in, jump_in, one_slot, of_form, name_in, line_says, or_unfinished, line_in}
+use Rattle.bpf_asm.specs.Statements.{Statement, no_words, with_offset, jump, extension_named, swap_named, registers_in, alu_in, neg_in, load_in, signed_load_in, mov_signed_in, swap_in, exit_in, wide_load_in, goto_in, goto_long_in, jump_in, one_slot, of_form, line_says, or_unfinished, line_in}
 use Rattle.bpf_asm.proofs.Sound.{Holds, bind_holds, both_holds, found_holds, short_holds, long_holds, wide_holds, IsRegister, register_holds, source_holds, PlaceFits, place_holds}
 
 -- an instruction of one slot

@@ -1,30 +1,19 @@
 -- What a text assembles to is well formed, line after line.
-use Rattle.std.proofs.Common.{◌≡◌, ◌≢◌, ℕ, ℤ, pos, negsuc, ◌-ℤ◌, ◌+ℤ◌, ◌+◌, ◌<◌, ◌≤◌, zero, suc, List, [], ◌∷◌, ◌++◌, length, length-append, get_or, map, Bool, true, false, ◌&&◌, ◌==◌, nat_lt, nat_le, Option, Some, None, Result, Ok, Err, refl, sym, ap, ◌∙◌, subst, arith, FitsSigned}
-use Rattle.std.specs.Int.{w16, w32}
-use Rattle.std.specs.List.{flat_map}
-use Rattle.std.proofs.lemmas.Bool.{cond_both, ltb-true, leb-true, false≢true, true≢false, lt-ltb, le-ltb, cases_lt}
-use Rattle.std.proofs.lemmas.Int.{ints}
+use Rattle.std.proofs.Common.{◌≡◌, ℕ, ℤ, pos, ◌+◌, ◌<◌, ◌≤◌, zero, suc, List, [], ◌∷◌, ◌++◌, length, length-append, get_or, map, Bool, true, false, ◌&&◌, nat_lt, Some, Result, Ok, Err, refl, sym, ap, ◌∙◌, subst, arith}
+use Rattle.std.proofs.lemmas.Bool.{lt-ltb}
 use Rattle.std.proofs.lemmas.List.{map-append, length-map}
-use Rattle.std.proofs.Common.{inl, inr}
 use Rattle.bpf_isa.specs.declared.insn.Insn.{Insn}
 use Rattle.bpf_isa.specs.declared.insn.Insn.TheVariants as insn
 use Rattle.bpf_isa.specs.declared.insn.Profile.{Profile}
 use Rattle.bpf_isa.specs.Flow.{insn_at, is_half, is_wide, jump_offset, target}
-use Rattle.bpf_isa.specs.WellFormed.{HasFields, has, IsWellFormed, IsOf}
-use Rattle.bpf_isa.proofs.Inverse.{old_form}
+use Rattle.bpf_isa.specs.WellFormed.{IsWellFormed, IsOf}
 use Rattle.bpf_isa.proofs.Raws.{Shape}
-use Rattle.std.proofs.lemmas.Option.{none-some, same_Some}
 use Rattle.bpf_asm.specs.declared.error.AsmError.{AsmError}
-use Rattle.bpf_asm.specs.declared.names.Mark.{Mark}
-use Rattle.bpf_asm.specs.Assembly.{Line, slots_of, layout, declares, mark_of, half_at, into_half, first_offset, within, fits_short, fits_long, fits, at_offset, reaching, jump_to, name_at, code_at, slots_in, in_front, followed, slots_from, some_slots, lines_in, assembly}
-use Rattle.bpf_asm.specs.Statements.{Statement, with_offset, line_in}
+use Rattle.bpf_asm.specs.Assembly.{Line, slots_of, layout, half_at, slots_in, in_front, followed, slots_from, some_slots, lines_in, assembly}
 use Rattle.bpf_asm.proofs.Resolving.{few_slots}
-use Rattle.bpf_asm.proofs.Sound.{Holds}
-use Rattle.bpf_asm.proofs.SoundLines.{IsPlain, IsJump, offset_width, GoodCode, GoodStatement, GoodLine, line_holds}
 use Rattle.bpf_asm.proofs.Formed.{GoodLines, good_pieces}
 use Rattle.doc_text.specs.Text.{pieces}
 use Rattle.std.proofs.Math.ListN.{get_or-map}
-use Rattle.bpf_asm.proofs.NamesStand.{name_no_half}
 use Rattle.bpf_asm.proofs.Brought.{At, Brought, BroughtIn, line_brought}
 
 -- what the lines from this slot on assemble to

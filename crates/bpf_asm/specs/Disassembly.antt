@@ -1,6 +1,6 @@
 -- The one text without names that stands for instructions.
-use Rattle.std.specs.Prelude.{ℕ, ℤ, pos, negsuc, suc, ◌+◌, ◌*◌, ◌^◌, List, [], ◌∷◌, ◌++◌, codes}
-use Rattle.std.specs.Fmt.{decimal}
+use Rattle.std.specs.Prelude.{ℕ, ℤ, ◌+◌, ◌*◌, ◌^◌, List, [], ◌∷◌, ◌++◌, codes}
+use Rattle.std.specs.Fmt.{decimal, signed_decimal}
 use Rattle.std.specs.Int.{w32, cast_unsigned}
 use Rattle.std.specs.List.{flat_map}
 use Rattle.bpf_isa.specs.declared.insn.AluOp.{AluOp}
@@ -72,14 +72,9 @@ swap_name order.Swap = codes "swap"
 abbrev pub register_text : ℕ → List ℕ
 register_text register = 114 ∷ decimal register
 
--- a number in decimal, with a minus in front where it is below 0
-abbrev pub number_text : ℤ → List ℕ
-number_text (pos n) = decimal n
-number_text (negsuc n) = 45 ∷ decimal (suc n)
-
 abbrev pub source_text : Operand → List ℕ
 source_text (operand.Reg register) = register_text register
-source_text (operand.Imm n) = number_text n
+source_text (operand.Imm n) = signed_decimal n
 
 -- the number of 64 bits that two halves make, both without a sign
 abbrev pub wide_number : ℤ → ℤ → ℕ
@@ -89,14 +84,14 @@ wide_number low high = cast_unsigned w32 high * 2 ^ 32 + cast_unsigned w32 low
 abbrev pub words_of : Insn → List (List ℕ)
 words_of (insn.Alu w op dst src) = (operation_name op ++ width_name w) ∷ register_text dst ∷ source_text src ∷ []
 words_of (insn.Neg w dst) = (codes "neg" ++ width_name w) ∷ register_text dst ∷ []
-words_of (insn.Load s dst src off) = load_name s ∷ register_text dst ∷ register_text src ∷ number_text off ∷ []
+words_of (insn.Load s dst src off) = load_name s ∷ register_text dst ∷ register_text src ∷ signed_decimal off ∷ []
 words_of (insn.Wide dst low high) = codes "wide" ∷ register_text dst ∷ decimal (wide_number low high) ∷ []
 words_of insn.Half = []
-words_of (insn.Goto off) = codes "ja" ∷ number_text off ∷ []
-words_of (insn.GotoLong off) = codes "jal" ∷ number_text off ∷ []
-words_of (insn.Jump w c dst src off) = (condition_name c ++ width_name w) ∷ register_text dst ∷ source_text src ∷ number_text off ∷ []
+words_of (insn.Goto off) = codes "ja" ∷ signed_decimal off ∷ []
+words_of (insn.GotoLong off) = codes "jal" ∷ signed_decimal off ∷ []
+words_of (insn.Jump w c dst src off) = (condition_name c ++ width_name w) ∷ register_text dst ∷ source_text src ∷ signed_decimal off ∷ []
 words_of insn.Exit = codes "exit" ∷ []
-words_of (insn.LoadSigned s dst src off) = signed_load_name s ∷ register_text dst ∷ register_text src ∷ number_text off ∷ []
+words_of (insn.LoadSigned s dst src off) = signed_load_name s ∷ register_text dst ∷ register_text src ∷ signed_decimal off ∷ []
 words_of (insn.MovSigned w bits dst src) = (codes "movsx" ++ width_name w) ∷ decimal bits ∷ register_text dst ∷ register_text src ∷ []
 words_of (insn.Swap o bits dst) = swap_name o ∷ decimal bits ∷ register_text dst ∷ []
 

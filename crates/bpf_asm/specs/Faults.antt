@@ -1,5 +1,5 @@
 -- Faults of a line, by their numbers, the lowest first.
-use Rattle.std.specs.Prelude.{◌≡◌, ℕ, Option, Some, None, Result, Ok, Err, min}
+use Rattle.std.specs.Prelude.{ℕ, Option, Some, None, Result, Ok, Err, min}
 
 -- a line of no form, a register above 9, a number out of its range
 abbrev pub no_form : ℕ

@@ -1,5 +1,5 @@
 -- The first words of lines, and which instruction each begins.
-use Rattle.std.specs.Prelude.{◌≡◌, ℕ, ◌-◌, ◌≤◌, List, [], ◌∷◌, ◌++◌, length, take, drop, Bool, true, false, Option, Some, None, nat_lt, codes, if◌then◌else◌}
+use Rattle.std.specs.Prelude.{ℕ, ◌-◌, List, length, take, drop, Option, Some, None, nat_lt, codes, if◌then◌else◌}
 use Rattle.bpf_isa.specs.declared.insn.AluOp.{AluOp}
 use Rattle.bpf_isa.specs.declared.insn.AluOp.TheVariants as alu
 use Rattle.bpf_isa.specs.declared.insn.Cond.{Cond}

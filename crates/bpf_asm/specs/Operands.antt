@@ -1,5 +1,5 @@
 -- How registers, numbers, names and places are spelled.
-use Rattle.std.specs.Prelude.{◌≡◌, ℕ, ℤ, pos, negsuc, ◌+◌, ◌-◌, ◌^◌, List, [], ◌∷◌, length, Bool, true, false, ◌&&◌, ◌||◌, Option, Some, None, Result, Ok, Err, nat_le, nat_lt, ◌==◌, neg_ℤ, if◌then◌else◌}
+use Rattle.std.specs.Prelude.{ℕ, ℤ, pos, ◌-◌, ◌^◌, List, [], ◌∷◌, length, Bool, ◌&&◌, ◌||◌, Result, Ok, Err, nat_le, ◌==◌, neg_ℤ, if◌then◌else◌}
 use Rattle.std.specs.List.{list_all}
 use Rattle.bpf_isa.specs.declared.insn.Operand.{Operand}
 use Rattle.bpf_isa.specs.declared.insn.Operand.TheVariants as operand

@@ -12,3 +12,7 @@ mod survey;
 
 pub use assembler::assemble;
 pub use error::AsmError;
+pub use listing::disassemble;
+
+#[cfg(test)]
+mod tests;

@@ -1,10 +1,11 @@
 //! Instructions as text, one a line, without names.
 ghost use Rattle.std.specs.Prelude.{◌≡◌, ◌++◌, ◌∷◌, [], ◌+◌, ◌<◌, ◌≤◌, codes, IfOk, OnOk, Ok, decimal};
+ghost use Rattle.std.specs.Fmt.{signed_decimal};
 ghost use Rattle.bpf_isa.specs.declared.insn.Insn.TheVariants as insn;
 ghost use Rattle.bpf_isa.specs.declared.insn.Profile.TheVariants as profile;
 ghost use Rattle.bpf_isa.specs.WellFormed.{IsWellFormed};
 ghost use Rattle.bpf_asm.specs.Assembly.{assembly};
-ghost use Rattle.bpf_asm.specs.Disassembly.{operation_name, condition_name, width_name, load_name, signed_load_name, swap_name, register_text, number_text, source_text, wide_number, line_text, disassembly};
+ghost use Rattle.bpf_asm.specs.Disassembly.{operation_name, condition_name, width_name, load_name, signed_load_name, swap_name, register_text, source_text, wide_number, line_text, disassembly};
 ghost use Rattle.doc_text.specs.Text.{ended};
 ghost use Rattle.doc_text.specs.Words.{spaced};
 
@@ -116,7 +117,7 @@ fn push_register(out: &mut Vec<u8>, register: u8) -> Result<(), AllocError>
 }
 
 fn push_number(out: &mut Vec<u8>, n: i32) -> Result<(), AllocError>
-    ensures { OnOk result (out.new.items ≡ out.old.items ++ 32 ∷ number_text n) }
+    ensures { OnOk result (out.new.items ≡ out.old.items ++ 32 ∷ signed_decimal n) }
 {
     out.push(b' ')?;
     if n < 0 {
@@ -174,7 +175,7 @@ fn push_neg(out: &mut Vec<u8>, width: Width, dst: u8) -> Result<(), AllocError>
 
 fn push_load(out: &mut Vec<u8>, name: &[u8], dst: u8, src: u8, off: i16) -> Result<(), AllocError>
     ensures { OnOk result (out.new.items ≡ out.old.items
-        ++ ended (spaced (name.now ∷ register_text dst ∷ register_text src ∷ number_text off ∷ []))) }
+        ++ ended (spaced (name.now ∷ register_text dst ∷ register_text src ∷ signed_decimal off ∷ []))) }
 {
     out.extend_from_slice(name)?;
     push_register(out, dst)?;
@@ -193,7 +194,7 @@ fn push_wide(out: &mut Vec<u8>, dst: u8, low: i32, high: i32) -> Result<(), Allo
 }
 
 fn push_goto(out: &mut Vec<u8>, name: &[u8], off: i32) -> Result<(), AllocError>
-    ensures { OnOk result (out.new.items ≡ out.old.items ++ ended (spaced (name.now ∷ number_text off ∷ []))) }
+    ensures { OnOk result (out.new.items ≡ out.old.items ++ ended (spaced (name.now ∷ signed_decimal off ∷ []))) }
 {
     out.extend_from_slice(name)?;
     push_number(out, off)?;
@@ -304,4 +305,13 @@ fn list_exactly(alloc: Global, insns: &[Insn]) -> Result<Vec<u8>, NoMemory>
         push_insn(&mut out, *insn)?;
     }
     Ok(out)
+}
+
+/// The one text without names that stands for instructions that decoding can give, one line each.
+pub fn disassemble(alloc: Global, insns: &[Insn]) -> Result<Vec<u8>, NoMemory>
+    requires { IsWellFormed insns.now }
+    ensures text { IfOk result (λ v. v.items ≡ disassembly insns.now) }
+    ensures assembles { IfOk result (λ v. assembly profile.Two v.items ≡ Ok insns.now) }
+{
+    list_exactly(alloc, insns)
 }

@@ -1,8 +1,7 @@
-use Rattle.std.proofs.Common.{◌≡◌, ◌+◌, ◌≤◌, ◌++◌, [], ◌∷◌, ℕ, List, Ok, Err, length, length-append, sym, ap, ◌∙◌, arith}
+use Rattle.std.proofs.Common.{◌≡◌, ◌+◌, ◌≤◌, [], ◌∷◌, ℕ, List, Ok, Err, length, length-append, sym, ap, ◌∙◌, arith}
 use Rattle.std.proofs.lemmas.List.{nil_from_length}
 use Rattle.std.proofs.lemmas.Bool.{eqb-true, eqb-false}
 use Rattle.bpf_isa.specs.declared.insn.Insn.{Insn}
-use Rattle.bpf_asm.specs.declared.error.AsmError.{AsmError}
 use Rattle.bpf_asm.specs.declared.error.AsmError.TheVariants as errors
 use Rattle.bpf_asm.specs.Assembly.{Line, slots_in, in_front, slots_from, some_slots, lines_in}
 use Rattle.bpf_asm.specs.Statements.{line_in}

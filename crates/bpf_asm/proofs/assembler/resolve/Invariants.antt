@@ -1,4 +1,4 @@
-use Rattle.std.proofs.Common.{◌≡◌, ◌+◌, ◌≤◌, ℕ, length}
+use Rattle.std.proofs.Common.{◌≡◌, ◌+◌, ◌≤◌, length}
 use Rattle.bpf_asm.specs.Assembly.{in_front, slots_from, lines_in}
 use Rattle.doc_text.specs.Text.{pieces}
 use Rattle.bpf_asm.proofs.assembler.resolve.Given as goal
