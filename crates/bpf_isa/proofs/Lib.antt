@@ -3,3 +3,8 @@ pub mod SlotLoop
 pub mod Codes
 pub mod Inverse
 pub mod InverseTable
+pub mod SlotBytes
+pub mod Facts
+pub mod Decoded
+pub mod RoundTrip
+pub mod TableAgain
