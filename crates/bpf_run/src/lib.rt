@@ -9,5 +9,5 @@ mod running;
 mod step;
 mod steps;
 
-pub use running::run_insns;
+pub use running::{run, value};
 pub use steps::Steps;
