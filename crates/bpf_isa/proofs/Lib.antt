@@ -8,3 +8,7 @@ pub mod Facts
 pub mod Decoded
 pub mod RoundTrip
 pub mod TableAgain
+pub mod Raws
+pub mod EncodedAgain
+pub mod DecodedAgain
+pub mod InsnAt

@@ -22,7 +22,7 @@ use Rattle.bpf_isa.specs.Table.{alu_in, jump_in, load_in, insn_in}
 use Rattle.bpf_isa.specs.WellFormed.{HasFields, has, is_extended}
 
 alu_register : (p : Profile) (w : Width) (op : AluOp) (dst src : ℕ) → nat_le dst 9 ≡ true → nat_le src 9 ≡ true
-    → insn_in p (raw (16 * alu_code op + 8 + alu_class w) dst src (pos 0) (pos 0)) ≡ Ok (insn.Alu w op dst (operand.Reg src))
+    → insn_in p (raw (16 * alu_code op + alu_class w + 8) dst src (pos 0) (pos 0)) ≡ Ok (insn.Alu w op dst (operand.Reg src))
 unfolding insn_in alu_in
 alu_register p width.W32 alu.Add dst src d s = rw (d, s) refl
 alu_register p width.W64 alu.Add dst src d s = rw (d, s) refl
@@ -36,7 +36,7 @@ alu_number p width.W64 alu.Add dst imm d = rw d refl
 alu_number p w op dst imm d = rw d refl
 
 jump_register : (p : Profile) (w : Width) (c : Cond) (dst src : ℕ) (off : ℤ) → nat_le dst 9 ≡ true → nat_le src 9 ≡ true
-    → insn_in p (raw (16 * condition_code c + 8 + jump_class w) dst src off (pos 0)) ≡ Ok (insn.Jump w c dst (operand.Reg src) off)
+    → insn_in p (raw (16 * condition_code c + jump_class w + 8) dst src off (pos 0)) ≡ Ok (insn.Jump w c dst (operand.Reg src) off)
 unfolding insn_in jump_in
 jump_register p width.W32 condition.Eq dst src off d s = rw (d, s) refl
 jump_register p width.W64 condition.Eq dst src off d s = rw (d, s) refl
@@ -73,13 +73,16 @@ MovReads w dst src bits = insn_in profile.Two (raw (0xb8 + alu_class w) dst src 
 mov_signed : (w : Width) (bits dst src : ℕ) → is_extended w bits ≡ true → nat_le dst 9 ≡ true → nat_le src 9 ≡ true → MovReads w dst src bits
 unfolding insn_in alu_in
 mov_signed width.W32 bits dst src e d s = elim (or_cases (bits == 8) (bits == 16) e) [
-    inl a ↦ subst (MovReads width.W32 dst src) (sym (eqb-true bits 8 a)) (rw (d, s) refl)
-  | inr a ↦ subst (MovReads width.W32 dst src) (sym (eqb-true bits 16 a)) (rw (d, s) refl) ]
+  | inl a ↦ subst (MovReads width.W32 dst src) (sym (eqb-true bits 8 a)) (rw (d, s) refl)
+  | inr a ↦ subst (MovReads width.W32 dst src) (sym (eqb-true bits 16 a)) (rw (d, s) refl)
+]
 mov_signed width.W64 bits dst src e d s = elim (or_cases ((bits == 8) || (bits == 16)) (bits == 32) e) [
-    inl b ↦ elim (or_cases (bits == 8) (bits == 16) b) [
-      inl a ↦ subst (MovReads width.W64 dst src) (sym (eqb-true bits 8 a)) (rw (d, s) refl)
-    | inr a ↦ subst (MovReads width.W64 dst src) (sym (eqb-true bits 16 a)) (rw (d, s) refl) ]
-  | inr a ↦ subst (MovReads width.W64 dst src) (sym (eqb-true bits 32 a)) (rw (d, s) refl) ]
+  | inl b ↦ elim (or_cases (bits == 8) (bits == 16) b) [
+    | inl a ↦ subst (MovReads width.W64 dst src) (sym (eqb-true bits 8 a)) (rw (d, s) refl)
+    | inr a ↦ subst (MovReads width.W64 dst src) (sym (eqb-true bits 16 a)) (rw (d, s) refl)
+  ]
+  | inr a ↦ subst (MovReads width.W64 dst src) (sym (eqb-true bits 32 a)) (rw (d, s) refl)
+]
 
 abbrev SwapReads : Order → ℕ → ℕ → Type 0
 SwapReads o dst bits = insn_in profile.Two (raw (swap_opcode o) dst 0 (pos 0) (pos bits)) ≡ Ok (insn.Swap o bits dst)
@@ -101,10 +104,12 @@ swap_64 o dst d = rw d refl
 
 swap : (o : Order) (bits dst : ℕ) → ((bits == 16) || (bits == 32) || (bits == 64)) ≡ true → nat_le dst 9 ≡ true → SwapReads o dst bits
 swap o bits dst e d = elim (or_cases ((bits == 16) || (bits == 32)) (bits == 64) e) [
-    inl b ↦ elim (or_cases (bits == 16) (bits == 32) b) [
-      inl a ↦ subst (SwapReads o dst) (sym (eqb-true bits 16 a)) (swap_16 o dst d)
-    | inr a ↦ subst (SwapReads o dst) (sym (eqb-true bits 32 a)) (swap_32 o dst d) ]
-  | inr a ↦ subst (SwapReads o dst) (sym (eqb-true bits 64 a)) (swap_64 o dst d) ]
+  | inl b ↦ elim (or_cases (bits == 16) (bits == 32) b) [
+    | inl a ↦ subst (SwapReads o dst) (sym (eqb-true bits 16 a)) (swap_16 o dst d)
+    | inr a ↦ subst (SwapReads o dst) (sym (eqb-true bits 32 a)) (swap_32 o dst d)
+  ]
+  | inr a ↦ subst (SwapReads o dst) (sym (eqb-true bits 64 a)) (swap_64 o dst d)
+]
 
 -- the fields of an instruction's slot are read as that instruction
 pub insn_again : (p : Profile) (x : Insn) → HasFields x → has p x ≡ true → is_half x ≡ false → is_wide x ≡ false → insn_in p (raw_of x) ≡ Ok x
@@ -127,12 +132,12 @@ insn_again profile.Two (insn.LoadSigned s dst src off) f o h v = signed_load s d
 insn_again profile.Two (insn.MovSigned w bits dst src) f o h v = mov_signed w bits dst src f.0 (le-leb dst 9 f.1) (le-leb src 9 f.2)
 insn_again profile.Two (insn.Swap r bits dst) f o h v = swap r bits dst f.0 (le-leb dst 9 f.1)
 
-alu_is_no_wide : (w : Width) (op : AluOp) → ((16 * alu_code op + alu_class w == 0x18) ≡ false) × ((16 * alu_code op + 8 + alu_class w == 0x18) ≡ false)
+alu_is_no_wide : (w : Width) (op : AluOp) → ((16 * alu_code op + alu_class w == 0x18) ≡ false) × ((16 * alu_code op + alu_class w + 8 == 0x18) ≡ false)
 alu_is_no_wide width.W32 alu.Add = (refl, refl)
 alu_is_no_wide width.W64 alu.Add = (refl, refl)
 alu_is_no_wide w op = (refl, refl)
 
-jump_is_no_wide : (w : Width) (c : Cond) → ((16 * condition_code c + jump_class w == 0x18) ≡ false) × ((16 * condition_code c + 8 + jump_class w == 0x18) ≡ false)
+jump_is_no_wide : (w : Width) (c : Cond) → ((16 * condition_code c + jump_class w == 0x18) ≡ false) × ((16 * condition_code c + jump_class w + 8 == 0x18) ≡ false)
 jump_is_no_wide width.W32 condition.Eq = (refl, refl)
 jump_is_no_wide width.W64 condition.Eq = (refl, refl)
 jump_is_no_wide w c = (refl, refl)
