@@ -13,16 +13,12 @@ pub fn compute_64(op: AluOp, a: u64, b: u64) -> u64
         AluOp::Add => a.wrapping_add(b),
         AluOp::Sub => a.wrapping_sub(b),
         AluOp::Mul => a.wrapping_mul(b),
-        AluOp::Div => {
-            if b == 0 { 0 } else { a / b }
-        }
+        AluOp::Div => { if b == 0 { 0 } else { a / b } }
         AluOp::Or => a | b,
         AluOp::And => a & b,
         AluOp::Lsh => a.wrapping_shl((b % 64) as u32),
         AluOp::Rsh => a >> (b % 64),
-        AluOp::Mod => {
-            if b == 0 { a } else { a % b }
-        }
+        AluOp::Mod => { if b == 0 { a } else { a % b } }
         AluOp::Xor => a ^ b,
         AluOp::Mov => b,
         AluOp::Arsh => (a.cast_signed() >> (b % 64)).cast_unsigned(),
@@ -37,16 +33,12 @@ pub fn compute_32(op: AluOp, a: u32, b: u32) -> u32
         AluOp::Add => a.wrapping_add(b),
         AluOp::Sub => a.wrapping_sub(b),
         AluOp::Mul => a.wrapping_mul(b),
-        AluOp::Div => {
-            if b == 0 { 0 } else { a / b }
-        }
+        AluOp::Div => { if b == 0 { 0 } else { a / b } }
         AluOp::Or => a | b,
         AluOp::And => a & b,
         AluOp::Lsh => a.wrapping_shl(b % 32),
         AluOp::Rsh => a >> (b % 32),
-        AluOp::Mod => {
-            if b == 0 { a } else { a % b }
-        }
+        AluOp::Mod => { if b == 0 { a } else { a % b } }
         AluOp::Xor => a ^ b,
         AluOp::Mov => b,
         AluOp::Arsh => (a.cast_signed() >> (b % 32)).cast_unsigned(),
