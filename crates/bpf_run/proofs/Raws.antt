@@ -1,5 +1,5 @@
 -- Decoded instructions compute what their raw slots do.
-use Rattle.std.proofs.Common.{◌≡◌, ◌<◌, ◌+◌, ◌*◌, ◌/◌, get_or, drop, ℕ, ℤ, pos, zero, suc, List, [], ◌∷◌, length, true, false, refl, sym, ap, ◌∙◌, inl, inr, add-one, arith}
+use Rattle.std.proofs.Common.{◌≡◌, ◌<◌, ◌+◌, ◌*◌, ◌/◌, get_or, drop, ℕ, ℤ, pos, zero, suc, List, [], ◌∷◌, length, true, refl, sym, ap, ◌∙◌, inl, inr, add-one, arith}
 use Rattle.std.proofs.lemmas.Bool.{cases_lt}
 use Rattle.std.proofs.lemmas.List.{drop_all, drop_more}
 use Rattle.bpf_isa.specs.declared.insn.Insn.{Insn}
@@ -11,9 +11,8 @@ use Rattle.bpf_isa.specs.Flow.{insn_at, is_half, is_wide}
 use Rattle.bpf_isa.specs.WellFormed.{HasFields, IsWellFormed}
 use Rattle.bpf_run.specs.declared.flow.Flow.{Flow}
 use Rattle.bpf_run.specs.declared.flow.Flow.TheVariants.{Past, End}
-use Rattle.bpf_run.specs.Slots.{registers_after, flow_after}
 use Rattle.bpf_run.specs.Meaning.{Outcome, one_more, going, meaning, first_number, at_start, raw_slots, outcome}
-use Rattle.bpf_run.specs.Instructions.{after, flow_of, running}
+use Rattle.bpf_run.specs.Instructions.{after, running}
 use Rattle.bpf_isa.proofs.Raws.{high_of, fields_of, raws_from, raws_at, length-raws_from, encoding_is_slots, length-slots}
 use Rattle.bpf_isa.proofs.EncodedAgain.{slot_fields}
 use Rattle.bpf_run.proofs.SlotSteps.{registers_after-is, flow_after-is}

@@ -2,7 +2,7 @@
 use Rattle.std.specs.Prelude.{◌≡◌, ℕ, List, [], ◌∷◌, ◌++◌}
 use Rattle.std.specs.Int.{w64, to_be_bytes}
 use Rattle.std.specs.List.{flat_map}
-use Rattle.bpf_run.specs.Meaning.{Outcome, outcome_of_bytes}
+use Rattle.bpf_run.specs.Meaning.{outcome_of_bytes}
 
 -- the eight bytes of a slot, written as one number in the order of its bytes
 abbrev pub slot : ℕ → List ℕ

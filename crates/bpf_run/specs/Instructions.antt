@@ -1,5 +1,5 @@
 -- What a decoded instruction does: to the registers, and to where the run goes on.
-use Rattle.std.specs.Prelude.{ℕ, ℤ, zero, suc, Bool, List, [], ◌∷◌, slice_index, slice_set}
+use Rattle.std.specs.Prelude.{ℕ, zero, suc, Bool, List, [], ◌∷◌, slice_index, slice_set}
 use Rattle.std.specs.Int.{w8, w16, w32, w64, cast_unsigned}
 use Rattle.std.specs.Int.{Width as Bits}
 use Rattle.bpf_isa.specs.declared.insn.AluOp.{AluOp}

@@ -40,6 +40,16 @@ fn value_of(alloc: Global, slots: &[u64]) -> Result<u64, Fail> {
 }
 
 #[test]
+fn a_program_gives_its_number(rt: HostRuntime) -> Result<(), Fail> {
+    let alloc = rt.alloc();
+    let bytes = [0xb7, 0, 0, 0, 7, 0, 0, 0, 0x95, 0, 0, 0, 0, 0, 0, 0];
+    let insns = decode(alloc, Profile::One, &bytes)?;
+    let program = verify(alloc, insns)?;
+    assert_eq!(rt; value(&program, &[0; 40]), 7);
+    Ok(())
+}
+
+#[test]
 fn division_and_modulo_are_total(rt: HostRuntime) -> Result<(), Fail> {
     worked_by_hand();
     let alloc = rt.alloc();
