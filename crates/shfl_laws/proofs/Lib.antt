@@ -55,7 +55,6 @@ pub mod LookRow
 pub mod MarkBits
 pub mod MarkOrder
 pub mod MarkLaw
-pub mod LookRow
 pub mod BeginBits
 pub mod OwedBatch
 pub mod BeginRow
