@@ -1,6 +1,6 @@
 -- The steps of parking: no wakeup is lost.
-use Rattle.std.proofs.Common.{◌≡◌, ◌≢◌, ℕ, zero, suc, ◌+◌, ◌<◌, ◌≤◌, ◌==◌, Bool, true, false, cond, List, length, set, refl, sym, ap, ◌∙◌, subst, ⊎_elim, arith}
-use Rattle.std.specs.Prelude.{bit_and, bit_or, ◌||◌}
+use Rattle.std.proofs.Common.{◌≡◌, ◌≢◌, ℕ, ◌<◌, ◌≤◌, ◌==◌, Bool, true, false, cond, List, length, refl, sym, ap, ◌∙◌, subst, ⊎_elim, arith}
+use Rattle.std.specs.Prelude.{bit_and, bit_or}
 use Rattle.std.proofs.lemmas.Bool.Decides.{nat_tests}
 use Rattle.std.proofs.lemmas.Bool.{cases_lt}
 use Rattle.std.proofs.lemmas.List.{get_or_past}
@@ -18,12 +18,11 @@ use Rattle.shfl_line.specs.declared.events.LineEvent.TheVariants.{Nothing}
 use Rattle.shfl_core.specs.Words.{look}
 use Rattle.shfl_core.specs.Plan.{parks}
 use Rattle.shfl_core.specs.Waiting.{idle}
-use Rattle.shfl_core.specs.Worlds.{World, known}
+use Rattle.shfl_core.specs.Worlds.{known}
 use Rattle.shfl_core.specs.View.{View, view}
 use Rattle.shfl_core.specs.Owed.{Owed, IsCalledSleeper, called, announces, fits}
-use Rattle.shfl_core.specs.Lawful.{Terms, count, Lawful, Agrees, NapLawOf}
+use Rattle.shfl_core.specs.Lawful.{Terms, Agrees, NapLawOf}
 use Rattle.shfl_laws.proofs.Advance.{at-nap, advance-state, advance-bell, below-count}
-use Rattle.shfl_laws.proofs.Frame.{written_state, written_bell}
 use Rattle.shfl_laws.proofs.StateBits.{or-parked, and-parked}
 use Rattle.shfl_laws.proofs.Slept.{slept, slept-agrees, slept-state, slept-bell, naps_at, parked_at}
 

@@ -1,26 +1,24 @@
 -- The pass that left makes its successor ready, and is about to wake it where it sleeps.
-use Rattle.std.proofs.Common.{◌≡◌, ◌≢◌, ℕ, zero, suc, ◌+◌, ◌<◌, ◌≤◌, List, [], ◌∷◌, Bool, true, false, cond, ◌==◌, ◌||◌, ◌&&◌, not, length, set, refl, sym, ap, ◌∙◌, subst, arith}
+use Rattle.std.proofs.Common.{◌≡◌, ◌≢◌, ℕ, zero, suc, ◌<◌, List, [], ◌∷◌, Bool, true, false, cond, ◌||◌, ◌&&◌, not, length, set, refl, sym, ap, ◌∙◌, subst, arith}
 use Rattle.std.specs.Prelude.{bit_or}
 use Rattle.std.proofs.lemmas.Bool.Decides.{nat_tests}
 use Rattle.shfl_line.specs.declared.events.Form.{Form}
 use Rattle.shfl_line.specs.declared.events.LineEvent.TheVariants.{Nothing}
 use Rattle.shfl_line.specs.declared.words.NodeState.{NodeState}
 use Rattle.shfl_line.specs.Line.{Line, mark_of}
-use Rattle.shfl_line.specs.Words.{link_word, state_of}
-use Rattle.shfl_line.specs.Passes.{updated, times, first, Chain}
+use Rattle.shfl_line.specs.Words.{link_word}
+use Rattle.shfl_line.specs.Passes.{updated, times, first}
 use Rattle.shfl_line.proofs.Chain
-use Rattle.shfl_core.specs.declared.phase.Phase.{Phase}
-use Rattle.shfl_core.specs.declared.phase.Phase.TheVariants.{Idle, Ready, Held, Swap, Begin, Late, WriteGrab, Grab}
+use Rattle.shfl_core.specs.declared.phase.Phase.TheVariants.{Ready, Held, Swap}
 use Rattle.shfl_core.specs.declared.phase.Nap.{Nap}
 use Rattle.shfl_core.specs.declared.phase.Nap.TheVariants.{Awake, Doze, Hear, Rouse, Ring}
 use Rattle.shfl_core.specs.declared.phase.PassState.{PassState}
-use Rattle.shfl_core.specs.declared.phase.Rules.{Rules}
 use Rattle.shfl_core.specs.declared.words.Word.TheVariants.{State}
 use Rattle.shfl_core.specs.Words.{look, index}
-use Rattle.shfl_core.specs.Take.{readied, sleeps}
+use Rattle.shfl_core.specs.Take.{sleeps}
 use Rattle.shfl_core.specs.Plan.{parks}
 use Rattle.shfl_core.specs.Worlds.{World, known}
-use Rattle.shfl_core.specs.Phases.{is_round, is_queued, is_fore, is_linking, knows, is_holding}
+use Rattle.shfl_core.specs.Phases.{is_round, is_queued, is_fore, is_linking, is_holding}
 use Rattle.shfl_core.specs.View.{View, view}
 use Rattle.shfl_core.specs.Order.{Order as Ordered, Round, Follows, Walks, awake}
 use Rattle.shfl_core.specs.Grouping.{Grouped, Grouping}
