@@ -20,7 +20,8 @@ use Rattle.shfl_core.specs.Lawful.{Terms, Lawful, Advances, LawOf}
 use Rattle.shfl_core.proofs.Lists.{at-read, past, below-or}
 use Rattle.shfl_laws.specs.Moves.{EachMayMove, MoveLaw, terms, RunLaw}
 use Rattle.shfl_laws.proofs.MoveRows.{acquire-advances, release-advances}
-use Rattle.shfl_laws.proofs.NapRows.{doze-law, hear-law, rouse-law, ring-law}
+use Rattle.shfl_laws.proofs.NapRows.{doze-law, hear-law, rouse-law}
+use Rattle.shfl_laws.proofs.RingRow.{ring-law}
 use Rattle.shfl_laws.proofs.Opens.{opening-law}
 
 pub idle-is : (f : Phase) → is_idle f ≡ true → f ≡ Idle
