@@ -1,14 +1,12 @@
 -- The one operation of an attempt, by an idle pass.
-use Rattle.std.proofs.Common.{◌≡◌, ◌≢◌, ℕ, zero, suc, ◌+◌, ◌-◌, ◌%◌, ◌^◌, ◌<◌, ◌≤◌, ◌==◌, Bool, true, false, cond, List, length, set, refl, sym, ap, ◌∙◌, subst, arith}
-use Rattle.std.specs.Prelude.{◌||◌, ◌&&◌, not}
+use Rattle.std.proofs.Common.{◌≡◌, ℕ, ◌+◌, ◌%◌, ◌^◌, ◌<◌, ◌==◌, Bool, true, false, cond, length, set, refl, sym, ap, ◌∙◌, subst, arith}
+use Rattle.std.specs.Prelude.{◌||◌}
 use Rattle.std.proofs.lemmas.Bool.Decides.{nat_tests}
-use mathlib.Core.Option.{some}
-use lib.ListN.{get_elem?}
 use prog.Atomic.{either}
 use Rattle.shfl_line.specs.declared.events.Mode.{Mode}
 use Rattle.shfl_line.specs.declared.events.Mode.TheVariants.{Write, Read}
 use Rattle.shfl_line.specs.declared.events.LineEvent.TheVariants.{Steal as StealEvent, Nothing}
-use Rattle.shfl_line.specs.Line.{is_write, writer_count, reader_count}
+use Rattle.shfl_line.specs.Line.{reader_count}
 use Rattle.shfl_line.specs.Steps.{add_holder}
 use Rattle.shfl_line.specs.Words.{held_of, closed_of, readers_of}
 use Rattle.shfl_line.specs.Passes.{updated}
@@ -19,10 +17,10 @@ use Rattle.shfl_core.specs.declared.phase.PassState.{PassState}
 use Rattle.shfl_core.specs.declared.words.Word.TheVariants.{Lock}
 use Rattle.shfl_core.specs.Words.{look, index, site}
 use Rattle.shfl_core.specs.Plan.{attempt_plan}
-use Rattle.shfl_core.specs.Take.{to, attempted}
+use Rattle.shfl_core.specs.Take.{to}
 use Rattle.shfl_core.specs.Waiting.{MayUse, idle}
 use Rattle.shfl_core.specs.Worlds.{World, known, tried}
-use Rattle.shfl_core.specs.Phases.{is_queued, is_holding}
+use Rattle.shfl_core.specs.Phases.{is_holding}
 use Rattle.shfl_core.specs.View.{view}
 use Rattle.shfl_core.specs.Events.{attempt_event}
 use Rattle.shfl_core.specs.Holding.{Holding, backs}

@@ -1,26 +1,25 @@
 -- The head takes its own number out of the tail word: it leaves an empty queue, or a pass is joining behind it.
-use Rattle.std.proofs.Common.{◌≡◌, ◌≢◌, ℕ, zero, suc, ◌+◌, ◌<◌, ◌≤◌, List, [], ◌∷◌, Bool, true, false, cond, ◌==◌, ◌||◌, length, set, refl, sym, ap, ◌∙◌, subst, add-one, arith}
-use Rattle.std.specs.Prelude.{None, slice_index, slice_set}
+use Rattle.std.proofs.Common.{◌≡◌, ◌≢◌, ℕ, zero, suc, ◌+◌, ◌<◌, List, [], ◌∷◌, Bool, true, false, cond, ◌==◌, length, set, refl, sym, ap, ◌∙◌, subst, add-one, arith}
+use Rattle.std.specs.Prelude.{None}
 use Rattle.std.proofs.lemmas.Bool.Decides.{nat_tests}
 use prog.Atomic.{either}
 use Rattle.shfl_line.specs.declared.events.LineEvent.TheVariants.{Leave, Nothing}
-use Rattle.shfl_line.specs.Line.{Line, mark_of, active_shuffler, IsWellFormed}
+use Rattle.shfl_line.specs.Line.{Line, active_shuffler, IsWellFormed}
 use Rattle.shfl_line.specs.Words.{link_word}
 use Rattle.shfl_line.specs.Passes.{updated, times, first, without, end}
 use Rattle.shfl_line.specs.Steps.{after}
 use Rattle.shfl_line.proofs.Chain
 use Rattle.shfl_line.proofs.KeptLine.{tail-of}
-use Rattle.shfl_core.specs.declared.phase.Phase.{Phase}
-use Rattle.shfl_core.specs.declared.phase.Phase.TheVariants.{Idle, Cut, Late, Open, Ready, Swap, Begin, WriteGrab, Grab}
+use Rattle.shfl_core.specs.declared.phase.Phase.TheVariants.{Cut, Late, Open, Ready, Swap}
 use Rattle.shfl_core.specs.declared.phase.Nap.TheVariants.{Awake}
 use Rattle.shfl_core.specs.declared.phase.PassState.{PassState}
 use Rattle.shfl_core.specs.declared.words.Word.TheVariants.{Tail}
 use Rattle.shfl_core.specs.Words.{look, index}
 use Rattle.shfl_core.specs.Take.{to}
 use Rattle.shfl_core.specs.Worlds.{World, known}
-use Rattle.shfl_core.specs.Phases.{is_round, is_queued, is_fore, is_linking, knows}
+use Rattle.shfl_core.specs.Phases.{is_round, is_queued, is_linking}
 use Rattle.shfl_core.specs.View.{View, view}
-use Rattle.shfl_core.specs.Order.{Order as Ordered, Round, Walks}
+use Rattle.shfl_core.specs.Order.{Order as Ordered, Walks}
 use Rattle.shfl_core.specs.Grouping.{Grouping}
 use Rattle.shfl_core.specs.Holding.{backs}
 use Rattle.shfl_core.specs.Lawful.{Terms, count, Lawful, Agrees, Advances, LawOf}

@@ -1,15 +1,13 @@
 -- The facts in plain words follow from the invariant's form.
-use Rattle.std.proofs.Common.{◌≡◌, ◌≢◌, ℕ, zero, suc, ◌+◌, ◌<◌, ◌≤◌, ◌⊎◌, List, [], ◌∷◌, Bool, true, false, cond, ◌==◌, ◌||◌, refl, sym, ap, ◌∙◌, inl, inr, ⊎_elim, subst, arith}
+use Rattle.std.proofs.Common.{◌≡◌, ℕ, suc, ◌+◌, ◌<◌, List, [], ◌∷◌, Bool, true, false, cond, ◌==◌, ◌||◌, refl, sym, ap, ◌∙◌, inl, inr, ⊎_elim, subst, arith}
 use Rattle.std.specs.Prelude.{Some}
 use Rattle.std.proofs.lemmas.Bool.Decides.{nat_tests}
 use Rattle.shfl_line.specs.declared.words.NodeState.{NodeState}
 use Rattle.shfl_line.specs.Line.{Line, mark_of}
-use Rattle.shfl_line.specs.Words.{link_word, IsStateWord, packed_state, state_of, ready_of}
-use Rattle.shfl_line.specs.Passes.{times, first, behind, last_marked}
+use Rattle.shfl_line.specs.Words.{link_word, IsStateWord, packed_state, state_of}
+use Rattle.shfl_line.specs.Passes.{times, first}
 use Rattle.shfl_line.proofs.Batches.{last-cong, stands-behind}
-use Rattle.shfl_line.proofs.Chain
-use Rattle.shfl_core.specs.declared.phase.Phase.{Phase}
-use Rattle.shfl_core.specs.declared.phase.Phase.TheVariants.{Swap, Link, Ready}
+use Rattle.shfl_core.specs.declared.phase.Phase.TheVariants.{Swap, Ready}
 use Rattle.shfl_core.specs.declared.phase.Nap.{Nap}
 use Rattle.shfl_core.specs.declared.phase.Nap.TheVariants.{Awake, Doze, Hear, Rouse, Ring}
 use Rattle.shfl_core.specs.declared.phase.PassState.{PassState}
@@ -17,13 +15,13 @@ use Rattle.shfl_core.specs.declared.words.Word.TheVariants.{State}
 use Rattle.shfl_core.specs.Words.{look}
 use Rattle.shfl_core.specs.Phases.{is_queued, is_fore, is_linking}
 use Rattle.shfl_core.specs.Worlds.{World, known}
-use Rattle.shfl_core.specs.View.{View, view}
+use Rattle.shfl_core.specs.View.{view}
 use Rattle.shfl_core.specs.Order.{Order as Ordered, awake}
 use Rattle.shfl_core.specs.Owed.{fits, announces}
 use Rattle.shfl_core.specs.Grouping.{Grouping}
 use Rattle.shfl_core.specs.Lawful.{Terms, Lawful}
-use Rattle.shfl_laws.specs.Headline.{IsQueued, IsHead, IsLinkingTo, Shuffles, batch}
-use Rattle.shfl_laws.specs.Facts.{Waits, WaitsUncalled, Grants, RoundPlace, Facts, FactsLaw}
+use Rattle.shfl_laws.specs.Headline.{IsHead, IsLinkingTo, Shuffles, batch}
+use Rattle.shfl_laws.specs.Facts.{WaitsUncalled, Grants, RoundPlace, Facts}
 use Rattle.shfl_laws.proofs.Order
 use Rattle.shfl_laws.proofs.Leave
 use Rattle.shfl_laws.proofs.Headline.{first-head, marks, fore-queued}

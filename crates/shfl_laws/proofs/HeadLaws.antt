@@ -1,5 +1,5 @@
 -- The laws of the queue head's steps on the lock word.
-use Rattle.std.proofs.Common.{◌≡◌, ◌≢◌, ℕ, zero, suc, ◌+◌, ◌-◌, ◌*◌, ◌%◌, ◌^◌, ◌<◌, ◌≤◌, ◌==◌, Bool, true, false, cond, List, length, set, refl, sym, ap, ◌∙◌, subst, arith}
+use Rattle.std.proofs.Common.{◌≡◌, ◌≢◌, ℕ, ◌+◌, ◌%◌, ◌^◌, ◌<◌, ◌==◌, Bool, true, false, cond, length, set, refl, sym, ap, ◌∙◌, subst, arith}
 use Rattle.std.specs.Prelude.{bit_or, ◌||◌, ◌&&◌, not}
 use Rattle.std.proofs.lemmas.Bool.Decides.{nat_tests}
 use prog.Atomic.{either}
@@ -22,11 +22,11 @@ use Rattle.shfl_core.specs.Take.{to, top, seek}
 use Rattle.shfl_core.specs.Plan.{shares}
 use Rattle.shfl_core.specs.Worlds.{World, known}
 use Rattle.shfl_core.specs.Phases.{is_holding, is_writing, is_reading}
-use Rattle.shfl_core.specs.Holding.{Holding, backs, read_of}
+use Rattle.shfl_core.specs.Holding.{Holding, backs}
 use Rattle.shfl_core.specs.Lawful.{Terms, count, Lawful, Advances, LawOf}
 use Rattle.shfl_laws.proofs.Advance.{at-phase, below-count}
 use Rattle.shfl_laws.proofs.LockBits.{Says, says, word-is, lock-or-held, lock-or-closed, lock-add}
-use Rattle.shfl_laws.proofs.HeadRows.{heads, ahead, Going, Modes, going-to, going-top, modes-top, no-readers, head-lock, head-load, stays, gains, admits-grab, writes, free-hold}
+use Rattle.shfl_laws.proofs.HeadRows.{heads, ahead, Going, Modes, going-to, going-top, modes-top, no-readers, head-lock, head-load, stays, gains, admits-grab}
 use Rattle.shfl_laws.proofs.Counts.{few-readers}
 
 -- who goes on by Top neither holds nor is counted besides

@@ -6,19 +6,19 @@ use Rattle.shfl_line.specs.declared.events.Mode.{Mode}
 use Rattle.shfl_line.specs.declared.events.Mode.TheVariants.{Write, Read}
 use Rattle.shfl_line.specs.Line.{Line, mark_of, active_shuffler, is_write, writer_count, reader_count}
 use Rattle.shfl_line.specs.Words.{link_word}
-use Rattle.shfl_line.specs.Passes.{times, first, Chain, EachPair, MarkedFirst, end, follower_after}
+use Rattle.shfl_line.specs.Passes.{times, first, EachPair, MarkedFirst, end, follower_after}
 use Rattle.shfl_line.proofs.Chain
 use Rattle.shfl_core.specs.declared.phase.Phase.{Phase}
 use Rattle.shfl_core.specs.declared.phase.Phase.TheVariants.{Link, Ready}
 use Rattle.shfl_core.specs.declared.phase.PassState.{PassState}
 use Rattle.shfl_core.specs.Phases.{is_holding, is_queued, is_fore, is_round, is_linking, has_hand}
 use Rattle.shfl_core.specs.Worlds.{World, known}
-use Rattle.shfl_core.specs.View.{View, view}
+use Rattle.shfl_core.specs.View.{view}
 use Rattle.shfl_core.specs.Order.{Order as Ordered, Follows, Walks, awake}
 use Rattle.shfl_core.specs.Grouping.{Grouping}
 use Rattle.shfl_core.specs.Holding.{write_of, read_of}
 use Rattle.shfl_core.specs.Lawful.{Terms, Lawful}
-use Rattle.shfl_laws.specs.Headline.{Holds, HoldsAs, Holders, OneWriter, ReadersAlone, Nobody, IsLinkingTo, IsSuccessor, HasNoSuccessor, IsHead, Named, Active, Called, IsWaitLine, IsQueued, StandsOnce, Shuffles, batch, Headline}
+use Rattle.shfl_laws.specs.Headline.{Holds, HoldsAs, Holders, OneWriter, ReadersAlone, Nobody, IsSuccessor, HasNoSuccessor, IsHead, Named, Active, Called, IsWaitLine, IsQueued, StandsOnce, Shuffles, batch, Headline}
 use Rattle.shfl_laws.proofs.Order
 use Rattle.shfl_laws.proofs.Leave
 use Rattle.shfl_laws.proofs.Counts.{write-in, read-in}

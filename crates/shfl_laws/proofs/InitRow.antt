@@ -1,29 +1,25 @@
 -- A pass that is about to join clears its state word.
-use Rattle.std.proofs.Common.{◌≡◌, ◌≢◌, ℕ, zero, suc, ◌+◌, ◌<◌, ◌≤◌, List, [], ◌∷◌, Bool, true, false, cond, ◌==◌, ◌||◌, length, refl, sym, ap, ◌∙◌, subst, arith}
+use Rattle.std.proofs.Common.{◌≡◌, ◌≢◌, ℕ, suc, ◌<◌, List, [], ◌∷◌, true, false, cond, ◌||◌, refl, sym, ap, ◌∙◌, subst, arith}
 use Rattle.std.proofs.lemmas.Bool.Decides.{nat_tests}
 use Rattle.shfl_line.specs.declared.events.Form.{Form}
 use Rattle.shfl_line.specs.declared.events.LineEvent.TheVariants.{Nothing}
 use Rattle.shfl_line.specs.declared.words.NodeState.{NodeState}
-use Rattle.shfl_line.specs.Line.{Line, mark_of, active_shuffler, idle_shuffler}
-use Rattle.shfl_line.specs.Words.{link_word, state_of}
-use Rattle.shfl_line.specs.Passes.{updated, times, first, Chain, IsLastMarked}
+use Rattle.shfl_line.specs.Line.{Line, mark_of, active_shuffler}
+use Rattle.shfl_line.specs.Words.{link_word}
+use Rattle.shfl_line.specs.Passes.{times, first, IsLastMarked}
 use Rattle.shfl_line.proofs.Chain
-use Rattle.shfl_core.specs.declared.phase.Phase.{Phase}
-use Rattle.shfl_core.specs.declared.phase.Phase.TheVariants.{Idle, Init, Swap, Ready, Begin, Give, Late, WriteGrab, Grab}
-use Rattle.shfl_core.specs.declared.phase.Nap.TheVariants.{Awake, Hear, Rouse, Ring}
+use Rattle.shfl_core.specs.declared.phase.Phase.TheVariants.{Init, Swap, Ready, Begin, Give}
+use Rattle.shfl_core.specs.declared.phase.Nap.TheVariants.{Awake, Hear, Rouse}
 use Rattle.shfl_core.specs.declared.phase.PassState.{PassState}
-use Rattle.shfl_core.specs.declared.words.Word.TheVariants.{State}
-use Rattle.shfl_core.specs.Words.{look}
 use Rattle.shfl_core.specs.Take.{to}
-use Rattle.shfl_core.specs.Plan.{parks, shares}
-use Rattle.shfl_core.specs.Worlds.{World, known}
-use Rattle.shfl_core.specs.Phases.{is_round, is_queued, is_fore, is_linking, knows, is_holding}
+use Rattle.shfl_core.specs.Worlds.{known}
+use Rattle.shfl_core.specs.Phases.{is_round, is_queued, is_fore, is_linking, knows}
 use Rattle.shfl_core.specs.View.{View, view}
-use Rattle.shfl_core.specs.Order.{Order as Ordered, Round, Follows, Walks, Fronted, Stands, awake}
+use Rattle.shfl_core.specs.Order.{Order as Ordered, Round, Follows, Walks, awake}
 use Rattle.shfl_core.specs.Grouping.{Grouping}
 use Rattle.shfl_core.specs.Holding.{backs}
 use Rattle.shfl_core.specs.Owed.{Owed, IsCalledSleeper, called, announces, fits}
-use Rattle.shfl_core.specs.Lawful.{Terms, count, Lawful, Agrees, LawOf}
+use Rattle.shfl_core.specs.Lawful.{Terms, count, LawOf}
 use Rattle.shfl_laws.proofs.Advance.{at-phase, advance-state, below-count}
 use Rattle.shfl_laws.proofs.Frame.{written_state}
 use Rattle.shfl_laws.proofs.Holding.{stay}

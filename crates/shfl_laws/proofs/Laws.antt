@@ -13,7 +13,7 @@ use Rattle.shfl_laws.proofs.MarkLaw.{mark-law}
 use Rattle.shfl_laws.proofs.GiveLaw.{give-law}
 use Rattle.shfl_laws.proofs.LeaveRows.{take-law, late-law}
 use Rattle.shfl_laws.proofs.CutRow.{cut-law}
-use Rattle.shfl_laws.proofs.ReadyRow.{ready-law}
+use Rattle.shfl_laws.proofs.ReadyLaw.{ready-law}
 use Rattle.shfl_laws.proofs.BeginLaw.{begin-law}
 use Rattle.shfl_laws.proofs.LookRow.{look-law}
 

@@ -1,19 +1,17 @@
 -- The first of the line leaves: its batch number and its flag go.
-use Rattle.std.proofs.Common.{◌≡◌, ◌≢◌, ℕ, zero, suc, ◌+◌, ◌<◌, ◌≤◌, List, [], ◌∷◌, Bool, true, false, cond, ◌==◌, length, refl, sym, ap, ◌∙◌, subst, arith}
+use Rattle.std.proofs.Common.{◌≡◌, ◌≢◌, ℕ, suc, ◌<◌, ◌≤◌, List, ◌∷◌, Bool, true, false, cond, ◌==◌, length, refl, sym, ap, ◌∙◌, subst, arith}
 use Rattle.std.specs.Prelude.{slice_index, slice_set}
 use Rattle.std.proofs.lemmas.Bool.Decides.{nat_tests}
 use Rattle.shfl_line.specs.declared.events.Role.{Role}
 use Rattle.shfl_line.specs.declared.events.Role.TheVariants.{Nobody, Rest, Walk}
 use Rattle.shfl_line.specs.declared.events.LineEvent.TheVariants.{Leave}
-use Rattle.shfl_line.specs.declared.words.NodeState.{NodeState}
 use Rattle.shfl_line.specs.Line.{Line, mark_of, active_shuffler, idle_shuffler, IsWellFormed}
-use Rattle.shfl_line.specs.Words.{link_word}
 use Rattle.shfl_line.specs.Passes.{updated, times, first, without, EachPair, MarkedFirst, StopsAt, Chain, IsLastMarked}
 use Rattle.shfl_line.specs.Steps.{after, role_without}
 use Rattle.shfl_line.proofs.Chain
 use Rattle.shfl_line.proofs.Marks
 use Rattle.shfl_line.proofs.Batches.{mark-set}
-use Rattle.shfl_line.proofs.KeptLine.{tail-of, first-out, role-left, role-walks}
+use Rattle.shfl_line.proofs.KeptLine.{tail-of, role-left, role-walks}
 use Rattle.shfl_core.specs.declared.phase.Phase.TheVariants.{Begin, Give}
 use Rattle.shfl_core.specs.declared.phase.PassState.{PassState}
 use Rattle.shfl_core.specs.Phases.{is_round, is_queued, knows}

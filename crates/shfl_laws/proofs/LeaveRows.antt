@@ -1,11 +1,9 @@
 -- The head of the queue takes its next word, and leaves once it knows its successor.
-use Rattle.std.proofs.Common.{◌≡◌, ◌≢◌, ℕ, zero, suc, ◌+◌, ◌<◌, ◌≤◌, List, [], ◌∷◌, Bool, true, false, cond, ◌==◌, ◌||◌, length, set, refl, sym, ap, ◌∙◌, subst, arith}
-use Rattle.std.specs.Prelude.{slice_index, slice_set}
-use Rattle.std.proofs.lemmas.Bool.Decides.{nat_tests}
+use Rattle.std.proofs.Common.{◌≡◌, ◌≢◌, ℕ, zero, suc, ◌<◌, List, [], ◌∷◌, true, false, cond, ◌||◌, length, set, refl, sym, ap, ◌∙◌, subst, arith}
+use Rattle.std.specs.Prelude.{slice_set}
 use Rattle.shfl_line.specs.declared.events.LineEvent.TheVariants.{Leave, Nothing}
-use Rattle.shfl_line.specs.Line.{Line, mark_of, IsWellFormed}
-use Rattle.shfl_line.specs.Words.{link_word}
-use Rattle.shfl_line.specs.Passes.{updated, times, first, without, end}
+use Rattle.shfl_line.specs.Line.{Line, IsWellFormed}
+use Rattle.shfl_line.specs.Passes.{updated, first, without}
 use Rattle.shfl_line.specs.Steps.{after, role_without, Admits}
 use Rattle.shfl_line.proofs.Chain
 use Rattle.shfl_line.proofs.EachStep.{well_formed_after}
@@ -20,12 +18,12 @@ use Rattle.shfl_core.specs.Take.{to, heir_found}
 use Rattle.shfl_core.specs.Worlds.{World, known}
 use Rattle.shfl_core.specs.Phases.{is_round, is_queued, is_fore, is_linking, knows, is_holding, is_backing, is_writing, is_reading, decide_to_pick}
 use Rattle.shfl_core.specs.View.{View, view}
-use Rattle.shfl_core.specs.Order.{Order as Ordered, Follows, Walks}
+use Rattle.shfl_core.specs.Order.{Order as Ordered}
 use Rattle.shfl_core.specs.Holding.{backs}
 use Rattle.shfl_core.specs.Events.{leave_found}
 use Rattle.shfl_core.specs.Lawful.{Terms, count, Lawful, Agrees, Advances, LawOf}
 use Rattle.shfl_laws.proofs.Advance.{at-phase, advance-next, below-count}
-use Rattle.shfl_laws.proofs.Frame.{written_next, passed}
+use Rattle.shfl_laws.proofs.Frame.{written_next}
 use Rattle.shfl_laws.proofs.Heir.{heir_pass, left, leave-order}
 use Rattle.shfl_laws.proofs.Holding.{stay}
 use Rattle.shfl_laws.proofs.LeaveGroup.{leave-grouping, lower}

@@ -1,3 +1,5 @@
+pub mod ReadyLaw
+pub mod RingRow
 pub mod Facts
 pub mod InRange
 pub mod SeenAs

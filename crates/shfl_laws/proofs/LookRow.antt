@@ -1,16 +1,15 @@
 -- A waiter looks at its state word: it is the head, or the shuffler, or it waits on, and parks where it is in no batch.
-use Rattle.std.proofs.Common.{◌≡◌, ◌≢◌, ℕ, zero, suc, ◌+◌, ◌*◌, ◌/◌, ◌%◌, ◌^◌, ◌<◌, ◌≤◌, List, [], ◌∷◌, Bool, true, false, cond, ◌==◌, ◌||◌, ◌&&◌, length, set, refl, sym, ap, ◌∙◌, subst, arith}
-use Rattle.std.proofs.lemmas.Bool.Decides.{nat_tests}
+use Rattle.std.proofs.Common.{◌≡◌, ◌≢◌, ℕ, suc, ◌%◌, ◌<◌, List, [], ◌∷◌, Bool, true, false, cond, ◌==◌, ◌||◌, ◌&&◌, length, set, refl, sym, ap, ◌∙◌, subst, arith}
 use Rattle.shfl_line.specs.declared.events.LineEvent.TheVariants.{Nothing}
 use Rattle.shfl_line.specs.declared.words.NodeState.{NodeState}
 use Rattle.shfl_line.specs.Line.{Line, mark_of}
-use Rattle.shfl_line.specs.Words.{link_word, batch_of, ready_of, shuffler_of, IsStateWord}
-use Rattle.shfl_line.specs.Passes.{updated, times, first, Chain}
+use Rattle.shfl_line.specs.Words.{link_word, batch_of, ready_of, shuffler_of}
+use Rattle.shfl_line.specs.Passes.{updated}
 use Rattle.shfl_line.proofs.Chain
 use Rattle.shfl_core.specs.declared.phase.Phase.{Phase}
-use Rattle.shfl_core.specs.declared.phase.Phase.TheVariants.{Idle, Look, Begin, Ready, Swap, Late, WriteGrab, Grab}
+use Rattle.shfl_core.specs.declared.phase.Phase.TheVariants.{Look, Begin, Ready, Swap, Late, WriteGrab, Grab}
 use Rattle.shfl_core.specs.declared.phase.Registers.{Registers as Regs}
-use Rattle.shfl_core.specs.declared.phase.Nap.TheVariants.{Awake, Doze, Hear, Ring}
+use Rattle.shfl_core.specs.declared.phase.Nap.TheVariants.{Awake, Doze}
 use Rattle.shfl_core.specs.declared.phase.PassState.{PassState}
 use Rattle.shfl_core.specs.declared.words.Word.TheVariants.{State}
 use Rattle.shfl_core.specs.Words.{look, index, wide}
@@ -21,11 +20,11 @@ use Rattle.shfl_core.specs.Phases.{is_round, is_queued, is_fore, is_linking, kno
 use Rattle.shfl_core.specs.View.{View, view}
 use Rattle.shfl_core.specs.Order.{Order as Ordered, Round, Follows, Walks, awake}
 use Rattle.shfl_core.specs.Holding.{Holding, backs}
-use Rattle.shfl_core.specs.Owed.{Owed, called, announces, fits}
+use Rattle.shfl_core.specs.Owed.{announces, fits}
 use Rattle.shfl_core.specs.Lawful.{Terms, count, Lawful, Agrees, Advances, LawOf}
 use Rattle.shfl_laws.proofs.Advance.{at-phase, advance-load, below-count}
 use Rattle.shfl_laws.proofs.Frame.{passed}
-use Rattle.shfl_laws.proofs.HeadRows.{Going, Modes, going-top, modes-top}
+use Rattle.shfl_laws.proofs.HeadRows.{going-top, modes-top}
 use Rattle.shfl_laws.proofs.HeadLaws.{top-out, top-none}
 use Rattle.shfl_laws.proofs.Holding.{stay}
 use Rattle.shfl_laws.proofs.NapRows.{Naps, napped}
@@ -33,7 +32,7 @@ use Rattle.shfl_laws.proofs.OwedFrames.{owed-awake}
 use Rattle.shfl_laws.proofs.Quiet.{quiet-grouping}
 use Rattle.shfl_laws.proofs.QuietAgrees.{GoesOn, quiet-agrees}
 use Rattle.shfl_laws.proofs.Registered.{registered-set}
-use Rattle.shfl_laws.proofs.Slept.{slept, slept-agrees, slept-pass, naps_at, parked_at}
+use Rattle.shfl_laws.proofs.Slept.{slept-agrees, slept-pass, naps_at, parked_at}
 use Rattle.shfl_laws.proofs.StateBits.{read}
 
 -- a queued pass goes on in the queue, outside rounds, and counts as the head exactly as before

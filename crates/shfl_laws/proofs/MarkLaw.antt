@@ -1,15 +1,15 @@
 -- The law of marking a candidate.
-use Rattle.std.proofs.Common.{◌≡◌, ◌≢◌, ℕ, zero, suc, ◌+◌, ◌-◌, ◌*◌, ◌%◌, ◌<◌, ◌≤◌, ◌==◌, Bool, true, false, cond, List, [], ◌∷◌, length, set, refl, sym, ap, ◌∙◌, subst, arith}
-use Rattle.std.specs.Prelude.{◌||◌, ◌&&◌, not, bit_or, nat_lt, slice_set, slice_index}
+use Rattle.std.proofs.Common.{◌≡◌, ◌≢◌, ℕ, suc, ◌+◌, ◌-◌, ◌*◌, ◌%◌, ◌<◌, ◌==◌, Bool, true, false, cond, ◌∷◌, length, set, refl, sym, ap, ◌∙◌, subst, arith}
+use Rattle.std.specs.Prelude.{◌||◌, ◌&&◌, not, bit_or, nat_lt, slice_set}
 use Rattle.shfl_line.specs.declared.events.LineEvent.TheVariants.{Keep}
 use Rattle.shfl_line.specs.declared.words.NodeState.{NodeState}
 use Rattle.shfl_line.specs.Line.{Line, mark_of}
-use Rattle.shfl_line.specs.Steps.{batch_end, IsInRound}
-use Rattle.shfl_line.specs.Words.{link_word, state_of, ready_of, parked_of, spin_of}
-use Rattle.shfl_line.specs.Passes.{updated, times, last_marked, follower, follower_after}
+use Rattle.shfl_line.specs.Steps.{batch_end}
+use Rattle.shfl_line.specs.Words.{state_of, ready_of, parked_of, spin_of}
+use Rattle.shfl_line.specs.Passes.{updated, times, last_marked, follower}
 use Rattle.shfl_line.proofs.Chain
 use Rattle.shfl_line.proofs.Batches.{mark-set}
-use Rattle.shfl_core.specs.declared.phase.Phase.TheVariants.{Mark, Next, Give, Swap}
+use Rattle.shfl_core.specs.declared.phase.Phase.TheVariants.{Mark, Next, Give}
 use Rattle.shfl_core.specs.declared.phase.Nap.{Nap}
 use Rattle.shfl_core.specs.declared.phase.Nap.TheVariants.{Awake, Ring}
 use Rattle.shfl_core.specs.declared.phase.PassState.{PassState}
@@ -19,19 +19,18 @@ use Rattle.shfl_core.specs.Plan.{parks}
 use Rattle.shfl_core.specs.Take as T
 use Rattle.shfl_core.specs.Take.{sleeps}
 use Rattle.shfl_core.specs.Worlds.{World, known}
-use Rattle.shfl_core.specs.Phases.{is_round, is_queued, is_holding, has_hand, decide_to_pick}
+use Rattle.shfl_core.specs.Phases.{is_round, is_queued, has_hand, decide_to_pick}
 use Rattle.shfl_core.specs.View.{View, view}
-use Rattle.shfl_core.specs.Holding.{Holding, backs}
-use Rattle.shfl_core.specs.Owed.{Owed, called, fits, announces}
+use Rattle.shfl_core.specs.Owed.{fits, announces}
 use Rattle.shfl_core.specs.Lawful.{Terms, count, Agrees, Lawful, Advances, LawOf}
 use Rattle.shfl_laws.proofs.Order
-use Rattle.shfl_laws.proofs.Rows.{marked, row_mark}
+use Rattle.shfl_laws.proofs.Rows.{marked}
 use Rattle.shfl_laws.proofs.MarkRow.{kept, mark-grouping}
 use Rattle.shfl_laws.proofs.MarkOrder.{mark-order, quiet, still-round}
 use Rattle.shfl_laws.proofs.MarkBits.{or-mark}
 use Rattle.shfl_laws.proofs.NextRows.{batch-last}
-use Rattle.shfl_laws.proofs.RoundLoads.{in-round, InRound}
-use Rattle.shfl_laws.proofs.Registered.{Registers, registered-set}
+use Rattle.shfl_laws.proofs.RoundLoads.{in-round}
+use Rattle.shfl_laws.proofs.Registered.{registered-set}
 use Rattle.shfl_laws.proofs.OwedCall.{Calls, asleep, owed-call}
 use Rattle.shfl_laws.proofs.Advance.{at-phase, advance-state, below-count}
 use Rattle.shfl_laws.proofs.Frame.{written_state}

@@ -1,18 +1,16 @@
 -- What is left of a round, through every move.
-use Rattle.std.proofs.Common.{◌≡◌, ◌≢◌, ℕ, zero, suc, ◌+◌, ◌-◌, ◌*◌, ◌<◌, ◌≤◌, ◌⊎◌, List, [], ◌∷◌, ◌++◌, Bool, true, false, cond, ◌==◌, ◌&&◌, ◌||◌, length, set, get_or-set_other, refl, sym, ap, ◌∙◌, subst, ⊎_elim, arith}
+use Rattle.std.proofs.Common.{◌≡◌, ◌≢◌, ℕ, zero, suc, ◌+◌, ◌-◌, ◌*◌, ◌<◌, List, Bool, true, false, cond, ◌==◌, ◌&&◌, length, set, get_or-set_other, refl, sym, ap, ◌∙◌, subst, ⊎_elim, arith}
 use Rattle.std.specs.Prelude.{nat_lt}
 use Rattle.std.proofs.lemmas.Bool.Decides.{nat_tests}
-use Rattle.shfl_line.specs.declared.events.Mode.{Mode}
 use Rattle.shfl_line.specs.declared.events.Mode.TheVariants.{Write, Read}
 use Rattle.shfl_line.specs.declared.events.Role.{Role}
 use Rattle.shfl_line.specs.declared.events.Role.TheVariants.{Nobody, Rest as Idle, Walk}
 use Rattle.shfl_line.specs.declared.events.LineEvent.{LineEvent}
 use Rattle.shfl_line.specs.declared.events.LineEvent.TheVariants as event
-use Rattle.shfl_line.specs.Line.{Line, mark_of, active_shuffler, idle_shuffler, IsWellFormed}
+use Rattle.shfl_line.specs.Line.{Line, active_shuffler, idle_shuffler}
 use Rattle.shfl_line.specs.Words.{link_word}
-use Rattle.shfl_line.specs.Passes.{times, first, without, last_marked}
+use Rattle.shfl_line.specs.Passes.{without}
 use Rattle.shfl_line.specs.Steps.{Admits, MayBegin, after}
-use Rattle.shfl_line.proofs.Behind.{last-inside}
 use Rattle.shfl_line.proofs.Chain
 use Rattle.shfl_line.proofs.KeptLine.{tail-of}
 use Rattle.shfl_core.specs.declared.phase.Phase.{Phase}
@@ -23,18 +21,17 @@ use Rattle.shfl_core.specs.declared.phase.Nap.TheVariants.{Awake, Doze, Hear, Ro
 use Rattle.shfl_core.specs.declared.phase.PassState.{PassState}
 use Rattle.shfl_core.specs.declared.phase.Rules.{Rules}
 use Rattle.shfl_core.specs.Words.{look, site}
-use Rattle.shfl_core.specs.Plan.{plan, plan_at, plan_by, is_awake, moving, is_idle, is_resting, round_batch}
-use Rattle.shfl_core.specs.Take.{take, take_at, take_by, nap_found, acquired, released, seek}
+use Rattle.shfl_core.specs.Plan.{plan, plan_by, is_awake, moving, is_idle, is_resting, round_batch}
+use Rattle.shfl_core.specs.Take.{take, take_by, nap_found, acquired, released}
 use Rattle.shfl_core.specs.Waiting.{idle}
 use Rattle.shfl_core.specs.Worlds.{World, known, stepped, placed_at, Move, Acquire, Release, Step, after_move}
 use Rattle.shfl_core.specs.Events.{event as event_of, event_at, leave_found}
 use Rattle.shfl_core.specs.Phases.{is_round}
-use Rattle.shfl_core.specs.View.{view}
 use Rattle.shfl_core.specs.Lawful.{Terms, count, Lawful, Advances}
 use Rattle.shfl_core.proofs.Lists.{past, below-or}
 use Rattle.shfl_laws.specs.Moves.{move_event}
-use Rattle.shfl_laws.specs.RoundMeasure.{from, upto, stretch, unseen, phase_measure, measure_at, round_measure}
-use Rattle.shfl_laws.specs.Rounds.{in_round, left, is_own, OwnStepLowers, OtherMoveKeeps}
+use Rattle.shfl_laws.specs.RoundMeasure.{stretch, unseen, phase_measure, round_measure}
+use Rattle.shfl_laws.specs.Rounds.{in_round, left, is_own}
 use Rattle.shfl_laws.proofs.Frame.{known-set}
 use Rattle.shfl_laws.proofs.MeasureRows.{falls, walks, inside, prev-after}
 use Rattle.shfl_laws.proofs.Stretch.{stretch-push, stretch-leave}

@@ -1,5 +1,5 @@
 -- A round is short: what is left where it begins bounds its steps.
-use Rattle.std.proofs.Common.{◌≡◌, ◌≢◌, ℕ, zero, suc, ◌+◌, ◌-◌, ◌*◌, ◌<◌, ◌≤◌, ◌⊎◌, List, [], ◌∷◌, Bool, true, false, cond, ◌==◌, ◌&&◌, length, refl, sym, ap, ◌∙◌, subst, ⊎_elim, arith}
+use Rattle.std.proofs.Common.{◌≡◌, ℕ, suc, ◌+◌, ◌*◌, ◌<◌, ◌≤◌, List, [], ◌∷◌, Bool, true, false, cond, ◌==◌, length, refl, sym, ap, ◌∙◌, subst, ⊎_elim, arith}
 use Rattle.std.specs.Prelude.{nat_lt}
 use Rattle.std.proofs.lemmas.Bool.Decides.{nat_tests}
 use Rattle.shfl_line.specs.declared.events.Mode.{Mode}
@@ -7,7 +7,6 @@ use Rattle.shfl_line.specs.declared.events.Mode.TheVariants.{Write, Read}
 use Rattle.shfl_line.specs.declared.events.LineEvent.{LineEvent}
 use Rattle.shfl_line.specs.declared.events.LineEvent.TheVariants as event
 use Rattle.shfl_line.specs.Line.{Line, mark_of}
-use Rattle.shfl_line.specs.Words.{link_word}
 use Rattle.shfl_line.specs.Passes.{times, first}
 use Rattle.shfl_line.specs.Steps.{Admits, MayBegin, after}
 use Rattle.shfl_line.proofs.Behind.{last-inside}
@@ -18,19 +17,18 @@ use Rattle.shfl_core.specs.declared.phase.Registers.{Registers as Regs}
 use Rattle.shfl_core.specs.declared.phase.Nap.{Nap}
 use Rattle.shfl_core.specs.declared.phase.Nap.TheVariants.{Awake, Doze, Hear, Rouse, Ring}
 use Rattle.shfl_core.specs.declared.phase.PassState.{PassState}
-use Rattle.shfl_core.specs.declared.phase.Rules.{Rules}
 use Rattle.shfl_core.specs.Words.{look, site}
 use Rattle.shfl_core.specs.Plan.{plan, is_awake, moving, round_batch}
-use Rattle.shfl_core.specs.Take.{take, take_by, begun, done, seek}
+use Rattle.shfl_core.specs.Take.{take, take_by, done, seek}
 use Rattle.shfl_core.specs.Waiting.{idle}
 use Rattle.shfl_core.specs.Worlds.{World, known, stepped, Move, Acquire, Release, Step, after_move}
-use Rattle.shfl_core.specs.Events.{event as event_of, event_at}
+use Rattle.shfl_core.specs.Events.{event_at}
 use Rattle.shfl_core.specs.Phases.{is_round}
 use Rattle.shfl_core.specs.View.{view}
 use Rattle.shfl_core.specs.Lawful.{Terms, count, Lawful, Advances, LawOf}
 use Rattle.shfl_core.proofs.Lists.{past, below-or}
-use Rattle.shfl_laws.specs.Moves.{MayMove, EachMayMove, move_event}
-use Rattle.shfl_laws.specs.RoundMeasure.{from, upto, stretch, phase_measure, round_measure}
+use Rattle.shfl_laws.specs.Moves.{EachMayMove, move_event}
+use Rattle.shfl_laws.specs.RoundMeasure.{upto, stretch, phase_measure, round_measure}
 use Rattle.shfl_laws.specs.Rounds.{in_round, left, is_own, round_steps, OwnStepLowers, OtherMoveKeeps, BeginBounds, RoundIsShort}
 use Rattle.shfl_laws.proofs.Advance.{below-count}
 use Rattle.shfl_laws.proofs.Frame.{known-set}

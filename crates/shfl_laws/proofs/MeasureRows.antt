@@ -1,12 +1,12 @@
 -- Each step of a round lowers what is left of it.
-use Rattle.std.proofs.Common.{◌≡◌, ◌≢◌, ℕ, zero, suc, ◌+◌, ◌-◌, ◌*◌, ◌<◌, ◌≤◌, List, [], ◌∷◌, Bool, true, false, cond, ◌==◌, length, refl, sym, ap, ◌∙◌, subst, ⊎_elim, arith}
+use Rattle.std.proofs.Common.{◌≡◌, ◌≢◌, ℕ, zero, suc, ◌+◌, ◌-◌, ◌*◌, ◌<◌, ◌≤◌, List, Bool, true, false, cond, ◌==◌, length, refl, sym, ap, ◌∙◌, subst, ⊎_elim, arith}
 use Rattle.std.specs.Prelude.{nat_lt}
 use Rattle.std.proofs.lemmas.Bool.Decides.{nat_tests}
 use Rattle.shfl_line.specs.declared.events.Mode.{Mode}
 use Rattle.shfl_line.specs.declared.events.Mode.TheVariants.{Write, Read}
 use Rattle.shfl_line.specs.Line.{Line, mark_of, active_shuffler, IsWellFormed}
 use Rattle.shfl_line.specs.Words.{link_word}
-use Rattle.shfl_line.specs.Passes.{times, follower, last_marked, behind, without, put_behind}
+use Rattle.shfl_line.specs.Passes.{times, follower, last_marked, without, put_behind}
 use Rattle.shfl_line.specs.Steps.{after, batch_end}
 use Rattle.shfl_line.proofs.Batches.{stands-behind}
 use Rattle.shfl_line.proofs.Pigeons.{distinct-length}
@@ -21,10 +21,10 @@ use Rattle.shfl_core.specs.Take.{take_at, seek, decided}
 use Rattle.shfl_core.specs.Worlds.{World, known}
 use Rattle.shfl_core.specs.Events.{event_at}
 use Rattle.shfl_core.specs.Phases.{is_round}
-use Rattle.shfl_core.specs.View.{View, view}
+use Rattle.shfl_core.specs.View.{view}
 use Rattle.shfl_core.specs.Order.{Round}
 use Rattle.shfl_core.specs.Lawful.{Terms, count, Lawful}
-use Rattle.shfl_laws.specs.RoundMeasure.{from, upto, stretch, unseen, phase_measure, measure_at}
+use Rattle.shfl_laws.specs.RoundMeasure.{from, stretch, phase_measure, measure_at}
 use Rattle.shfl_laws.proofs.Order as Orders
 use Rattle.shfl_laws.proofs.Stretch.{stretch-next, stretch-pick, stretch-place, upto-length, from-length, last-from, unmarked-from, follower-apart}
 use Rattle.shfl_laws.proofs.WellFormed.{agrees-well-formed, last-number}

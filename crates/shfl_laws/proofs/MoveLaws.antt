@@ -1,29 +1,27 @@
 -- Every move of a schedule, and every run, from the laws of the phases and of the park states.
-use Rattle.std.proofs.Common.{◌≡◌, ◌≢◌, ℕ, zero, suc, ◌<◌, ◌≤◌, Bool, true, false, cond, List, [], ◌∷◌, length, set, refl, sym, ap, ◌∙◌, subst, ⊎_elim, arith}
-use Rattle.std.specs.Prelude.{not, ◌&&◌}
+use Rattle.std.proofs.Common.{◌≡◌, ℕ, zero, suc, ◌≤◌, Bool, true, false, cond, List, [], ◌∷◌, length, set, refl, sym, ap, subst, ⊎_elim, arith}
 use mathlib.Core.Option.{some}
 use lib.ListN.{get_elem?}
 use Rattle.shfl_line.specs.declared.events.Mode.{Mode}
 use Rattle.shfl_line.specs.declared.events.LineEvent.{LineEvent}
 use Rattle.shfl_line.specs.declared.events.LineEvent.TheVariants.{Nothing}
-use Rattle.shfl_line.specs.declared.words.Attr.{Attr}
 use Rattle.shfl_core.specs.declared.phase.Phase.{Phase}
 use Rattle.shfl_core.specs.declared.phase.Phase.TheVariants.{Idle, Held}
 use Rattle.shfl_core.specs.declared.phase.Nap.{Nap}
 use Rattle.shfl_core.specs.declared.phase.Nap.TheVariants.{Awake, Doze, Hear, Rouse, Ring}
 use Rattle.shfl_core.specs.declared.phase.PassState.{PassState}
-use Rattle.shfl_core.specs.declared.phase.Rules.{Rules}
 use Rattle.shfl_core.specs.Words.{look, site}
-use Rattle.shfl_core.specs.Plan.{plan, moving, is_idle, is_held, is_awake, is_resting}
+use Rattle.shfl_core.specs.Plan.{plan, moving, is_idle, is_resting}
 use Rattle.shfl_core.specs.Take.{entry, exit, acquired, released}
 use Rattle.shfl_core.specs.Waiting.{MayUse, idle}
 use Rattle.shfl_core.specs.Worlds.{World, known, placed_at, stepped, opening, Move, Acquire, Release, Step, after_move, run}
 use Rattle.shfl_core.specs.Events.{event}
-use Rattle.shfl_core.specs.Lawful.{Terms, Lawful, Advances, LawOf, NapLawOf}
+use Rattle.shfl_core.specs.Lawful.{Terms, Lawful, Advances, LawOf}
 use Rattle.shfl_core.proofs.Lists.{at-read, past, below-or}
-use Rattle.shfl_laws.specs.Moves.{MayMove, EachMayMove, move_event, MoveLaw, terms, MayOpen, RunLaw}
+use Rattle.shfl_laws.specs.Moves.{EachMayMove, MoveLaw, terms, RunLaw}
 use Rattle.shfl_laws.proofs.MoveRows.{acquire-advances, release-advances}
-use Rattle.shfl_laws.proofs.NapRows.{doze-law, hear-law, rouse-law, ring-law}
+use Rattle.shfl_laws.proofs.NapRows.{doze-law, hear-law, rouse-law}
+use Rattle.shfl_laws.proofs.RingRow.{ring-law}
 use Rattle.shfl_laws.proofs.Opens.{opening-law}
 
 pub idle-is : (f : Phase) → is_idle f ≡ true → f ≡ Idle

@@ -1,29 +1,24 @@
 -- A lock at its opening, and a seat that is filled.
-use Rattle.std.proofs.Common.{◌≡◌, ◌≢◌, ℕ, zero, suc, ◌+◌, ◌*◌, ◌<◌, ◌≤◌, ◌⊎◌, inl, inr, Bool, true, false, cond, List, [], ◌∷◌, ◌++◌, length, get_or, set, refl, sym, ap, ◌∙◌, subst, ⊎_elim, length-append, arith}
-use Rattle.std.specs.Prelude.{None, map, replicate, slice_index}
+use Rattle.std.proofs.Common.{◌≡◌, ◌≢◌, ℕ, zero, suc, ◌+◌, ◌*◌, ◌<◌, ◌⊎◌, inl, inr, Bool, false, List, [], ◌∷◌, ◌++◌, length, get_or, refl, sym, ap, ◌∙◌, subst, ⊎_elim, length-append, arith}
+use Rattle.std.specs.Prelude.{map, replicate, slice_index}
 use Rattle.std.proofs.lemmas.Bool.Decides.{nat_tests}
 use mathlib.Core.Option.{some, some-injective, some-ne-none}
 use lib.ListN.{get_elem?}
-use Rattle.shfl_line.specs.declared.events.Form.{Form}
-use Rattle.shfl_line.specs.declared.events.LineEvent.TheVariants.{Nothing}
 use Rattle.shfl_line.specs.declared.words.Attr.{Attr}
 use Rattle.shfl_line.specs.declared.words.NodeState.{NodeState}
-use Rattle.shfl_line.specs.Words.{attr_word, state_of, IsLockWord, IsStateWord}
-use Rattle.shfl_line.specs.Line.{Line, mark_of, empty, IsOfPasses}
+use Rattle.shfl_line.specs.Words.{attr_word, state_of}
+use Rattle.shfl_line.specs.Line.{empty}
 use Rattle.shfl_core.specs.declared.phase.PassState.{PassState}
-use Rattle.shfl_core.specs.declared.phase.Rules.{Rules}
 use Rattle.shfl_core.specs.declared.words.Word.{Word}
 use Rattle.shfl_core.specs.declared.words.Word.TheVariants.{Lock, Tail, Next, State, Attr as AttrOf, Bell}
 use Rattle.shfl_core.specs.Words.{look}
 use Rattle.shfl_core.specs.Waiting.{idle}
-use Rattle.shfl_core.specs.Worlds.{World, known, node_words, opening_words, idle_from, opening}
-use Rattle.shfl_core.specs.Phases.{is_queued, is_holding}
+use Rattle.shfl_core.specs.Worlds.{node_words, opening_words, idle_from, opening}
 use Rattle.shfl_core.specs.View.{View, view}
 use Rattle.shfl_core.specs.Holding.{total, backs}
-use Rattle.shfl_core.specs.Lawful.{Terms, count, Formed, Agrees, Lawful, Advances}
-use Rattle.shfl_core.proofs.Lists.{past, below-or}
+use Rattle.shfl_core.specs.Lawful.{Terms, count, Formed, Agrees}
 use Rattle.shfl_core.proofs.Opening.{node-words-long, idle-from-long, idle-from-at}
-use Rattle.shfl_laws.specs.Moves.{terms, MayOpen, OpensLawful, OpeningLaw, SeatLaw, with_one_more}
+use Rattle.shfl_laws.specs.Moves.{terms, OpeningLaw, SeatLaw}
 
 abbrev pub clear : NodeState
 clear = record { ready = false; shuffler = false; parked = false; spin = false; batch = 0 }

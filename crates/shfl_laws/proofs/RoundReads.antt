@@ -1,8 +1,7 @@
 -- The laws of a round's reading steps, over words.
-use Rattle.std.proofs.Common.{◌≡◌, ◌≢◌, ℕ, zero, suc, ◌+◌, ◌*◌, ◌<◌, ◌≤◌, ◌==◌, Bool, true, false, cond, List, length, set, refl, sym, ap, ◌∙◌, subst, arith}
+use Rattle.std.proofs.Common.{◌≡◌, ◌≢◌, ℕ, zero, suc, ◌+◌, ◌*◌, ◌<◌, ◌==◌, Bool, true, false, cond, length, set, refl, ap, arith}
 use Rattle.shfl_line.specs.declared.events.LineEvent.TheVariants.{Nothing}
-use Rattle.shfl_core.specs.declared.phase.Phase.{Phase}
-use Rattle.shfl_core.specs.declared.phase.Phase.TheVariants.{Next, Tail, Attr, Decide, After, Pick, Mark, Give}
+use Rattle.shfl_core.specs.declared.phase.Phase.TheVariants.{Next, Tail, Attr, Decide, After, Mark, Give}
 use Rattle.shfl_core.specs.declared.phase.Nap.TheVariants.{Awake}
 use Rattle.shfl_core.specs.declared.phase.PassState.{PassState}
 use Rattle.shfl_core.specs.declared.words.Word.{Word}
@@ -11,7 +10,7 @@ use Rattle.shfl_core.specs.Words.{look, index, wide}
 use Rattle.shfl_core.specs.Take.{to, next_found, after_found, decided, stops}
 use Rattle.shfl_core.specs.Worlds.{World, known}
 use Rattle.shfl_core.specs.Phases.{is_round, decide_to_pick, tail_to_pick}
-use Rattle.shfl_core.specs.View.{View, view}
+use Rattle.shfl_core.specs.View.{view}
 use Rattle.shfl_core.specs.Lawful.{Terms, count, Lawful, Advances, LawOf}
 use Rattle.shfl_laws.proofs.Advance.{at-phase}
 use Rattle.shfl_laws.proofs.Loads.{Rounded, give, next-round}

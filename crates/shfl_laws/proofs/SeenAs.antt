@@ -1,18 +1,17 @@
 -- A pass that has entered is still seen as idle, and one that leaves as a holder.
-use Rattle.std.proofs.Common.{◌≡◌, ℕ, ◌<◌, Bool, true, false, cond, List, length, set, refl, sym, ap, ◌∙◌, subst, arith}
+use Rattle.std.proofs.Common.{◌≡◌, ◌<◌, Bool, true, false, cond, List, length, refl, sym, ap, ◌∙◌, subst}
 use mathlib.Core.Option.{some}
-use lib.ListN.{get_elem?}
 use Rattle.shfl_line.specs.declared.events.Form.{Form}
 use Rattle.shfl_line.specs.declared.events.Mode.{Mode}
 use Rattle.shfl_line.specs.declared.events.Mode.TheVariants.{Write, Read}
 use Rattle.shfl_line.specs.declared.events.LineEvent.TheVariants.{Nothing}
-use Rattle.shfl_core.specs.declared.phase.Phase.TheVariants.{Idle, Held}
+use Rattle.shfl_core.specs.declared.phase.Phase.TheVariants.{Idle}
 use Rattle.shfl_core.specs.declared.phase.PassState.{PassState}
 use Rattle.shfl_core.specs.Plan.{is_idle, is_resting}
 use Rattle.shfl_core.specs.Take.{entry, exit, acquired, released}
 use Rattle.shfl_core.specs.Waiting.{MayUse, idle}
-use Rattle.shfl_core.specs.Worlds.{World, known, placed_at}
-use Rattle.shfl_core.specs.Lawful.{Terms, Lawful, Advances}
+use Rattle.shfl_core.specs.Worlds.{known, placed_at}
+use Rattle.shfl_core.specs.Lawful.{Terms, Advances}
 use Rattle.shfl_core.proofs.Lists.{seen-at, set-again}
 use Rattle.shfl_laws.specs.Seen.{SeenAs, Alike, Enters, Leaves, SeenLaw, MovesUnseen}
 use Rattle.shfl_laws.proofs.MoveRows.{acquire-advances, release-advances}

@@ -1,22 +1,19 @@
 -- A world shows one state.
-use Rattle.std.proofs.Common.{◌≡◌, ◌≢◌, ℕ, zero, suc, ◌+◌, ◌<◌, ◌≤◌, ◌⊎◌, inl, inr, List, [], ◌∷◌, Bool, true, false, cond, ◌==◌, refl, sym, ap, ◌∙◌, subst, arith}
+use Rattle.std.proofs.Common.{◌≡◌, ℕ, suc, ◌+◌, ◌<◌, ◌⊎◌, inl, inr, List, [], ◌∷◌, Bool, true, false, cond, ◌==◌, refl, sym, ap, ◌∙◌, subst, arith}
 use Rattle.std.specs.Prelude.{Option, Some, None, ◌&&◌, not, slice_index, length}
 use Rattle.std.proofs.lemmas.Bool.Decides.{nat_tests}
 use Rattle.shfl_line.specs.declared.events.Role.{Role}
 use Rattle.shfl_line.specs.declared.events.Role.TheVariants.{Nobody, Walk, Rest}
 use Rattle.shfl_line.specs.declared.events.Mode.{Mode}
 use Rattle.shfl_line.specs.declared.events.Mode.TheVariants.{Write, Read}
-use Rattle.shfl_line.specs.Line.{Line, Rises, mark_of, is_write, active_shuffler, idle_shuffler}
+use Rattle.shfl_line.specs.Line.{Line, Rises, is_write, active_shuffler, idle_shuffler}
 use Rattle.shfl_line.specs.Words.{link_word}
-use Rattle.shfl_line.specs.Passes.{times, end}
+use Rattle.shfl_line.specs.Passes.{times}
 use Rattle.shfl_line.proofs.Chain
-use Rattle.shfl_core.specs.Phases.{is_round, is_queued}
-use Rattle.shfl_core.specs.Worlds.{World}
 use Rattle.shfl_core.specs.View.{View, view}
 use Rattle.shfl_core.specs.Order.{Order as Ordered, Walks}
 use Rattle.shfl_core.specs.Grouping.{Grouping}
 use Rattle.shfl_core.specs.Holding.{write_of, read_of}
-use Rattle.shfl_core.specs.Lawful.{Terms, Lawful}
 use Rattle.shfl_laws.specs.Theorem.{ShowsOne}
 use Rattle.shfl_laws.proofs.Order
 use Rattle.shfl_laws.proofs.Shown.{line-one}

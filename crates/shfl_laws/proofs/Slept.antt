@@ -1,16 +1,14 @@
 -- A step of parking: only park states, announcements and wakeup words change.
-use Rattle.std.proofs.Common.{◌≡◌, ◌≢◌, ℕ, suc, ◌<◌, List, [], ◌∷◌, Bool, true, false, refl, sym, ap, ◌∙◌, subst}
+use Rattle.std.proofs.Common.{◌≡◌, ℕ, List, [], ◌∷◌, Bool, refl, sym, ap, ◌∙◌, subst}
 use Rattle.shfl_line.specs.declared.events.Form.{Form}
 use Rattle.shfl_line.specs.declared.events.Mode.{Mode}
-use Rattle.shfl_line.specs.declared.words.NodeState.{NodeState}
 use Rattle.shfl_line.specs.Line.{Line}
 use Rattle.shfl_line.specs.Words.{state_of}
-use Rattle.shfl_line.specs.Passes.{updated, Chain}
+use Rattle.shfl_line.specs.Passes.{updated}
 use Rattle.shfl_line.proofs.Chain
 use Rattle.shfl_core.specs.declared.phase.Nap.{Nap}
-use Rattle.shfl_core.specs.declared.phase.PassState.{PassState}
 use Rattle.shfl_core.specs.View.{View}
-use Rattle.shfl_core.specs.Order.{Order as Ordered, Round, Follows, Walks}
+use Rattle.shfl_core.specs.Order.{Order as Ordered, Follows, Walks}
 use Rattle.shfl_core.specs.Grouping.{Grouping}
 use Rattle.shfl_core.specs.Holding.{Holding, Registered}
 use Rattle.shfl_core.specs.Owed.{Owed}

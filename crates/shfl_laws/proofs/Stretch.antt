@@ -1,11 +1,11 @@
 -- The part of the line that a round has come through, as the line changes.
-use Rattle.std.proofs.Common.{◌≡◌, ◌≢◌, ℕ, zero, suc, ◌+◌, ◌<◌, ◌≤◌, List, [], ◌∷◌, ◌++◌, Bool, true, false, cond, ◌==◌, length, refl, sym, ap, ◌∙◌, subst, arith}
+use Rattle.std.proofs.Common.{◌≡◌, ◌≢◌, ℕ, zero, suc, ◌+◌, ◌<◌, ◌≤◌, List, [], ◌∷◌, ◌++◌, cond, ◌==◌, length, refl, sym, ap, ◌∙◌, subst, arith}
 use Rattle.std.proofs.lemmas.Bool.Decides.{nat_tests}
-use Rattle.shfl_line.specs.Passes.{times, first, follower, follower_after, behind, without, put_behind, last_marked, EachPair, MarkedFirst}
+use Rattle.shfl_line.specs.Passes.{times, follower, behind, without, put_behind, last_marked, EachPair, MarkedFirst}
 use Rattle.shfl_line.proofs.Chain
 use Rattle.shfl_line.proofs.Marks
 use Rattle.shfl_line.proofs.Behind.{follower-inside, behind-inside, last-inside, put-hit, put-miss}
-use Rattle.shfl_line.proofs.Batches.{last-none, last-tail}
+use Rattle.shfl_line.proofs.Batches.{last-none}
 use Rattle.shfl_laws.specs.RoundMeasure.{from, upto, stretch}
 
 pub from-hit : (p x : ℕ) (xs : List ℕ) → x ≡ p → from p (x ∷ xs) ≡ x ∷ xs

@@ -1,24 +1,20 @@
 -- A pass joins the line: it exchanges the tail word.
-use Rattle.std.proofs.Common.{◌≡◌, ◌≢◌, ℕ, zero, suc, ◌+◌, ◌<◌, ◌≤◌, List, [], ◌∷◌, ◌++◌, Bool, true, false, cond, ◌==◌, length, set, refl, sym, ap, ◌∙◌, subst, add-one, arith}
+use Rattle.std.proofs.Common.{◌≡◌, ◌≢◌, ℕ, zero, suc, ◌+◌, ◌<◌, List, [], ◌∷◌, ◌++◌, true, false, cond, length, set, refl, sym, ap, ◌∙◌, subst, add-one, arith}
 use Rattle.std.specs.Prelude.{slice_index, slice_set}
-use Rattle.std.proofs.lemmas.Bool.Decides.{nat_tests}
 use Rattle.shfl_line.specs.declared.events.LineEvent.TheVariants.{Join}
-use Rattle.shfl_line.specs.declared.words.NodeState.{NodeState}
 use Rattle.shfl_line.specs.Line.{Line, mark_of, active_shuffler, idle_shuffler}
-use Rattle.shfl_line.specs.Words.{link_word}
-use Rattle.shfl_line.specs.Passes.{updated, times, end, EachPair, MarkedFirst, IsLastMarked}
-use Rattle.shfl_line.specs.Steps.{after, IsAway}
+use Rattle.shfl_line.specs.Passes.{updated, end, IsLastMarked}
+use Rattle.shfl_line.specs.Steps.{after}
 use Rattle.shfl_line.proofs.Chain
 use Rattle.shfl_line.proofs.Batches.{mark-set, prefix-push, prefix-cong}
-use Rattle.shfl_core.specs.declared.phase.Phase.{Phase}
-use Rattle.shfl_core.specs.declared.phase.Phase.TheVariants.{Idle, Swap, Close, Link, Begin, Give, Late, WriteGrab, Grab}
+use Rattle.shfl_core.specs.declared.phase.Phase.TheVariants.{Swap, Begin, Give, Late, WriteGrab, Grab}
 use Rattle.shfl_core.specs.declared.phase.Nap.TheVariants.{Awake}
 use Rattle.shfl_core.specs.declared.phase.PassState.{PassState}
 use Rattle.shfl_core.specs.declared.words.Word.TheVariants.{Tail}
 use Rattle.shfl_core.specs.Words.{look, index}
-use Rattle.shfl_core.specs.Take.{to, swap_found}
+use Rattle.shfl_core.specs.Take.{swap_found}
 use Rattle.shfl_core.specs.Worlds.{World, known}
-use Rattle.shfl_core.specs.Phases.{is_round, is_queued, is_fore, knows, is_holding, is_writing, is_reading, decide_to_pick}
+use Rattle.shfl_core.specs.Phases.{is_round, is_queued, knows, is_holding, is_writing, is_reading, decide_to_pick}
 use Rattle.shfl_core.specs.View.{View, view}
 use Rattle.shfl_core.specs.Order.{Order as Ordered, Walks}
 use Rattle.shfl_core.specs.Grouping.{Grouping}

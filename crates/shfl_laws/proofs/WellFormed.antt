@@ -1,14 +1,14 @@
 -- A lock's world shows a well-formed line state.
-use Rattle.std.proofs.Common.{◌≡◌, ◌≢◌, ℕ, zero, suc, ◌+◌, ◌<◌, ◌≤◌, ◌⊎◌, List, [], ◌∷◌, Bool, true, false, cond, ◌==◌, ◌&&◌, not, refl, sym, ap, ◌∙◌, inl, inr, subst, arith}
+use Rattle.std.proofs.Common.{◌≡◌, ℕ, suc, ◌+◌, ◌<◌, ◌≤◌, ◌⊎◌, List, [], ◌∷◌, Bool, true, false, cond, ◌==◌, ◌&&◌, not, ap, ◌∙◌, inl, inr, arith}
 use Rattle.std.proofs.lemmas.Bool.Decides.{nat_tests}
 use Rattle.shfl_line.specs.declared.events.Mode.{Mode}
-use Rattle.shfl_line.specs.Line.{Line, mark_of, active_shuffler, idle_shuffler, is_write, writer_count, reader_count, holds, IsOfPasses, IsWellFormed}
+use Rattle.shfl_line.specs.Line.{Line, mark_of, is_write, writer_count, reader_count, holds, IsOfPasses, IsWellFormed}
 use Rattle.shfl_line.specs.Words.{link_word}
 use Rattle.shfl_line.specs.Passes.{times, last_marked, EachPair, MarkedFirst, IsLastMarked}
 use Rattle.shfl_line.proofs.Chain
 use Rattle.shfl_line.proofs.Marks
 use Rattle.shfl_core.specs.declared.phase.PassState.{PassState}
-use Rattle.shfl_core.specs.Phases.{is_round, is_queued, is_holding}
+use Rattle.shfl_core.specs.Phases.{is_queued, is_holding}
 use Rattle.shfl_core.specs.View.{View}
 use Rattle.shfl_core.specs.Holding.{Holding, write_of, read_of}
 use Rattle.shfl_core.specs.Lawful.{Terms, count, Agrees}

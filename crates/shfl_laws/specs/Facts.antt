@@ -1,11 +1,10 @@
 -- What the registers and words of a lawful world say of its line, in plain words. The facts that the definitions of
 -- order, grouping, holding and parking give word for word stand there.
-use Rattle.std.specs.Prelude.{◌≡◌, ◌≢◌, ◌⊎◌, ℕ, suc, ◌<◌, Some, true, false}
+use Rattle.std.specs.Prelude.{◌≡◌, ◌≢◌, ◌⊎◌, ℕ, suc, ◌<◌, Some, false}
 use Rattle.shfl_line.specs.Words.{ready_of}
 use Rattle.shfl_line.specs.Passes.{times, first, behind, last_marked}
 use Rattle.shfl_line.specs.Line.{Line}
 use Rattle.shfl_core.specs.declared.phase.Phase.TheVariants.{Swap, Link, Give, Ready}
-use Rattle.shfl_core.specs.declared.phase.PassState.{PassState}
 use Rattle.shfl_core.specs.declared.words.Word.TheVariants.{Next, State}
 use Rattle.shfl_core.specs.Words.{look}
 use Rattle.shfl_core.specs.Phases.{is_fore}

@@ -1,12 +1,10 @@
 -- What every lawful world is, in plain words: who holds, who waits and where, and who shuffles.
-use Rattle.std.specs.Prelude.{◌≡◌, ◌≢◌, ◌⊎◌, ℕ, suc, ◌<◌, ◌≤◌, List, [], ◌∷◌, Option, None, Some, true, false}
+use Rattle.std.specs.Prelude.{◌≡◌, ◌≢◌, ◌⊎◌, ℕ, suc, ◌≤◌, List, [], ◌∷◌, Option, Some, true, false}
 use Rattle.shfl_line.specs.declared.events.Mode.{Mode}
 use Rattle.shfl_line.specs.declared.events.Mode.TheVariants.{Write, Read}
 use Rattle.shfl_line.specs.Words.{ready_of, batch_of}
 use Rattle.shfl_line.specs.Passes.{times, Chain, EachPair, MarkedFirst, end}
-use Rattle.shfl_core.specs.declared.phase.Phase.{Phase}
 use Rattle.shfl_core.specs.declared.phase.Phase.TheVariants.{Link, Ready}
-use Rattle.shfl_core.specs.declared.phase.PassState.{PassState}
 use Rattle.shfl_core.specs.declared.words.Word.TheVariants.{Tail, Next, State}
 use Rattle.shfl_core.specs.Words.{look}
 use Rattle.shfl_core.specs.Phases.{is_holding, is_queued, is_fore, is_round, has_hand}

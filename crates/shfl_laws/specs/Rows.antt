@@ -1,6 +1,6 @@
 -- The laws of the steps, a record for each part of the table: each step leads from a lawful world to a lawful world,
 -- and the shown states are one step of the line apart, the one that is named.
-use Rattle.std.specs.Prelude.{◌≡◌, ℕ}
+use Rattle.std.specs.Prelude.{ℕ}
 use Rattle.shfl_line.specs.declared.events.Mode.TheVariants.{Write, Read}
 use Rattle.shfl_core.specs.declared.phase.Phase.TheVariants.{Idle, Steal, Init, Swap, Link, Close, Look, Begin, Next, Tail, Attr, Decide, After, Pick, Aim, Place, Mark, Give, Peek, Grab, WriteGrab, Take, Cut, Late, Ready, Open, Held, Release, Count, Uncount, TryUncount, HeadCount, HeadLook, ReadRelease}
 use Rattle.shfl_core.specs.declared.phase.Nap.TheVariants.{Doze, Hear, Rouse, Ring}

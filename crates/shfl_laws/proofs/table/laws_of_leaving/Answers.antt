@@ -1,6 +1,6 @@
 use Rattle.shfl_laws.proofs.LeaveRows.{take-law, late-law}
 use Rattle.shfl_laws.proofs.CutRow.{cut-law}
-use Rattle.shfl_laws.proofs.ReadyRow.{ready-law}
+use Rattle.shfl_laws.proofs.ReadyLaw.{ready-law}
 use Rattle.shfl_laws.proofs.table.laws_of_leaving.Goals as goal
 
 pub returns : goal.returns

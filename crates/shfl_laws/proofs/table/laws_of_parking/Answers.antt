@@ -1,4 +1,5 @@
-use Rattle.shfl_laws.proofs.NapRows.{doze-law, hear-law, rouse-law, ring-law}
+use Rattle.shfl_laws.proofs.NapRows.{doze-law, hear-law, rouse-law}
+use Rattle.shfl_laws.proofs.RingRow.{ring-law}
 use Rattle.shfl_laws.proofs.table.laws_of_parking.Goals as goal
 
 pub returns : goal.returns
