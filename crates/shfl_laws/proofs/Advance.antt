@@ -1,11 +1,7 @@
 -- A step's law from what it does to the world as it is read.
-use Rattle.std.proofs.Common.{◌≡◌, ◌≢◌, ℕ, zero, suc, ◌+◌, ◌*◌, ◌<◌, ◌≤◌, ◌⊎◌, Bool, true, false, cond, List, length, get_or, set, length-set, refl, sym, ap, ◌∙◌, subst, ⊎_elim, arith}
-use Rattle.std.specs.Prelude.{slice_index}
-use mathlib.Core.Option.{some}
-use lib.ListN.{get_elem?}
+use Rattle.std.proofs.Common.{◌≡◌, ℕ, ◌<◌, ◌≤◌, Bool, cond, length, set, length-set, refl, sym, ap, ◌∙◌, subst, ⊎_elim, arith}
 use Rattle.shfl_line.specs.declared.events.LineEvent.{LineEvent}
 use Rattle.shfl_line.specs.declared.events.LineEvent.TheVariants.{Nothing as NothingEvent}
-use Rattle.shfl_line.specs.Line.{Line, IsOfPasses}
 use Rattle.shfl_line.specs.Steps.{Admits, after, NamesBelow}
 use Rattle.shfl_line.proofs.EachStep.{of_passes_after}
 use Rattle.shfl_core.specs.declared.phase.Phase.{Phase}
@@ -14,9 +10,9 @@ use Rattle.shfl_core.specs.declared.phase.Nap.TheVariants.{Awake}
 use Rattle.shfl_core.specs.declared.phase.PassState.{PassState}
 use Rattle.shfl_core.specs.declared.words.Word.{Word}
 use Rattle.shfl_core.specs.declared.words.Word.TheVariants.{Lock, Tail, Next, State, Attr, Bell}
-use Rattle.shfl_core.specs.Words.{look, wide, index, site, put}
+use Rattle.shfl_core.specs.Words.{look, wide, index, site}
 use Rattle.shfl_core.specs.Plan.{plan, plan_at, plan_by, is_awake}
-use Rattle.shfl_core.specs.Take.{take, take_at, take_by}
+use Rattle.shfl_core.specs.Take.{take_at, take_by}
 use Rattle.shfl_core.specs.Waiting.{idle}
 use Rattle.shfl_core.specs.Worlds.{World, known, stepped, after_access}
 use Rattle.shfl_core.specs.View.{View, view}

@@ -1,5 +1,5 @@
 -- A round begins in the pass's own state word: the batch number becomes at least 1, and the flag is cleared.
-use Rattle.std.proofs.Common.{◌≡◌, ℕ, zero, suc, ◌+◌, ◌*◌, ◌^◌, ◌<◌, ◌≤◌, ◌==◌, Bool, true, false, cond, refl, sym, ap, ◌∙◌, subst, arith}
+use Rattle.std.proofs.Common.{◌≡◌, ℕ, zero, suc, ◌+◌, ◌*◌, ◌^◌, ◌<◌, ◌==◌, Bool, true, false, cond, sym, ap, ◌∙◌, arith}
 use Rattle.std.specs.Prelude.{bit_xor, max}
 use Rattle.std.proofs.lemmas.Bool.Decides.{nat_tests}
 use Rattle.std.specs.Int.Bits.{xor_zero_r}
@@ -73,7 +73,7 @@ pub xor-begin : (n : ℕ) → IsStateWord n → (b : ℕ) (f : Bool) → b ≡ (
 xor-begin n w b f eb ef = let r = read n w in let kb : b ≡ w.batch = eb ∙ ap (λ (z : NodeState). z.batch) r in let kf : f ≡ w.shuffler = ef ∙ ap (λ (z : NodeState). z.shuffler) r in
     let few = w.few in
     let t = says (bit_xor n (cond (b == 0) 65536 0 + cond f 2 0)) w.ready false w.parked w.spin (max 1 w.batch) (omega arith)
-        (ap (λ y. bit_xor y (cond (b == 0) 65536 0 + cond f 2 0)) w.is ∙ ((λ j. bit_xor (packed_state w.ready w.shuffler w.parked w.spin w.batch) (cond (kb j == 0) 65536 0 + cond (kf j) 2 0)) ∙ step w.ready w.shuffler w.parked w.spin w.batch)) in
+    (ap (λ y. bit_xor y (cond (b == 0) 65536 0 + cond f 2 0)) w.is ∙ ((λ j. bit_xor (packed_state w.ready w.shuffler w.parked w.spin w.batch) (cond (kb j == 0) 65536 0 + cond (kf j) 2 0)) ∙ step w.ready w.shuffler w.parked w.spin w.batch)) in
     record { form = t.form; is = t.is ∙ ((λ j. record { ready = w.ready; shuffler = false; parked = w.parked; spin = w.spin; batch = max 1 (sym kb j) }) ∙ ap (λ (y : NodeState). record y { shuffler = false; batch = max 1 b }) (sym r)) }
   where
     step : (r s p x : Bool) (b : ℕ) → bit_xor (packed_state r s p x b) (cond (b == 0) 65536 0 + cond s 2 0) ≡ packed_state r false p x (max 1 b)

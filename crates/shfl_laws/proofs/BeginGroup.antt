@@ -1,21 +1,19 @@
 -- The order and the batch once a round has begun, or the limit was reached.
-use Rattle.std.proofs.Common.{◌≡◌, ◌≢◌, ℕ, zero, suc, ◌+◌, ◌*◌, ◌<◌, ◌≤◌, ◌⊎◌, ◌==◌, Bool, true, false, cond, List, [], ◌∷◌, length, refl, sym, ap, ◌∙◌, inl, inr, subst, arith}
-use Rattle.std.specs.Prelude.{None, max, slice_index}
+use Rattle.std.proofs.Common.{◌≡◌, ◌≢◌, ℕ, suc, ◌<◌, ◌≤◌, true, false, cond, List, refl, sym, ap, ◌∙◌, subst, arith}
+use Rattle.std.specs.Prelude.{slice_index}
 use Rattle.shfl_line.specs.declared.events.Role.{Role}
 use Rattle.shfl_line.specs.declared.events.Role.TheVariants.{Nobody, Walk}
 use Rattle.shfl_line.specs.declared.words.NodeState.{NodeState}
-use Rattle.shfl_line.specs.Line.{Line, mark_of, active_shuffler, idle_shuffler}
+use Rattle.shfl_line.specs.Line.{Line, mark_of}
 use Rattle.shfl_line.specs.Words.{link_word}
 use Rattle.shfl_line.specs.Passes.{updated, times, EachPair, MarkedFirst, IsLastMarked}
 use Rattle.shfl_line.proofs.Chain
-use Rattle.shfl_core.specs.declared.phase.Phase.{Phase}
-use Rattle.shfl_core.specs.declared.phase.Phase.TheVariants.{Begin, Next, Give, Swap, Mark}
+use Rattle.shfl_core.specs.declared.phase.Phase.TheVariants.{Begin, Give, Swap}
 use Rattle.shfl_core.specs.declared.phase.PassState.{PassState}
-use Rattle.shfl_core.specs.Phases.{is_round, is_queued, has_hand, knows}
+use Rattle.shfl_core.specs.Phases.{is_round, is_queued, knows}
 use Rattle.shfl_core.specs.View.{View}
 use Rattle.shfl_core.specs.Order.{Order as Ordered, Round}
 use Rattle.shfl_core.specs.Grouping.{Grouping}
-use Rattle.shfl_laws.proofs.Order
 use Rattle.shfl_laws.proofs.Quiet.{Quiet, moved, quiet-order}
 use Rattle.shfl_laws.proofs.MarkOrder.{order-remark}
 use Rattle.shfl_laws.proofs.BeginRow.{Start, no-hand, not-round, no-flag, in-line, hand-empty, begun-prefix, begun-last}

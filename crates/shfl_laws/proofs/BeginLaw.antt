@@ -1,5 +1,5 @@
 -- The law of a round's beginning.
-use Rattle.std.proofs.Common.{◌≡◌, ◌≢◌, ℕ, zero, suc, ◌+◌, ◌*◌, ◌<◌, ◌≤◌, ◌==◌, Bool, true, false, cond, List, length, set, refl, sym, ap, ◌∙◌, inl, subst, arith}
+use Rattle.std.proofs.Common.{◌≡◌, ◌≢◌, ℕ, zero, suc, ◌+◌, ◌<◌, ◌≤◌, ◌==◌, Bool, true, false, cond, List, length, set, refl, sym, ap, ◌∙◌, inl, subst, arith}
 use Rattle.std.specs.Prelude.{bit_xor, nat_lt, max, slice_set, slice_index}
 use Rattle.std.proofs.lemmas.Bool.Decides.{nat_tests}
 use Rattle.shfl_line.specs.declared.events.Role.{Role}
@@ -7,27 +7,26 @@ use Rattle.shfl_line.specs.declared.events.Role.TheVariants.{Nobody, Walk}
 use Rattle.shfl_line.specs.declared.events.LineEvent.{LineEvent}
 use Rattle.shfl_line.specs.declared.events.LineEvent.TheVariants.{Begin as BeginEvent, Rest}
 use Rattle.shfl_line.specs.declared.words.NodeState.{NodeState}
-use Rattle.shfl_line.specs.Line.{Line, mark_of, holds, idle_shuffler}
+use Rattle.shfl_line.specs.Line.{Line, mark_of, idle_shuffler}
 use Rattle.shfl_line.specs.Steps.{Admits, after, NamesBelow, MayBegin, begun_mark}
 use Rattle.shfl_line.specs.Words.{link_word, state_of}
 use Rattle.shfl_line.specs.Passes.{updated, times}
 use Rattle.shfl_line.proofs.Chain
 use Rattle.shfl_line.proofs.Batches.{mark-set}
 use Rattle.shfl_core.specs.declared.phase.Phase.{Phase}
-use Rattle.shfl_core.specs.declared.phase.Phase.TheVariants.{Begin, Next, Give, Idle}
+use Rattle.shfl_core.specs.declared.phase.Phase.TheVariants.{Begin, Next, Give}
 use Rattle.shfl_core.specs.declared.phase.Registers.{Registers as Regs}
 use Rattle.shfl_core.specs.declared.phase.Nap.TheVariants.{Awake}
 use Rattle.shfl_core.specs.declared.phase.PassState.{PassState}
 use Rattle.shfl_core.specs.declared.words.Word.TheVariants.{State as StateOf}
 use Rattle.shfl_core.specs.Words.{look, index}
 use Rattle.shfl_core.specs.Plan.{parks, round_batch}
-use Rattle.shfl_core.specs.Take.{to, done, seek}
+use Rattle.shfl_core.specs.Take.{to, done}
 use Rattle.shfl_core.specs.Worlds.{World, known}
-use Rattle.shfl_core.specs.Phases.{is_round, is_queued, is_fore, is_holding, is_linking, knows, decide_to_pick, is_writing, is_reading}
-use Rattle.shfl_core.specs.View.{View, view}
+use Rattle.shfl_core.specs.Phases.{is_round, is_queued, is_fore, is_holding, knows, decide_to_pick}
+use Rattle.shfl_core.specs.View.{view}
 use Rattle.shfl_core.specs.Order.{Round}
-use Rattle.shfl_core.specs.Holding.{Holding, backs}
-use Rattle.shfl_core.specs.Owed.{Owed}
+use Rattle.shfl_core.specs.Holding.{backs}
 use Rattle.shfl_core.specs.Order.{Order as Ordered}
 use Rattle.shfl_core.specs.Grouping.{Grouping}
 use Rattle.shfl_core.specs.Lawful.{Terms, count, Agrees, Lawful, Advances, LawOf}
@@ -39,7 +38,7 @@ use Rattle.shfl_laws.proofs.BeginBits.{xor-begin}
 use Rattle.shfl_laws.proofs.BeginRow.{Start, Flagged, Fresh, start, begins-from, hand-empty, in-line}
 use Rattle.shfl_laws.proofs.BeginGroup.{begin-order, walk-grouping, full-grouping}
 use Rattle.shfl_laws.proofs.RoundLoads.{in-round}
-use Rattle.shfl_laws.proofs.GiveRow.{Ended, ended}
+use Rattle.shfl_laws.proofs.GiveRow.{ended}
 use Rattle.shfl_laws.proofs.Counts.{not-holding}
 use Rattle.shfl_laws.proofs.Advance.{at-phase, advance-state, below-count}
 use Rattle.shfl_laws.proofs.Frame.{written_state}
@@ -114,11 +113,11 @@ module _ (t : Terms) (w : World) (p : ℕ) (ok : Lawful t w) (below : p < length
             (λ i h x. told i (sym (queued-same i) ∙ h) x)
             (λ y i h r x. grouped y i (sym (queued-same i) ∙ h) (sym (fore-same i) ∙ r) x)
             (owed-awake t.rules.form (view w) (record (view w) { pass = updated (view w).pass p v }) p v refl refl refl nap a.owed (record {
-          awake = awake;
-          told = λ i. a.owed.told p (sym quiet.queued ∙ i);
-          grouped = λ x i r. a.owed.grouped x p (sym quiet.queued ∙ i) (sym quiet.fore ∙ r);
-          fresh = λ h. absurd (quiet.no_swap h);
-        }));
+              awake = awake;
+              told = λ i. a.owed.told p (sym quiet.queued ∙ i);
+              grouped = λ x i r. a.owed.grouped x p (sym quiet.queued ∙ i) (sym quiet.fore ∙ r);
+              fresh = λ h. absurd (quiet.no_swap h);
+            }));
       })))
     where
       queued-same : (i : ℕ) → is_queued (updated (view w).pass p v i) ≡ is_queued ((view w).pass i)

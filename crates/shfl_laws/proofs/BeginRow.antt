@@ -1,28 +1,19 @@
 -- A round begins, or the batch has reached the limit: the order and the batch.
-use Rattle.std.proofs.Common.{◌≡◌, ◌≢◌, ℕ, zero, suc, ◌+◌, ◌-◌, ◌*◌, ◌<◌, ◌≤◌, ◌⊎◌, ◌==◌, Bool, true, false, cond, List, [], ◌∷◌, length, refl, sym, ap, ◌∙◌, inl, inr, ⊎_elim, subst, arith}
-use Rattle.std.specs.Prelude.{Option, Some, None, ◌||◌, nat_lt, max, slice_index, slice_set}
+use Rattle.std.proofs.Common.{◌≡◌, ◌≢◌, ℕ, zero, suc, ◌<◌, ◌≤◌, ◌⊎◌, Bool, true, false, cond, List, [], ◌∷◌, refl, sym, ap, ◌∙◌, inl, inr, subst, arith}
+use Rattle.std.specs.Prelude.{Option, Some, None}
 use Rattle.std.proofs.lemmas.Bool.Decides.{nat_tests}
 use Rattle.shfl_line.specs.declared.events.Role.{Role}
 use Rattle.shfl_line.specs.declared.events.Role.TheVariants.{Nobody, Rest, Walk}
-use Rattle.shfl_line.specs.declared.words.NodeState.{NodeState}
 use Rattle.shfl_line.specs.Line.{Line, mark_of, active_shuffler, idle_shuffler}
-use Rattle.shfl_line.specs.Steps.{MayBegin, begun_mark}
 use Rattle.shfl_line.specs.Words.{link_word}
-use Rattle.shfl_line.specs.Passes.{updated, times, first, Chain, EachPair, MarkedFirst, StopsAt, IsLastMarked, follower_after}
+use Rattle.shfl_line.specs.Passes.{times, first, Chain, EachPair, MarkedFirst, StopsAt, IsLastMarked, follower_after}
 use Rattle.shfl_line.proofs.Chain
 use Rattle.shfl_line.proofs.Marks
-use Rattle.shfl_core.specs.declared.phase.Phase.{Phase}
-use Rattle.shfl_core.specs.declared.phase.Phase.TheVariants.{Begin, Next, Give, Swap, Ready, Mark}
-use Rattle.shfl_core.specs.declared.phase.Registers.{Registers as Regs}
-use Rattle.shfl_core.specs.declared.phase.Nap.TheVariants.{Awake}
-use Rattle.shfl_core.specs.declared.phase.PassState.{PassState}
-use Rattle.shfl_core.specs.Phases.{is_round, is_queued, is_fore, is_linking, has_hand, knows}
+use Rattle.shfl_core.specs.declared.phase.Phase.TheVariants.{Begin}
+use Rattle.shfl_core.specs.Phases.{is_round, is_queued, knows}
 use Rattle.shfl_core.specs.View.{View}
-use Rattle.shfl_core.specs.Order.{Order as Ordered, Round}
+use Rattle.shfl_core.specs.Order.{Order as Ordered}
 use Rattle.shfl_core.specs.Grouping.{Grouping}
-use Rattle.shfl_laws.proofs.Order
-use Rattle.shfl_laws.proofs.Quiet.{Quiet, moved, quiet-order}
-use Rattle.shfl_laws.proofs.MarkOrder.{order-remark}
 
 abbrev nothing : Bool → ℕ
 nothing b = cond b 0 0

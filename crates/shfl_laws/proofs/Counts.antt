@@ -1,12 +1,12 @@
 -- How many hold, and who is away.
-use Rattle.std.proofs.Common.{◌≡◌, ◌≢◌, ℕ, zero, suc, ◌+◌, ◌-◌, ◌^◌, ◌<◌, ◌≤◌, List, [], ◌∷◌, Bool, true, false, cond, ◌==◌, length, refl, sym, ap, ◌∙◌, subst, arith}
+use Rattle.std.proofs.Common.{◌≡◌, ℕ, zero, suc, ◌+◌, ◌^◌, ◌<◌, ◌≤◌, List, [], ◌∷◌, Bool, true, false, cond, ◌==◌, ◌∙◌, arith}
 use Rattle.std.specs.Prelude.{◌&&◌, not}
 use Rattle.std.proofs.lemmas.Bool.Decides.{nat_tests}
 use Rattle.shfl_line.specs.declared.events.Mode.{Mode}
 use Rattle.shfl_line.specs.Line.{Line, is_write, holds, writer_count, reader_count}
 use Rattle.shfl_line.specs.Steps.{IsAway}
-use Rattle.shfl_line.specs.Words.{link_word, held_of, readers_of}
-use Rattle.shfl_line.specs.Passes.{updated, times}
+use Rattle.shfl_line.specs.Words.{readers_of}
+use Rattle.shfl_line.specs.Passes.{updated}
 use Rattle.shfl_line.proofs.Holders.{holder_count, rises-length}
 use Rattle.shfl_core.specs.declared.phase.PassState.{PassState}
 use Rattle.shfl_core.specs.declared.words.Word.TheVariants.{Lock}

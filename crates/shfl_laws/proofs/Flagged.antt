@@ -1,9 +1,8 @@
 -- Parking, where of the state words only shuffler flags change.
-use Rattle.std.proofs.Common.{◌≡◌, ◌≢◌, ℕ, ◌<◌, Bool, true, false, refl, sym, ap, ◌∙◌, subst}
+use Rattle.std.proofs.Common.{◌≡◌, ℕ, ◌<◌, sym, ◌∙◌, subst}
 use Rattle.std.specs.Prelude.{◌||◌}
 use Rattle.shfl_line.specs.declared.events.Form.{Form}
 use Rattle.shfl_line.specs.declared.words.NodeState.{NodeState}
-use Rattle.shfl_core.specs.Plan.{parks}
 use Rattle.shfl_core.specs.View.{View}
 use Rattle.shfl_core.specs.Owed.{Owed, IsCalledSleeper, called}
 

@@ -1,31 +1,17 @@
 -- From words and passes in lists to the world as it is read, and back.
-use Rattle.std.proofs.Common.{◌≡◌, ◌≢◌, ℕ, zero, suc, ◌+◌, ◌*◌, ◌<◌, ◌≤◌, ◌⊎◌, Bool, true, false, cond, List, length, get_or, set, length-set, get_or-set_same, get_or-set_other, refl, sym, ap, ◌∙◌, subst, ⊎_elim, arith}
-use mathlib.Core.Option.{some}
-use lib.ListN.{get_elem?}
-use Rattle.shfl_line.specs.declared.events.LineEvent.{LineEvent}
-use Rattle.shfl_line.specs.Line.{Line, IsOfPasses}
-use Rattle.shfl_line.specs.Steps.{Admits, after, NamesBelow}
+use Rattle.std.proofs.Common.{◌≡◌, ◌≢◌, ℕ, ◌<◌, List, length, set, get_or-set_same, get_or-set_other, sym, ap, ◌∙◌, subst, arith}
 use Rattle.shfl_line.specs.Passes.{updated}
-use Rattle.shfl_line.specs.Words.{held_of, closed_of, readers_of, state_of, IsLockWord, IsStateWord}
+use Rattle.shfl_line.specs.Words.{held_of, closed_of, readers_of, state_of}
 use Rattle.shfl_line.proofs.Chain
-use Rattle.shfl_line.proofs.EachStep.{of_passes_after}
-use Rattle.shfl_core.specs.declared.phase.Phase.{Phase}
-use Rattle.shfl_core.specs.declared.phase.Nap.{Nap}
-use Rattle.shfl_core.specs.declared.phase.Nap.TheVariants.{Awake}
 use Rattle.shfl_core.specs.declared.phase.PassState.{PassState}
-use Rattle.shfl_core.specs.declared.phase.Rules.{Rules}
 use Rattle.shfl_core.specs.declared.words.Word.{Word}
 use Rattle.shfl_core.specs.declared.words.Word.TheVariants.{Lock, Tail, Next, State, Attr, Bell}
-use Rattle.shfl_core.specs.declared.words.Access.{Access}
-use Rattle.shfl_core.specs.Words.{look, wide, index, site, put}
-use Rattle.shfl_core.specs.Plan.{plan, plan_at, plan_by}
-use Rattle.shfl_core.specs.Take.{take, take_at, take_by}
+use Rattle.shfl_core.specs.Words.{look, index}
 use Rattle.shfl_core.specs.Waiting.{idle}
-use Rattle.shfl_core.specs.Worlds.{World, known, stepped, after_access}
+use Rattle.shfl_core.specs.Worlds.{World, known}
 use Rattle.shfl_core.specs.View.{View, view}
-use Rattle.shfl_core.specs.Events.{event, event_at}
-use Rattle.shfl_core.specs.Lawful.{Terms, count, Formed, Agrees, Lawful, Advances, LawOf, NapLawOf}
-use Rattle.shfl_core.proofs.Lists.{seen-at, at-read, at-set, set-read}
+use Rattle.shfl_core.specs.Lawful.{Formed}
+use Rattle.shfl_core.proofs.Lists.{set-read}
 use Rattle.shfl_core.proofs.Standing.{apart}
 
 pub known-set : (l : List PassState) (i : ℕ) (v : PassState) → i < length l → (q : ℕ) → known (set l i v) q ≡ updated (known l) i v q

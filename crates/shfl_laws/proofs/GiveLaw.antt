@@ -1,12 +1,12 @@
 -- The law of handing the flag on.
-use Rattle.std.proofs.Common.{◌≡◌, ◌≢◌, ℕ, suc, ◌+◌, ◌-◌, ◌<◌, ◌≤◌, ◌==◌, Bool, true, false, cond, length, set, refl, sym, ap, ◌∙◌, subst, arith}
+use Rattle.std.proofs.Common.{◌≡◌, ℕ, suc, ◌-◌, ◌<◌, ◌==◌, true, cond, length, set, refl, sym, ap, ◌∙◌, subst, arith}
 use Rattle.std.specs.Prelude.{◌||◌, bit_or}
 use Rattle.shfl_line.specs.declared.events.Role.TheVariants.{Rest}
 use Rattle.shfl_line.specs.declared.events.LineEvent.TheVariants.{Give as GiveEvent}
 use Rattle.shfl_line.specs.declared.words.NodeState.{NodeState}
 use Rattle.shfl_line.specs.Line.{Line, mark_of}
-use Rattle.shfl_line.specs.Steps.{batch_end, IsInRound}
-use Rattle.shfl_line.specs.Words.{link_word, state_of}
+use Rattle.shfl_line.specs.Steps.{batch_end}
+use Rattle.shfl_line.specs.Words.{state_of}
 use Rattle.shfl_line.specs.Passes.{updated, last_marked}
 use Rattle.shfl_core.specs.declared.phase.Phase.TheVariants.{Give}
 use Rattle.shfl_core.specs.declared.phase.Nap.TheVariants.{Awake}
@@ -16,13 +16,12 @@ use Rattle.shfl_core.specs.Words.{look, index}
 use Rattle.shfl_core.specs.Take.{given}
 use Rattle.shfl_core.specs.Worlds.{World, known}
 use Rattle.shfl_core.specs.Phases.{is_round, is_holding, has_hand}
-use Rattle.shfl_core.specs.View.{View, view}
-use Rattle.shfl_core.specs.Holding.{Holding, backs}
+use Rattle.shfl_core.specs.View.{view}
+use Rattle.shfl_core.specs.Holding.{backs}
 use Rattle.shfl_core.specs.Lawful.{Terms, count, Agrees, Lawful, Advances, LawOf}
-use Rattle.shfl_laws.proofs.Quiet.{moved}
 use Rattle.shfl_laws.proofs.NextRows.{batch-last}
-use Rattle.shfl_laws.proofs.Registered.{Registers, registered-set}
-use Rattle.shfl_laws.proofs.OwedFrames.{Awoken, owed-awake}
+use Rattle.shfl_laws.proofs.Registered.{registered-set}
+use Rattle.shfl_laws.proofs.OwedFrames.{owed-awake}
 use Rattle.shfl_laws.proofs.Flagged.{owed-flags}
 use Rattle.shfl_laws.proofs.Advance.{at-phase, advance-state, below-count}
 use Rattle.shfl_laws.proofs.Frame.{written_state}
@@ -45,7 +44,6 @@ module _ (t : Terms) (w : World) (p : ℕ) (ok : Lawful t w) (below : p < length
 
   own : Ended q here
   own = ended q (record q.reg { flag = q.reg.flag || (q.reg.last == p) }) refl
-
 
   agrees : (m : ℕ) → state_of m ≡ record ((view w).node q.reg.last) { shuffler = true } → Agrees t (written_state (view w) q.reg.last m p here) s' ok.giver
   agrees m e = subst (λ (z : NodeState). Agrees t (record (view w) { node = updated (view w).node q.reg.last z; pass = updated (view w).pass p here }) s' ok.giver) (sym e) (let a = ok.agrees in record {

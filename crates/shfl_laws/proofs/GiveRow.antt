@@ -1,47 +1,31 @@
 -- The step that hands the shuffler flag to the batch's last.
-use Rattle.std.proofs.Common.{◌≡◌, ◌≢◌, ℕ, zero, suc, ◌+◌, ◌-◌, ◌*◌, ◌<◌, ◌≤◌, ◌⊎◌, ◌==◌, Bool, true, false, cond, List, [], ◌∷◌, length, set, refl, sym, ap, ◌∙◌, subst, ⊎_elim, inl, inr, arith}
-use Rattle.std.specs.Prelude.{Option, Some, None, ◌||◌, bit_or}
+use Rattle.std.proofs.Common.{◌≡◌, ◌≢◌, ℕ, suc, ◌<◌, ◌==◌, Bool, true, false, cond, List, ◌∷◌, refl, sym, ap, ◌∙◌, subst, ⊎_elim, arith}
+use Rattle.std.specs.Prelude.{Option, Some, None, ◌||◌}
 use Rattle.std.proofs.lemmas.Bool.Decides.{nat_tests}
 use Rattle.shfl_line.specs.declared.events.Mode.{Mode}
 use Rattle.shfl_line.specs.declared.events.Mode.TheVariants.{Write, Read}
-use Rattle.shfl_line.specs.declared.events.Role.{Role}
 use Rattle.shfl_line.specs.declared.events.Role.TheVariants.{Rest}
-use Rattle.shfl_line.specs.declared.events.LineEvent.TheVariants.{Give as GiveEvent}
 use Rattle.shfl_line.specs.declared.words.NodeState.{NodeState}
-use Rattle.shfl_line.specs.Line.{Line, mark_of, active_shuffler, idle_shuffler}
-use Rattle.shfl_line.specs.Steps.{Admits, after, batch_end, IsInRound}
-use Rattle.shfl_line.specs.Words.{link_word, state_of}
-use Rattle.shfl_line.specs.Passes.{updated, times, first, Chain, EachPair, MarkedFirst, StopsAt, IsLastMarked, last_marked}
+use Rattle.shfl_line.specs.Line.{Line, mark_of, active_shuffler}
+use Rattle.shfl_line.specs.Words.{link_word}
+use Rattle.shfl_line.specs.Passes.{updated, times, first, Chain, EachPair, MarkedFirst, StopsAt, IsLastMarked}
 use Rattle.shfl_line.proofs.Chain
 use Rattle.shfl_line.proofs.Marks
-use Rattle.shfl_core.specs.declared.phase.Phase.{Phase}
-use Rattle.shfl_core.specs.declared.phase.Phase.TheVariants.{Idle, Look, Begin, Give, Peek, HeadCount, Swap, Ready, Late, WriteGrab, Grab}
+use Rattle.shfl_core.specs.declared.phase.Phase.TheVariants.{Look, Begin, Give, Swap, Ready, Late, WriteGrab, Grab}
 use Rattle.shfl_core.specs.declared.phase.Registers.{Registers as Regs}
 use Rattle.shfl_core.specs.declared.phase.Nap.TheVariants.{Awake}
 use Rattle.shfl_core.specs.declared.phase.PassState.{PassState}
-use Rattle.shfl_core.specs.declared.words.Word.TheVariants.{State as StateOf}
-use Rattle.shfl_core.specs.Words.{look, index}
 use Rattle.shfl_core.specs.Take.{to, given, done, seek}
-use Rattle.shfl_core.specs.Plan.{shares}
-use Rattle.shfl_core.specs.Worlds.{World, known}
-use Rattle.shfl_core.specs.Phases.{is_round, is_queued, is_fore, is_linking, has_hand, knows, knows_rank, rank, is_holding, is_backing, is_writing, is_reading, decide_to_pick}
-use Rattle.shfl_core.specs.View.{View, view}
+use Rattle.shfl_core.specs.Phases.{is_round, is_queued, is_fore, is_linking, has_hand, knows, is_holding, is_writing, is_reading, decide_to_pick}
+use Rattle.shfl_core.specs.View.{View}
 use Rattle.shfl_core.specs.Order.{Order as Ordered}
 use Rattle.shfl_core.specs.Grouping.{Grouping}
-use Rattle.shfl_core.specs.Holding.{Holding, backs}
-use Rattle.shfl_core.specs.Lawful.{Terms, count, Agrees, Lawful, Advances, LawOf}
+use Rattle.shfl_core.specs.Holding.{backs}
 use Rattle.shfl_laws.proofs.Order
 use Rattle.shfl_laws.proofs.Quiet.{Quiet, moved, quiet-order}
 use Rattle.shfl_laws.proofs.Relink.{walk-no-rest}
 use Rattle.shfl_laws.proofs.MarkRow.{knows-cases}
-use Rattle.shfl_laws.proofs.NextRows.{batch-last}
-use Rattle.shfl_laws.proofs.Registered.{Registers, registered-set}
-use Rattle.shfl_laws.proofs.OwedFrames.{Awoken, owed-awake}
-use Rattle.shfl_laws.proofs.Flagged.{FlagOnly, owed-flags}
-use Rattle.shfl_laws.proofs.Advance.{at-phase, advance-state, below-count}
-use Rattle.shfl_laws.proofs.Frame.{written_state}
-use Rattle.shfl_laws.proofs.Holding.{stay}
-use Rattle.shfl_laws.proofs.StateBits.{or-shuffler}
+use Rattle.shfl_laws.proofs.Flagged.{FlagOnly}
 
 -- the pass after its round: at the queue's head it looks for the free lock, else it waits
 pub record Ended (q v : PassState) : Type 0 where

@@ -1,5 +1,5 @@
 -- The laws of the queue head's steps on the lock word.
-use Rattle.std.proofs.Common.{◌≡◌, ◌≢◌, ℕ, zero, suc, ◌+◌, ◌-◌, ◌*◌, ◌%◌, ◌^◌, ◌<◌, ◌≤◌, ◌==◌, Bool, true, false, cond, List, length, set, refl, sym, ap, ◌∙◌, subst, arith}
+use Rattle.std.proofs.Common.{◌≡◌, ◌≢◌, ℕ, ◌+◌, ◌%◌, ◌^◌, ◌<◌, ◌==◌, Bool, true, false, cond, length, set, refl, sym, ap, ◌∙◌, subst, arith}
 use Rattle.std.specs.Prelude.{bit_or, ◌||◌, ◌&&◌, not}
 use Rattle.std.proofs.lemmas.Bool.Decides.{nat_tests}
 use prog.Atomic.{either}
@@ -22,15 +22,15 @@ use Rattle.shfl_core.specs.Take.{to, top, seek}
 use Rattle.shfl_core.specs.Plan.{shares}
 use Rattle.shfl_core.specs.Worlds.{World, known}
 use Rattle.shfl_core.specs.Phases.{is_holding, is_writing, is_reading}
-use Rattle.shfl_core.specs.Holding.{Holding, backs, read_of}
+use Rattle.shfl_core.specs.Holding.{Holding, backs}
 use Rattle.shfl_core.specs.Lawful.{Terms, count, Lawful, Advances, LawOf}
 use Rattle.shfl_laws.proofs.Advance.{at-phase, below-count}
 use Rattle.shfl_laws.proofs.LockBits.{Says, says, word-is, lock-or-held, lock-or-closed, lock-add}
-use Rattle.shfl_laws.proofs.HeadRows.{heads, ahead, Going, Modes, going-to, going-top, modes-top, no-readers, head-lock, head-load, stays, gains, admits-grab, writes, free-hold}
+use Rattle.shfl_laws.proofs.HeadRows.{heads, ahead, Going, Modes, going-to, going-top, modes-top, no-readers, head-lock, head-load, stays, gains, admits-grab}
 use Rattle.shfl_laws.proofs.Counts.{few-readers}
 
 -- who goes on by Top neither holds nor is counted besides
-top-out : (r : Regs) → is_holding (top r).phase ≡ false
+pub top-out : (r : Regs) → is_holding (top r).phase ≡ false
 top-out r = by ((r.batch == 0) || r.flag) r.mode
   where
     by : (b : Bool) (m : Mode) → is_holding (cond b (to Begin (record r { headed = true })) (to (seek m) r)).phase ≡ false
@@ -38,7 +38,7 @@ top-out r = by ((r.batch == 0) || r.flag) r.mode
     by false Write = refl
     by false Read = refl
 
-top-none : (r : Regs) → backs (top r) ≡ 0
+pub top-none : (r : Regs) → backs (top r) ≡ 0
 top-none r = by ((r.batch == 0) || r.flag) r.mode
   where
     by : (b : Bool) (m : Mode) → backs (cond b (to Begin (record r { headed = true })) (to (seek m) r)) ≡ 0

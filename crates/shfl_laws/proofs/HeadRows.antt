@@ -1,40 +1,36 @@
 -- The steps of the queue head that read or write the lock word.
-use Rattle.std.proofs.Common.{◌≡◌, ◌≢◌, ℕ, zero, suc, ◌+◌, ◌-◌, ◌*◌, ◌%◌, ◌^◌, ◌<◌, ◌≤◌, ◌==◌, Bool, true, false, cond, List, [], ◌∷◌, length, set, refl, sym, ap, ◌∙◌, subst, arith}
-use Rattle.std.specs.Prelude.{bit_or, ◌||◌, ◌&&◌, not}
+use Rattle.std.proofs.Common.{◌≡◌, ◌≢◌, ℕ, suc, ◌+◌, ◌<◌, ◌==◌, Bool, true, false, cond, List, [], ◌∷◌, length, set, refl, sym, ◌∙◌, subst, arith}
+use Rattle.std.specs.Prelude.{◌||◌}
 use Rattle.std.proofs.lemmas.Bool.Decides.{nat_tests}
-use prog.Atomic.{either}
 use Rattle.shfl_line.specs.declared.events.Form.{Form}
 use Rattle.shfl_line.specs.declared.events.Mode.{Mode}
 use Rattle.shfl_line.specs.declared.events.Mode.TheVariants.{Write, Read}
 use Rattle.shfl_line.specs.declared.events.LineEvent.{LineEvent}
-use Rattle.shfl_line.specs.declared.events.LineEvent.TheVariants.{Grab as GrabEvent, Nothing}
-use Rattle.shfl_line.specs.Line.{Line, is_write, writer_count, reader_count, holds, active_shuffler}
+use Rattle.shfl_line.specs.declared.events.LineEvent.TheVariants.{Grab as GrabEvent}
+use Rattle.shfl_line.specs.Line.{Line, is_write, reader_count, holds, active_shuffler}
 use Rattle.shfl_line.specs.Steps.{Admits, after, add_holder, IsFreeFor, NamesBelow}
-use Rattle.shfl_line.specs.Words.{held_of, closed_of, readers_of, packed_lock, IsLockWord}
-use Rattle.shfl_line.specs.Passes.{updated, times, first}
+use Rattle.shfl_line.specs.Words.{held_of, closed_of, readers_of, IsLockWord}
+use Rattle.shfl_line.specs.Passes.{updated, first}
 use Rattle.shfl_core.specs.declared.phase.Phase.{Phase}
 use Rattle.shfl_core.specs.declared.phase.Phase.TheVariants.{Idle, Close, Begin, Peek, Grab, WriteGrab, HeadCount, HeadLook, Take, Swap, Ready, Late}
 use Rattle.shfl_core.specs.declared.phase.Registers.{Registers as Regs}
 use Rattle.shfl_core.specs.declared.phase.Nap.TheVariants.{Awake}
 use Rattle.shfl_core.specs.declared.phase.PassState.{PassState}
 use Rattle.shfl_core.specs.declared.words.Word.TheVariants.{Lock}
-use Rattle.shfl_core.specs.Words.{look, index, wide, free_for}
-use Rattle.shfl_core.specs.Take.{to, top, seek, peeked}
+use Rattle.shfl_core.specs.Words.{look, index, wide}
+use Rattle.shfl_core.specs.Take.{to, top, seek}
 use Rattle.shfl_core.specs.Plan.{shares}
 use Rattle.shfl_core.specs.Worlds.{World, known}
-use Rattle.shfl_core.specs.Phases.{is_round, is_queued, is_fore, is_linking, knows, is_holding, is_backing, is_writing, is_reading, decide_to_pick}
+use Rattle.shfl_core.specs.Phases.{is_round, is_queued, is_fore, is_linking, knows, is_holding, is_writing, is_reading, decide_to_pick}
 use Rattle.shfl_core.specs.View.{View, view}
-use Rattle.shfl_core.specs.Holding.{Holding, backs, Registered, read_of}
+use Rattle.shfl_core.specs.Holding.{Holding, backs, read_of}
 use Rattle.shfl_core.specs.Grouping.{Grouping}
-use Rattle.shfl_core.specs.Lawful.{Terms, count, Agrees, Lawful, Advances, LawOf}
-use Rattle.shfl_laws.proofs.Quiet.{Quiet, moved}
-use Rattle.shfl_laws.proofs.Registered.{Registers}
+use Rattle.shfl_core.specs.Lawful.{Terms, count, Agrees, Lawful, Advances}
 use Rattle.shfl_laws.proofs.QuietAgrees.{GoesOn, quiet-agrees}
-use Rattle.shfl_laws.proofs.Advance.{at-phase, advance-lock, advance-load, below-count}
+use Rattle.shfl_laws.proofs.Advance.{advance-lock, advance-load, below-count}
 use Rattle.shfl_laws.proofs.Frame.{written_lock, passed}
-use Rattle.shfl_laws.proofs.LockBits.{Says, says, word-is, lock-or-held, lock-or-closed, lock-add}
 use Rattle.shfl_laws.proofs.Holding.{stay, gain}
-use Rattle.shfl_laws.proofs.Counts.{not-holding, few-readers}
+use Rattle.shfl_laws.proofs.Counts.{not-holding}
 
 -- a pass at the queue's head outside a round
 pub record Ahead (q : PassState) : Type 0 where

@@ -1,24 +1,19 @@
 -- The front leaves, with an heir.
-use Rattle.std.proofs.Common.{◌≡◌, ◌≢◌, ℕ, zero, suc, ◌+◌, ◌<◌, ◌≤◌, ◌⊎◌, List, [], ◌∷◌, ◌++◌, Bool, true, false, cond, ◌==◌, ◌||◌, refl, sym, ap, ◌∙◌, inl, inr, ⊎_elim, subst, arith}
-use Rattle.std.specs.Prelude.{Option, Some, None}
-use Rattle.std.proofs.lemmas.Bool.Decides.{nat_tests, eqb_tells}
-use Rattle.shfl_line.specs.Line.{Line, mark_of, active_shuffler, idle_shuffler, is_write, writer_count, reader_count}
+use Rattle.std.proofs.Common.{◌≡◌, ◌≢◌, ℕ, suc, ◌+◌, ◌<◌, List, ◌∷◌, true, false, cond, ◌==◌, ◌||◌, refl, sym, ap, ◌∙◌, ⊎_elim, subst, arith}
+use Rattle.std.proofs.lemmas.Bool.Decides.{nat_tests}
+use Rattle.shfl_line.specs.Line.{Line, mark_of}
 use Rattle.shfl_line.specs.Words.{link_word}
-use Rattle.shfl_core.specs.declared.phase.Phase.{Phase}
-use Rattle.shfl_core.specs.declared.phase.Phase.TheVariants.{Swap, Close, Link, Look, Ready, Give, Take, Cut, Late, Open, Held}
-use Rattle.shfl_line.specs.Passes.{updated, times, first, last, Chain, EachPair, end, without, put_after, put_behind, follower_after, follower, last_marked, MarkedFirst, StopsAt, IsLastMarked}
-use Rattle.shfl_line.specs.declared.words.NodeState.{NodeState}
+use Rattle.shfl_core.specs.declared.phase.Phase.TheVariants.{Swap, Ready}
+use Rattle.shfl_line.specs.Passes.{updated, times, first, Chain, EachPair, end, MarkedFirst, StopsAt}
 use Rattle.shfl_core.specs.declared.phase.PassState.{PassState}
 use Rattle.shfl_core.specs.declared.phase.Nap.TheVariants.{Awake}
-use Rattle.shfl_core.specs.Phases.{is_round, is_queued, is_fore, is_linking, has_hand, knows, is_holding, is_backing}
+use Rattle.shfl_core.specs.Phases.{is_round, is_queued, is_fore, is_linking}
 use Rattle.shfl_core.specs.View.{View}
-use Rattle.shfl_core.specs.Order.{Order as Ordered, Round, Follows, Walks, Fronted, Stands, Clean, awake}
+use Rattle.shfl_core.specs.Order.{Order as Ordered, Round, Follows, Fronted}
 use Rattle.shfl_core.specs.Grouping.{Grouping}
-use Rattle.shfl_laws.proofs.Rows.{on, swap_found, row_swap, row_link, row_pick, row_aim, row_place, next_found, row_next, row_tail, row_attr, decided, row_decide, after_found, row_after, take_found, row_take, row_cut, row_ready, row_close, marked, row_mark}
 use Rattle.shfl_line.proofs.Chain
 use Rattle.shfl_laws.proofs.Order
 use Rattle.shfl_line.proofs.Marks
-use Rattle.shfl_laws.proofs.Quiet.{pass-grouping}
 
 abbrev pub heir_pass : PassState → ℕ → PassState
 heir_pass q h = record { phase = Ready; reg = record q.reg { heir = h }; nap = Awake }
@@ -58,7 +53,7 @@ module _ (limit : ℕ) (w : View) (s : Line) (g p h : ℕ) (o : Ordered w s g) (
     }
 
     -- the walking pass, if there is one, stands behind p, and so does all that its registers name
-    walker-behind : (q : ℕ) → q ≢ p → is_round (w.pass q).phase ≡ true → (0 < mark_of s p) × ((w.pass q).reg.last ≢ p)
+    pub walker-behind : (q : ℕ) → q ≢ p → is_round (w.pass q).phase ≡ true → (0 < mark_of s p) × ((w.pass q).reg.last ≢ p)
     walker-behind q n r = let c = subst (λ l. EachPair (MarkedFirst (mark_of s)) l) e k.prefix in let wq = k.walker q (k.walks q r) in
         let q-in : 0 < times q (p ∷ h ∷ ys) = subst (λ l. 0 < times q l) e (let a = o.stands q in let b = k.hand q in let m = wq.1 in let u : is_queued (w.pass q) ≡ true = grind (arith, r) in grind (arith, nat_tests)) in (
           Marks.first-marked (mark_of s) p q (h ∷ ys) c q-in wq.1,
@@ -85,7 +80,7 @@ module _ (limit : ℕ) (w : View) (s : Line) (g p h : ℕ) (o : Ordered w s g) (
           marking = λ a. let u = d.marking a in (Chain.updated-else w.next p (w.pass q).reg.last 0 t.1 ∙ u.0, u.1, λ m. let y = u.2 m in (Chain.updated-else w.next p (w.pass q).reg.cand 0 (off-zero (w.pass q).reg.cand u.1) ∙ y.0, y.1));
         }
 
-    leave-order : Ordered (left w p h) (record s { line = h ∷ ys }) (suc p)
+    pub leave-order : Ordered (left w p h) (record s { line = h ∷ ys }) (suc p)
     leave-order = record {
       walks = (
         Chain.chain-map (Follows w) (Follows (left w p h)) h ys (λ a b m n r. keep a b m (grind (arith, n)) r) v.walks.1,

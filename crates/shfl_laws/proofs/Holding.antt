@@ -1,21 +1,17 @@
 -- Rows on the lock word.
-use Rattle.std.proofs.Common.{◌≡◌, ◌≢◌, ℕ, zero, suc, ◌+◌, ◌-◌, ◌<◌, ◌≤◌, ◌⊎◌, List, [], ◌∷◌, ◌++◌, Bool, true, false, cond, ◌==◌, ◌||◌, ◌&&◌, not, refl, sym, ap, ◌∙◌, inl, inr, ⊎_elim, subst, arith}
-use Rattle.std.specs.Prelude.{nat_lt}
-use Rattle.std.proofs.lemmas.Bool.Decides.{nat_tests, eqb_tells}
+use Rattle.std.proofs.Common.{◌≡◌, ℕ, zero, suc, ◌+◌, ◌-◌, ◌<◌, List, [], ◌∷◌, Bool, true, false, cond, ◌==◌, ◌&&◌, not, refl, sym, ap, ◌∙◌, subst, arith}
+use Rattle.std.proofs.lemmas.Bool.Decides.{nat_tests}
 use Rattle.shfl_line.specs.declared.events.Mode.{Mode}
 use Rattle.shfl_line.specs.declared.events.Mode.TheVariants.{Write, Read}
-use Rattle.shfl_line.specs.Line.{Line, mark_of, active_shuffler, idle_shuffler, is_write, writer_count, reader_count}
-use Rattle.shfl_line.specs.Words.{link_word}
-use Rattle.shfl_line.specs.Passes.{updated, times, first, last, Chain, EachPair, end, without, put_after, put_behind, follower_after, follower, last_marked, MarkedFirst, StopsAt, IsLastMarked}
-use Rattle.shfl_line.specs.Steps.{add_holder, remove_holder}
+use Rattle.shfl_line.specs.Line.{is_write, writer_count, reader_count}
+use Rattle.shfl_line.specs.Passes.{updated}
+use Rattle.shfl_line.specs.Steps.{add_holder}
 use Rattle.shfl_core.specs.declared.phase.Phase.{Phase}
-use Rattle.shfl_core.specs.declared.phase.Phase.TheVariants.{Idle, Steal, Init, Peek, Grab, Take, Held, Release, Count, Uncount, HeadCount, HeadLook, ReadRelease}
-use Rattle.shfl_line.specs.declared.words.NodeState.{NodeState}
+use Rattle.shfl_core.specs.declared.phase.Phase.TheVariants.{Steal, Init, Take, Held, Count, Uncount, HeadLook}
 use Rattle.shfl_core.specs.declared.phase.PassState.{PassState}
-use Rattle.shfl_core.specs.Phases.{is_round, is_queued, is_fore, is_linking, has_hand, knows, is_holding, is_backing}
-use Rattle.shfl_core.specs.View.{View}
+use Rattle.shfl_core.specs.Phases.{is_holding}
 use Rattle.shfl_core.specs.Holding.{total, write_of, read_of, backs, Holding as Holds}
-use Rattle.shfl_laws.proofs.Rows.{on, swap_found, row_swap, row_link, row_pick, row_aim, row_place, next_found, row_next, row_tail, row_attr, decided, row_decide, after_found, row_after, take_found, row_take, row_cut, row_ready, row_close, marked, row_mark}
+use Rattle.shfl_laws.proofs.Rows.{on}
 use Rattle.shfl_line.proofs.Chain
 
 write_of-put : (q p : ℕ) (m : Mode) (l : List (ℕ × Mode)) → write_of q (add_holder p m l) ≡ write_of q l + cond ((p == q) && is_write m) 1 0

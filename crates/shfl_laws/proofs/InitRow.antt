@@ -1,29 +1,25 @@
 -- A pass that is about to join clears its state word.
-use Rattle.std.proofs.Common.{◌≡◌, ◌≢◌, ℕ, zero, suc, ◌+◌, ◌<◌, ◌≤◌, List, [], ◌∷◌, Bool, true, false, cond, ◌==◌, ◌||◌, length, refl, sym, ap, ◌∙◌, subst, arith}
+use Rattle.std.proofs.Common.{◌≡◌, ◌≢◌, ℕ, suc, ◌<◌, List, [], ◌∷◌, true, false, cond, ◌||◌, refl, sym, ap, ◌∙◌, subst, arith}
 use Rattle.std.proofs.lemmas.Bool.Decides.{nat_tests}
 use Rattle.shfl_line.specs.declared.events.Form.{Form}
 use Rattle.shfl_line.specs.declared.events.LineEvent.TheVariants.{Nothing}
 use Rattle.shfl_line.specs.declared.words.NodeState.{NodeState}
-use Rattle.shfl_line.specs.Line.{Line, mark_of, active_shuffler, idle_shuffler}
-use Rattle.shfl_line.specs.Words.{link_word, state_of}
-use Rattle.shfl_line.specs.Passes.{updated, times, first, Chain, IsLastMarked}
+use Rattle.shfl_line.specs.Line.{Line, mark_of, active_shuffler}
+use Rattle.shfl_line.specs.Words.{link_word}
+use Rattle.shfl_line.specs.Passes.{times, first, IsLastMarked}
 use Rattle.shfl_line.proofs.Chain
-use Rattle.shfl_core.specs.declared.phase.Phase.{Phase}
-use Rattle.shfl_core.specs.declared.phase.Phase.TheVariants.{Idle, Init, Swap, Ready, Begin, Give, Late, WriteGrab, Grab}
-use Rattle.shfl_core.specs.declared.phase.Nap.TheVariants.{Awake, Hear, Rouse, Ring}
+use Rattle.shfl_core.specs.declared.phase.Phase.TheVariants.{Init, Swap, Ready, Begin, Give}
+use Rattle.shfl_core.specs.declared.phase.Nap.TheVariants.{Awake, Hear, Rouse}
 use Rattle.shfl_core.specs.declared.phase.PassState.{PassState}
-use Rattle.shfl_core.specs.declared.words.Word.TheVariants.{State}
-use Rattle.shfl_core.specs.Words.{look}
 use Rattle.shfl_core.specs.Take.{to}
-use Rattle.shfl_core.specs.Plan.{parks, shares}
-use Rattle.shfl_core.specs.Worlds.{World, known}
-use Rattle.shfl_core.specs.Phases.{is_round, is_queued, is_fore, is_linking, knows, is_holding}
+use Rattle.shfl_core.specs.Worlds.{known}
+use Rattle.shfl_core.specs.Phases.{is_round, is_queued, is_fore, is_linking, knows}
 use Rattle.shfl_core.specs.View.{View, view}
-use Rattle.shfl_core.specs.Order.{Order as Ordered, Round, Follows, Walks, Fronted, Stands, awake}
+use Rattle.shfl_core.specs.Order.{Order as Ordered, Round, Follows, Walks, awake}
 use Rattle.shfl_core.specs.Grouping.{Grouping}
 use Rattle.shfl_core.specs.Holding.{backs}
 use Rattle.shfl_core.specs.Owed.{Owed, IsCalledSleeper, called, announces, fits}
-use Rattle.shfl_core.specs.Lawful.{Terms, count, Lawful, Agrees, LawOf}
+use Rattle.shfl_core.specs.Lawful.{Terms, count, LawOf}
 use Rattle.shfl_laws.proofs.Advance.{at-phase, advance-state, below-count}
 use Rattle.shfl_laws.proofs.Frame.{written_state}
 use Rattle.shfl_laws.proofs.Holding.{stay}
@@ -103,10 +99,10 @@ module _ (w : View) (s : Line) (g p : ℕ) (o : Ordered w s g) (f : (w.pass p).p
       next = λ e. (o.clean q).next (sym (queued-same q) ∙ e);
       init = Chain.by_eq q p
           (λ i. subst (λ z. (then.pass z).phase ≡ Swap → ((then.node z).batch ≡ 0) × ((then.node z).shuffler ≡ false) × ((then.node z).ready ≡ false) × ((then.pass z).reg.batch ≡ 0) × ((then.pass z).reg.flag ≡ false)) (sym i)
-              (λ _. let m = node-here in let r = Chain.updated-same w.pass p (fresh_pass (w.pass p)) in
-                  (ap (λ (z : NodeState). z.batch) m, ap (λ (z : NodeState). z.shuffler) m, ap (λ (z : NodeState). z.ready) m, ap (λ (z : PassState). z.reg.batch) r, ap (λ (z : PassState). z.reg.flag) r)))
+          (λ _. let m = node-here in let r = Chain.updated-same w.pass p (fresh_pass (w.pass p)) in
+          (ap (λ (z : NodeState). z.batch) m, ap (λ (z : NodeState). z.shuffler) m, ap (λ (z : NodeState). z.ready) m, ap (λ (z : PassState). z.reg.batch) r, ap (λ (z : PassState). z.reg.flag) r)))
           (λ n. subst (λ (z : NodeState × PassState). z.1.phase ≡ Swap → (z.0.batch ≡ 0) × (z.0.shuffler ≡ false) × (z.0.ready ≡ false) × (z.1.reg.batch ≡ 0) × (z.1.reg.flag ≡ false))
-              (λ j. (sym (node-else q n) j, sym (pass-else q n) j)) (o.clean q).init);
+          (λ j. (sym (node-else q n) j, sym (pass-else q n) j)) (o.clean q).init);
     };
     links = λ q e. o.links q (sym (linking-same q) ∙ e);
     round = Chain.updated-all (λ q t. is_round t.phase ≡ true → Round w.next (mark_of s) w.tail s.line (link_word s.hand) t) w.pass p (fresh_pass (w.pass p)) (λ e. absurd (cc)) (λ q n. o.round q);
@@ -117,7 +113,7 @@ module _ (w : View) (s : Line) (g p : ℕ) (o : Ordered w s g) (f : (w.pass p).p
   init-grouping limit k = record {
     mark = λ q. Chain.by_eq q p
         (λ i. subst (λ z. mark_of s z ≡ cond (is_queued (then.pass z)) (then.node z).batch 0) (sym i)
-            (k.mark p ∙ ((λ j. cond (away j) (w.node p).batch 0) ∙ (λ j. cond (sym (queued-same p ∙ away) j) (then.node p).batch 0))))
+        (k.mark p ∙ ((λ j. cond (away j) (w.node p).batch 0) ∙ (λ j. cond (sym (queued-same p ∙ away) j) (then.node p).batch 0))))
         (λ n. subst (λ (z : NodeState × PassState). mark_of s q ≡ cond (is_queued z.1) z.0.batch 0) (λ j. (sym (node-else q n) j, sym (pass-else q n) j)) (k.mark q));
     hand = k.hand;
     within = k.within;
@@ -131,7 +127,7 @@ module _ (w : View) (s : Line) (g p : ℕ) (o : Ordered w s g) (f : (w.pass p).p
     last = Chain.updated-all (λ q t. is_round t.phase ≡ true → IsLastMarked (mark_of s) s.line t.reg.last × (mark_of s t.reg.last ≡ t.reg.count) × (t.phase ≢ Give → t.reg.count < limit)) w.pass p (fresh_pass (w.pass p)) (λ e. absurd (cc)) (λ q n. k.last q);
     known = λ q. Chain.by_eq q p
         (λ i. subst (λ z. knows (then.pass z).phase ≡ true → ((then.pass z).reg.batch ≡ (then.node z).batch) × ((then.pass z).reg.flag ≡ (then.node z).shuffler)) (sym i)
-            (λ e. absurd (let r : knows (then.pass p).phase ≡ false = ap (λ (z : PassState). knows z.phase) (Chain.updated-same w.pass p (fresh_pass (w.pass p))) in cc)))
+        (λ e. absurd (let r : knows (then.pass p).phase ≡ false = ap (λ (z : PassState). knows z.phase) (Chain.updated-same w.pass p (fresh_pass (w.pass p))) in cc)))
         (λ n. subst (λ (z : NodeState × PassState). knows z.1.phase ≡ true → (z.1.reg.batch ≡ z.0.batch) × (z.1.reg.flag ≡ z.0.shuffler)) (λ j. (sym (node-else q n) j, sym (pass-else q n) j)) (k.known q));
     begins = Chain.updated-all (λ q t. t.phase ≡ Begin → t.reg.flag ≡ false → (t.reg.headed ≡ true) × (t.reg.batch ≡ 0)) w.pass p (fresh_pass (w.pass p)) (λ e. absurd (cc)) (λ q n. k.begins q);
   }

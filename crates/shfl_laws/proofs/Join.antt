@@ -1,23 +1,20 @@
 -- A pass joins the line.
-use Rattle.std.proofs.Common.{◌≡◌, ◌≢◌, ℕ, zero, suc, ◌+◌, ◌<◌, ◌≤◌, ◌⊎◌, List, [], ◌∷◌, ◌++◌, Bool, true, false, cond, ◌==◌, ◌||◌, refl, sym, ap, ◌∙◌, inl, inr, ⊎_elim, subst, arith}
-use Rattle.std.specs.Prelude.{Option, Some, None}
-use Rattle.std.proofs.lemmas.Bool.Decides.{nat_tests, eqb_tells}
-use Rattle.shfl_line.specs.Line.{Line, mark_of, active_shuffler, idle_shuffler, is_write, writer_count, reader_count}
+use Rattle.std.proofs.Common.{◌≡◌, ◌≢◌, ℕ, zero, suc, ◌+◌, ◌<◌, List, [], ◌∷◌, ◌++◌, true, false, cond, ◌==◌, ◌||◌, refl, sym, ap, ◌∙◌, subst, arith}
+use Rattle.std.specs.Prelude.{None}
+use Rattle.std.proofs.lemmas.Bool.Decides.{nat_tests}
+use Rattle.shfl_line.specs.Line.{Line, mark_of, active_shuffler}
 use Rattle.shfl_line.specs.Words.{link_word}
-use Rattle.shfl_core.specs.declared.phase.Phase.{Phase}
-use Rattle.shfl_core.specs.declared.phase.Phase.TheVariants.{Swap, Close, Link, Ready, Give}
-use Rattle.shfl_line.specs.Passes.{updated, times, first, last, Chain, EachPair, end, without, put_after, put_behind, follower_after, follower, last_marked, MarkedFirst, StopsAt, IsLastMarked}
-use Rattle.shfl_line.specs.declared.words.NodeState.{NodeState}
+use Rattle.shfl_core.specs.declared.phase.Phase.TheVariants.{Swap, Close, Link, Ready}
+use Rattle.shfl_line.specs.Passes.{updated, times, first, end}
 use Rattle.shfl_core.specs.declared.phase.PassState.{PassState}
 use Rattle.shfl_core.specs.declared.phase.Nap.TheVariants.{Awake}
-use Rattle.shfl_core.specs.Phases.{attr_to_pick, is_round, is_queued, is_fore, is_linking, has_hand, knows, is_holding, is_backing}
+use Rattle.shfl_core.specs.Phases.{attr_to_pick, is_round, is_queued, is_fore, is_linking}
 use Rattle.shfl_core.specs.View.{View}
-use Rattle.shfl_core.specs.Order.{Order as Ordered, Round, Follows, Walks, Fronted, Stands, Clean, awake}
+use Rattle.shfl_core.specs.Order.{Order as Ordered, Round, Follows, Clean, awake}
 use Rattle.shfl_core.specs.Grouping.{Grouping}
-use Rattle.shfl_laws.proofs.Rows.{on, swap_found, row_swap, row_link, row_pick, row_aim, row_place, next_found, row_next, row_tail, row_attr, decided, row_decide, after_found, row_after, take_found, row_take, row_cut, row_ready, row_close, marked, row_mark}
+use Rattle.shfl_laws.proofs.Rows.{on, row_swap}
 use Rattle.shfl_line.proofs.Chain
 use Rattle.shfl_laws.proofs.Order
-use Rattle.shfl_line.proofs.Marks
 
 abbrev pub joined : Line → ℕ → Line
 joined s p = record s { line = s.line ++ p ∷ [] }
@@ -84,7 +81,7 @@ module _ (limit : ℕ) (w : View) (s : Line) (g p : ℕ) (o : Ordered w s g) (k 
     join-links = Chain.updated-all (λ q t. is_linking t.phase ≡ true → 0 < times q (s.line ++ p ∷ [])) w.pass p v (λ e. let t = Chain.times-push p p s.line in grind (arith, nat_tests)) (λ q n e. let t = Chain.times-push q p s.line in let i = o.links q e in omega arith)
 
   -- into the empty line
-  first-order : w.tail ≡ 0 → s.line ≡ [] → Ordered (row_swap w p) (joined s p) g
+  pub first-order : w.tail ≡ 0 → s.line ≡ [] → Ordered (row_swap w p) (joined s p) g
   first-order z e =
       let g0 : g ≡ 0 = no-giver g refl in
       let none : (q : ℕ) → is_queued (w.pass q) ≡ false = λ q. (let a = o.stands q in let t : times q s.line ≡ 0 = ap (times q) e in let h : link_word s.hand ≡ 0 = ap link_word (no-hand limit w s g o k e) in grind (arith, nat_tests)) in rw z (record {
@@ -112,7 +109,7 @@ module _ (limit : ℕ) (w : View) (s : Line) (g p : ℕ) (o : Ordered w s g) (k 
   late b = record { phase = Link; reg = record (w.pass p).reg { before = b }; nap = Awake }
 
   -- behind the line's end
-  behind-order : (b x : ℕ) (xs : List ℕ) → w.tail ≡ suc b → Order.Scene w s x xs → Ordered (row_swap w p) (joined s p) g
+  pub behind-order : (b x : ℕ) (xs : List ℕ) → w.tail ≡ suc b → Order.Scene w s x xs → Ordered (row_swap w p) (joined s p) g
   behind-order b x xs z v =
       let end_b : end x xs ≡ b = (let t = v.tail in omega arith) in
       let calm : ((late b).phase ≢ Ready) × ((late b).phase ≢ Swap) × (is_round (late b).phase ≡ false) = ((λ h. grind arith), (λ h. grind arith), refl) in

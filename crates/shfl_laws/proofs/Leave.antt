@@ -1,22 +1,18 @@
 -- The late link, and the passes that leave.
-use Rattle.std.proofs.Common.{◌≡◌, ◌≢◌, ℕ, zero, suc, ◌+◌, ◌<◌, ◌≤◌, ◌⊎◌, List, [], ◌∷◌, ◌++◌, Bool, true, false, cond, ◌==◌, ◌||◌, refl, sym, ap, ◌∙◌, inl, inr, ⊎_elim, subst, arith}
-use Rattle.std.specs.Prelude.{Option, Some, None}
-use Rattle.std.proofs.lemmas.Bool.Decides.{nat_tests, eqb_tells}
-use Rattle.shfl_line.specs.Line.{Line, mark_of, active_shuffler, idle_shuffler, is_write, writer_count, reader_count}
+use Rattle.std.proofs.Common.{◌≡◌, ◌≢◌, ℕ, zero, suc, ◌+◌, ◌<◌, List, ◌∷◌, true, false, cond, ◌==◌, ◌||◌, refl, sym, ap, ◌∙◌, subst, arith}
+use Rattle.std.proofs.lemmas.Bool.Decides.{nat_tests}
+use Rattle.shfl_line.specs.Line.{Line, mark_of}
 use Rattle.shfl_line.specs.Words.{link_word}
-use Rattle.shfl_core.specs.declared.phase.Phase.{Phase}
-use Rattle.shfl_core.specs.declared.phase.Phase.TheVariants.{Swap, Close, Link, Look, Ready, Give, Take, Cut, Late, Open, Held}
-use Rattle.shfl_line.specs.Passes.{updated, times, first, last, Chain, EachPair, end, without, put_after, put_behind, follower_after, follower, last_marked, MarkedFirst, StopsAt, IsLastMarked}
-use Rattle.shfl_line.specs.declared.words.NodeState.{NodeState}
+use Rattle.shfl_core.specs.declared.phase.Phase.TheVariants.{Swap, Link, Look, Ready}
+use Rattle.shfl_line.specs.Passes.{updated, times, first, end, follower_after}
 use Rattle.shfl_core.specs.declared.phase.PassState.{PassState}
-use Rattle.shfl_core.specs.Phases.{is_round, is_queued, is_fore, is_linking, has_hand, knows, is_holding, is_backing}
+use Rattle.shfl_core.specs.Phases.{is_round, is_queued, is_fore, is_linking}
 use Rattle.shfl_core.specs.View.{View}
-use Rattle.shfl_core.specs.Order.{Order as Ordered, Round, Follows, Walks, Fronted, Stands, Clean, awake}
+use Rattle.shfl_core.specs.Order.{Order as Ordered, Round, Follows}
 use Rattle.shfl_core.specs.Grouping.{Grouping}
-use Rattle.shfl_laws.proofs.Rows.{on, swap_found, row_swap, row_link, row_pick, row_aim, row_place, next_found, row_next, row_tail, row_attr, decided, row_decide, after_found, row_after, take_found, row_take, row_cut, row_ready, row_close, marked, row_mark}
+use Rattle.shfl_laws.proofs.Rows.{on, row_link}
 use Rattle.shfl_line.proofs.Chain
 use Rattle.shfl_laws.proofs.Order
-use Rattle.shfl_line.proofs.Marks
 use Rattle.shfl_laws.proofs.Quiet.{pass-grouping}
 
 module _ (limit : ℕ) (w : View) (s : Line) (g p x : ℕ) (xs : List ℕ) (o : Ordered w s g) (k : Grouping limit w s) (f : (w.pass p).phase ≡ Link) (v : Order.Scene w s x xs) where

@@ -1,16 +1,15 @@
 -- A pass gives its hold back.
-use Rattle.std.proofs.Common.{◌≡◌, ◌≢◌, ℕ, zero, suc, ◌+◌, ◌-◌, ◌<◌, ◌≤◌, List, [], ◌∷◌, Bool, true, false, cond, ◌==◌, refl, sym, ap, ◌∙◌, subst, arith}
+use Rattle.std.proofs.Common.{◌≡◌, ◌≢◌, ℕ, ◌+◌, ◌<◌, List, [], ◌∷◌, Bool, true, false, cond, ◌==◌, refl, sym, ap, ◌∙◌, arith}
 use Rattle.std.specs.Prelude.{◌&&◌, not}
 use Rattle.std.proofs.lemmas.Bool.Decides.{nat_tests}
 use Rattle.shfl_line.specs.declared.events.Mode.{Mode}
-use Rattle.shfl_line.specs.declared.events.Mode.TheVariants.{Write, Read}
 use Rattle.shfl_line.specs.Line.{is_write, holds, writer_count, reader_count}
 use Rattle.shfl_line.specs.Steps.{remove_holder}
 use Rattle.shfl_line.specs.Passes.{updated}
 use Rattle.shfl_line.proofs.Chain
 use Rattle.shfl_core.specs.declared.phase.PassState.{PassState}
-use Rattle.shfl_core.specs.Phases.{is_holding, is_backing}
-use Rattle.shfl_core.specs.Holding.{total, write_of, read_of, backs, Holding as Holds}
+use Rattle.shfl_core.specs.Phases.{is_holding}
+use Rattle.shfl_core.specs.Holding.{write_of, read_of, backs, Holding as Holds}
 use Rattle.shfl_laws.proofs.Holding.{total-updated}
 
 abbrev num : Bool → ℕ

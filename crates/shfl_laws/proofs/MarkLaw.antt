@@ -1,15 +1,15 @@
 -- The law of marking a candidate.
-use Rattle.std.proofs.Common.{◌≡◌, ◌≢◌, ℕ, zero, suc, ◌+◌, ◌-◌, ◌*◌, ◌%◌, ◌<◌, ◌≤◌, ◌==◌, Bool, true, false, cond, List, [], ◌∷◌, length, set, refl, sym, ap, ◌∙◌, subst, arith}
-use Rattle.std.specs.Prelude.{◌||◌, ◌&&◌, not, bit_or, nat_lt, slice_set, slice_index}
+use Rattle.std.proofs.Common.{◌≡◌, ◌≢◌, ℕ, suc, ◌+◌, ◌-◌, ◌*◌, ◌%◌, ◌<◌, ◌==◌, Bool, true, false, cond, ◌∷◌, length, set, refl, sym, ap, ◌∙◌, subst, arith}
+use Rattle.std.specs.Prelude.{◌||◌, ◌&&◌, not, bit_or, nat_lt, slice_set}
 use Rattle.shfl_line.specs.declared.events.LineEvent.TheVariants.{Keep}
 use Rattle.shfl_line.specs.declared.words.NodeState.{NodeState}
 use Rattle.shfl_line.specs.Line.{Line, mark_of}
-use Rattle.shfl_line.specs.Steps.{batch_end, IsInRound}
-use Rattle.shfl_line.specs.Words.{link_word, state_of, ready_of, parked_of, spin_of}
-use Rattle.shfl_line.specs.Passes.{updated, times, last_marked, follower, follower_after}
+use Rattle.shfl_line.specs.Steps.{batch_end}
+use Rattle.shfl_line.specs.Words.{state_of, ready_of, parked_of, spin_of}
+use Rattle.shfl_line.specs.Passes.{updated, times, last_marked, follower}
 use Rattle.shfl_line.proofs.Chain
 use Rattle.shfl_line.proofs.Batches.{mark-set}
-use Rattle.shfl_core.specs.declared.phase.Phase.TheVariants.{Mark, Next, Give, Swap}
+use Rattle.shfl_core.specs.declared.phase.Phase.TheVariants.{Mark, Next, Give}
 use Rattle.shfl_core.specs.declared.phase.Nap.{Nap}
 use Rattle.shfl_core.specs.declared.phase.Nap.TheVariants.{Awake, Ring}
 use Rattle.shfl_core.specs.declared.phase.PassState.{PassState}
@@ -19,19 +19,18 @@ use Rattle.shfl_core.specs.Plan.{parks}
 use Rattle.shfl_core.specs.Take as T
 use Rattle.shfl_core.specs.Take.{sleeps}
 use Rattle.shfl_core.specs.Worlds.{World, known}
-use Rattle.shfl_core.specs.Phases.{is_round, is_queued, is_holding, has_hand, decide_to_pick}
+use Rattle.shfl_core.specs.Phases.{is_round, is_queued, has_hand, decide_to_pick}
 use Rattle.shfl_core.specs.View.{View, view}
-use Rattle.shfl_core.specs.Holding.{Holding, backs}
-use Rattle.shfl_core.specs.Owed.{Owed, called, fits, announces}
+use Rattle.shfl_core.specs.Owed.{fits, announces}
 use Rattle.shfl_core.specs.Lawful.{Terms, count, Agrees, Lawful, Advances, LawOf}
 use Rattle.shfl_laws.proofs.Order
-use Rattle.shfl_laws.proofs.Rows.{marked, row_mark}
+use Rattle.shfl_laws.proofs.Rows.{marked}
 use Rattle.shfl_laws.proofs.MarkRow.{kept, mark-grouping}
 use Rattle.shfl_laws.proofs.MarkOrder.{mark-order, quiet, still-round}
 use Rattle.shfl_laws.proofs.MarkBits.{or-mark}
 use Rattle.shfl_laws.proofs.NextRows.{batch-last}
-use Rattle.shfl_laws.proofs.RoundLoads.{in-round, InRound}
-use Rattle.shfl_laws.proofs.Registered.{Registers, registered-set}
+use Rattle.shfl_laws.proofs.RoundLoads.{in-round}
+use Rattle.shfl_laws.proofs.Registered.{registered-set}
 use Rattle.shfl_laws.proofs.OwedCall.{Calls, asleep, owed-call}
 use Rattle.shfl_laws.proofs.Advance.{at-phase, advance-state, below-count}
 use Rattle.shfl_laws.proofs.Frame.{written_state}
@@ -136,22 +135,22 @@ module _ (t : Terms) (w : World) (p : ℕ) (ok : Lawful t w) (below : p < length
   calls : Calls t.rules.form (view w) p c new v
   calls = let own = in-round v (still-round t.rules.limit (view w) ok.shown ok.giver p ok.agrees.order ok.agrees.grouping f ring (parks t.rules.form) at.inside) in
       let k = quiet t.rules.limit (view w) ok.shown ok.giver p ok.agrees.order ok.agrees.grouping f ring (parks t.rules.form) at.inside in record {
-    awake = nap;
-    other = not-own;
-    parked = refl;
-    keeps = λ e. keeps old.ready old.spin no-spin e;
-    wakes = λ e. wakes (parks t.rules.form) refl e;
-    rings = ap (λ b. cond b (Ring c) Awake) (sleeps-is t n unparked);
-    same = λ e h i. wakes-if old.parked old.ready old.spin e i;
-    places = places (sleeps t.rules n) (nat_lt more t.rules.limit);
-    spinning = λ s. s;
-    told = λ a b. omega arith;
-    grouped = λ s a b d. s;
-    fresh = λ e. absurd (let z = cand-queued in grind (arith, e, z));
-    own_told = λ a. ok.agrees.owed.told p (sym k.queued ∙ a);
-    own_grouped = λ s a b. ok.agrees.owed.grouped s p (sym k.queued ∙ a) (sym k.fore ∙ b);
-    own_fresh = λ e. absurd (own.swap e);
-  }
+        awake = nap;
+        other = not-own;
+        parked = refl;
+        keeps = λ e. keeps old.ready old.spin no-spin e;
+        wakes = λ e. wakes (parks t.rules.form) refl e;
+        rings = ap (λ b. cond b (Ring c) Awake) (sleeps-is t n unparked);
+        same = λ e h i. wakes-if old.parked old.ready old.spin e i;
+        places = places (sleeps t.rules n) (nat_lt more t.rules.limit);
+        spinning = λ s. s;
+        told = λ a b. omega arith;
+        grouped = λ s a b d. s;
+        fresh = λ e. absurd (let z = cand-queued in grind (arith, e, z));
+        own_told = λ a. ok.agrees.owed.told p (sym k.queued ∙ a);
+        own_grouped = λ s a b. ok.agrees.owed.grouped s p (sym k.queued ∙ a) (sym k.fore ∙ b);
+        own_fresh = λ e. absurd (own.swap e);
+      }
     where
       keeps : (r s : Bool) → s ≡ false → (r || s) ≡ true → (r || parks t.rules.form) ≡ true
       keeps true s e h = refl
@@ -187,21 +186,21 @@ module _ (t : Terms) (w : World) (p : ℕ) (ok : Lawful t w) (below : p < length
   agrees : Agrees t w' s' ok.giver
   agrees = let a = ok.agrees in let z = Order.scene (view w) ok.shown ok.giver q.reg.last a.order last-in in
       let own = in-round v (still-round t.rules.limit (view w) ok.shown ok.giver p a.order a.grouping f ring (parks t.rules.form) at.inside) in let was = in-round q rp in record {
-    order = mark-order t.rules.limit (view w) ok.shown ok.giver p a.order a.grouping f ring (parks t.rules.form) at.inside (slice_set ok.shown.mark c more) (λ i d. mark-set ok.shown.mark c more i in-marks ∙ Chain.updated-else (mark_of ok.shown) c i more d);
-    grouping = mark-grouping t.rules.limit (view w) ok.shown ok.giver p z.0 z.1 a.order a.grouping z.2 f in-marks ring (parks t.rules.form);
-    holding = stay (count t) (view w).held (view w).readers (known w.passes) ok.shown.hold a.holding p v (below-count t w ok p below) (view w).readers (own.holding ∙ sym was.holding) refl (let x = was.backing in let y = own.backing in omega arith);
-    registered = registered-set t.rules.form (view w) w' p v refl refl (λ z i h. a.registered.late z h) a.registered (record {
-      writing = λ e. absurd (let z = own.writing in cc);
-      reading = λ e. absurd (let z = own.reading in cc);
-      writers = λ x i. a.registered.writers x p was.idle;
-      no_compare = λ x. own.compare;
-      no_or = λ x. own.grab;
-      saw = λ e. absurd (own.compare e);
-      late = λ e. absurd (own.late e);
-      seen = λ e. absurd (picks (nat_lt more t.rules.limit) e);
-    });
-    owed = owed-call t.rules.form (view w) p c new v a.owed calls;
-  }
+        order = mark-order t.rules.limit (view w) ok.shown ok.giver p a.order a.grouping f ring (parks t.rules.form) at.inside (slice_set ok.shown.mark c more) (λ i d. mark-set ok.shown.mark c more i in-marks ∙ Chain.updated-else (mark_of ok.shown) c i more d);
+        grouping = mark-grouping t.rules.limit (view w) ok.shown ok.giver p z.0 z.1 a.order a.grouping z.2 f in-marks ring (parks t.rules.form);
+        holding = stay (count t) (view w).held (view w).readers (known w.passes) ok.shown.hold a.holding p v (below-count t w ok p below) (view w).readers (own.holding ∙ sym was.holding) refl (let x = was.backing in let y = own.backing in omega arith);
+        registered = registered-set t.rules.form (view w) w' p v refl refl (λ z i h. a.registered.late z h) a.registered (record {
+          writing = λ e. absurd (let z = own.writing in cc);
+          reading = λ e. absurd (let z = own.reading in cc);
+          writers = λ x i. a.registered.writers x p was.idle;
+          no_compare = λ x. own.compare;
+          no_or = λ x. own.grab;
+          saw = λ e. absurd (own.compare e);
+          late = λ e. absurd (own.late e);
+          seen = λ e. absurd (picks (nat_lt more t.rules.limit) e);
+        });
+        owed = owed-call t.rules.form (view w) p c new v a.owed calls;
+      }
     where
       picks : (b : Bool) → decide_to_pick (cond b Next Give) ≡ true → ⊥
       picks true e = cc

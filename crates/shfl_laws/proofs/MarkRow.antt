@@ -1,26 +1,22 @@
 -- The candidate behind the last marked pass is marked.
-use Rattle.std.proofs.Common.{◌≡◌, ◌≢◌, ℕ, zero, suc, ◌+◌, ◌<◌, ◌≤◌, ◌⊎◌, List, [], ◌∷◌, ◌++◌, Bool, true, false, cond, ◌==◌, refl, sym, ap, ◌∙◌, inl, inr, ⊎_elim, subst, arith}
-use Rattle.std.specs.Prelude.{Option, Some, None, nat_lt, slice_index, slice_set}
+use Rattle.std.proofs.Common.{◌≡◌, ◌≢◌, ℕ, suc, ◌+◌, ◌<◌, ◌≤◌, ◌⊎◌, List, ◌∷◌, Bool, true, false, cond, refl, sym, ap, ◌∙◌, ⊎_elim, subst, arith}
+use Rattle.std.specs.Prelude.{nat_lt, slice_index, slice_set}
 use Rattle.std.proofs.Common.{get_or, set, length, get_or-set_same, get_or-set_other}
-use Rattle.shfl_line.specs.declared.events.Role.{Role}
-use Rattle.std.proofs.lemmas.Bool.Decides.{nat_tests, eqb_tells}
-use Rattle.shfl_line.specs.Line.{Line, mark_of, active_shuffler, idle_shuffler, is_write, writer_count, reader_count}
-use Rattle.shfl_line.specs.Words.{link_word}
+use Rattle.std.proofs.lemmas.Bool.Decides.{nat_tests}
+use Rattle.shfl_line.specs.Line.{Line, mark_of, active_shuffler}
 use Rattle.shfl_core.specs.declared.phase.Phase.{Phase}
-use Rattle.shfl_core.specs.declared.phase.Phase.TheVariants.{Swap, Ready, Begin, Next, Pick, Aim, Place, Mark, Give}
-use Rattle.shfl_line.specs.Passes.{updated, times, first, last, Chain, EachPair, end, without, put_after, put_behind, follower_after, follower, last_marked, MarkedFirst, StopsAt, IsLastMarked}
+use Rattle.shfl_core.specs.declared.phase.Phase.TheVariants.{Begin, Next, Mark, Give}
+use Rattle.shfl_line.specs.Passes.{updated, times, first, Chain, EachPair, follower_after, MarkedFirst, StopsAt, IsLastMarked}
 use Rattle.shfl_line.specs.declared.words.NodeState.{NodeState}
 use Rattle.shfl_core.specs.declared.phase.PassState.{PassState}
 use Rattle.shfl_core.specs.declared.phase.Nap.{Nap}
-use Rattle.shfl_core.specs.Phases.{Away, Fore, Rear, Either, Rank, rank, knows_rank, is_round, is_queued, is_fore, is_linking, has_hand, knows, is_holding, is_backing}
+use Rattle.shfl_core.specs.Phases.{Fore, rank, is_round, is_queued, is_fore, is_linking, knows}
 use Rattle.shfl_core.specs.View.{View}
-use Rattle.shfl_core.specs.Order.{Order as Ordered, Round, Follows, Walks, Fronted, Stands, Clean, awake}
+use Rattle.shfl_core.specs.Order.{Order as Ordered, Follows}
 use Rattle.shfl_core.specs.Grouping.{Grouping}
-use Rattle.shfl_laws.proofs.Rows.{on, swap_found, row_swap, row_link, row_pick, row_aim, row_place, next_found, row_next, row_tail, row_attr, decided, row_decide, after_found, row_after, take_found, row_take, row_cut, row_ready, row_close, marked, row_mark}
+use Rattle.shfl_laws.proofs.Rows.{marked, row_mark}
 use Rattle.shfl_line.proofs.Chain
 use Rattle.shfl_laws.proofs.Order
-use Rattle.shfl_line.proofs.Marks
-use Rattle.shfl_laws.proofs.Quiet.{Quiet}
 use Rattle.shfl_laws.proofs.Relink.{walk-no-rest}
 
 read-set : (l : List ℕ) (i v : ℕ) → i < length l → (q : ℕ) → slice_index (slice_set l i v) q ≡ updated (slice_index l) i v q

@@ -1,9 +1,7 @@
 -- The steps of parking: no wakeup is lost.
-use Rattle.std.proofs.Common.{◌≡◌, ◌≢◌, ℕ, zero, suc, ◌+◌, ◌<◌, ◌≤◌, ◌==◌, Bool, true, false, cond, List, length, set, refl, sym, ap, ◌∙◌, subst, ⊎_elim, arith}
-use Rattle.std.specs.Prelude.{bit_and, bit_or, ◌||◌}
+use Rattle.std.proofs.Common.{◌≡◌, ◌≢◌, ℕ, ◌<◌, ◌≤◌, ◌==◌, Bool, true, false, cond, refl, sym, ap, ◌∙◌, subst, arith}
+use Rattle.std.specs.Prelude.{bit_and, bit_or}
 use Rattle.std.proofs.lemmas.Bool.Decides.{nat_tests}
-use Rattle.std.proofs.lemmas.Bool.{cases_lt}
-use Rattle.std.proofs.lemmas.List.{get_or_past}
 use Rattle.shfl_line.specs.declared.events.Form.{Form}
 use Rattle.shfl_line.specs.Words.{state_of}
 use Rattle.shfl_line.specs.Passes.{updated}
@@ -12,33 +10,30 @@ use Rattle.shfl_core.specs.declared.phase.Phase.{Phase}
 use Rattle.shfl_core.specs.declared.phase.Phase.TheVariants.{Look}
 use Rattle.shfl_core.specs.declared.phase.Nap.{Nap}
 use Rattle.shfl_core.specs.declared.phase.Nap.TheVariants.{Awake, Doze, Hear, Rouse, Ring}
-use Rattle.shfl_core.specs.declared.phase.PassState.{PassState}
 use Rattle.shfl_core.specs.declared.words.Word.TheVariants.{State, Bell}
 use Rattle.shfl_line.specs.declared.events.LineEvent.TheVariants.{Nothing}
 use Rattle.shfl_core.specs.Words.{look}
 use Rattle.shfl_core.specs.Plan.{parks}
-use Rattle.shfl_core.specs.Waiting.{idle}
-use Rattle.shfl_core.specs.Worlds.{World, known}
+use Rattle.shfl_core.specs.Worlds.{known}
 use Rattle.shfl_core.specs.View.{View, view}
 use Rattle.shfl_core.specs.Owed.{Owed, IsCalledSleeper, called, announces, fits}
-use Rattle.shfl_core.specs.Lawful.{Terms, count, Lawful, Agrees, NapLawOf}
+use Rattle.shfl_core.specs.Lawful.{Terms, Agrees, NapLawOf}
 use Rattle.shfl_laws.proofs.Advance.{at-nap, advance-state, advance-bell, below-count}
-use Rattle.shfl_laws.proofs.Frame.{written_state, written_bell}
 use Rattle.shfl_laws.proofs.StateBits.{or-parked, and-parked}
 use Rattle.shfl_laws.proofs.Slept.{slept, slept-agrees, slept-state, slept-bell, naps_at, parked_at}
 
 -- what a step of the pass p that neither sets a wakeup word nor is about to must show
-record Naps (form : Form) (w : View) (p : ℕ) (x : Nap) (y : Bool) (bells : ℕ → ℕ) : Type 0 where
-  before : (q : ℕ) → (w.pass p).nap ≢ Ring q
-  now : (q : ℕ) → x ≢ Ring q
-  place : fits x (w.pass p).phase ≡ true
-  announced : y ≡ announces x
-  roused : x ≡ Rouse → called (w.node p) ≡ true
-  parking : parks form ≡ false → ⊥
-  others : (q : ℕ) → q ≢ p → bells q ≡ w.bell q
-  owed : x ≡ Hear → called (w.node p) ≡ true → bells p ≡ 0 → (r : ℕ) × ((w.pass r).nap ≡ Ring p)
-  rung : 0 < bells p → (x ≡ Hear) × (called (w.node p) ≡ true) × ((r : ℕ) → (w.pass r).nap ≢ Ring p)
-  rings : (r : ℕ) → (w.pass r).nap ≡ Ring p → (x ≡ Hear) × (called (w.node p) ≡ true) × (bells p ≡ 0)
+pub record Naps (form : Form) (w : View) (p : ℕ) (x : Nap) (y : Bool) (bells : ℕ → ℕ) : Type 0 where
+  pub before : (q : ℕ) → (w.pass p).nap ≢ Ring q
+  pub now : (q : ℕ) → x ≢ Ring q
+  pub place : fits x (w.pass p).phase ≡ true
+  pub announced : y ≡ announces x
+  pub roused : x ≡ Rouse → called (w.node p) ≡ true
+  pub parking : parks form ≡ false → ⊥
+  pub others : (q : ℕ) → q ≢ p → bells q ≡ w.bell q
+  pub owed : x ≡ Hear → called (w.node p) ≡ true → bells p ≡ 0 → (r : ℕ) × ((w.pass r).nap ≡ Ring p)
+  pub rung : 0 < bells p → (x ≡ Hear) × (called (w.node p) ≡ true) × ((r : ℕ) → (w.pass r).nap ≢ Ring p)
+  pub rings : (r : ℕ) → (w.pass r).nap ≡ Ring p → (x ≡ Hear) × (called (w.node p) ≡ true) × (bells p ≡ 0)
 
 module _ (form : Form) (w : View) (p : ℕ) (x : Nap) (y : Bool) (bells : ℕ → ℕ) (h : Owed form w) (k : Naps form w p x y bells) where
   nap-else : (q : ℕ) → q ≢ p → naps_at w p x q ≡ (w.pass q).nap
@@ -69,7 +64,7 @@ module _ (form : Form) (w : View) (p : ℕ) (x : Nap) (y : Bool) (bells : ℕ �
   here-new : x ≡ Hear → called (w.node p) ≡ true → IsCalledSleeper then p
   here-new e c = record { sleeps = nap-here ∙ e; called = c }
 
-  napped : Owed form then
+  pub napped : Owed form then
   napped = record {
     places = Chain.updated-all (λ q z. fits z (w.pass q).phase ≡ true) (λ z. (w.pass z).nap) p x k.place (λ q n. h.places q);
     parked = λ q. Chain.by_eq q p
@@ -82,12 +77,12 @@ module _ (form : Form) (w : View) (p : ℕ) (x : Nap) (y : Bool) (bells : ℕ �
     fresh = h.fresh;
     owed = λ q. Chain.by_eq q p
         (λ i. subst (λ z. IsCalledSleeper then z → bells z ≡ 0 → (r : ℕ) × (naps_at w p x r ≡ Ring z)) (sym i)
-            (λ c e. let t = k.owed (sym nap-here ∙ c.sleeps) c.called e in (t.0, ring-new t.0 p t.1)))
+        (λ c e. let t = k.owed (sym nap-here ∙ c.sleeps) c.called e in (t.0, ring-new t.0 p t.1)))
         (λ n c e. let t = h.owed q (sleeper-old q n c) (sym (k.others q n) ∙ e) in (t.0, ring-new t.0 q t.1));
     one = λ q a b c d. h.one q a b (ring-old a q c) (ring-old b q d);
     rung = λ q. Chain.by_eq q p
         (λ i. subst (λ z. 0 < bells z → IsCalledSleeper then z × ((r : ℕ) → naps_at w p x r ≢ Ring z)) (sym i)
-            (λ e. let t = k.rung e in (here-new t.0 t.1, λ r f. t.2 r (ring-old r p f))))
+        (λ e. let t = k.rung e in (here-new t.0 t.1, λ r f. t.2 r (ring-old r p f))))
         (λ n e. let t = h.rung q (subst (λ z. 0 < z) (k.others q n) e) in (sleeper-new q n t.0, λ r f. t.1 r (ring-old r q f)));
     rings = λ r q e. (let old = ring-old r q e in Chain.by_eq q p
         (λ i. subst (λ z. IsCalledSleeper then z × (bells z ≡ 0)) (sym i) (let t = k.rings r (old ∙ ap Ring i) in (here-new t.0 t.1, t.2)))
@@ -102,7 +97,7 @@ hears-look : (f : Phase) → fits Hear f ≡ true → f ≡ Look
 hears-look f e = grind arith
 
 -- whoever parks is in a form with parking
-must-park : (form : Form) (w : View) (p : ℕ) → Owed form w → (w.pass p).nap ≢ Awake → parks form ≡ false → ⊥
+pub must-park : (form : Form) (w : View) (p : ℕ) → Owed form w → (w.pass p).nap ≢ Awake → parks form ≡ false → ⊥
 must-park form w p h n s = n (h.spinning s p).0
 
 doze-naps : (form : Form) (w : View) (p : ℕ) → Owed form w → (w.pass p).nap ≡ Doze → Naps form w p (cond (called (w.node p)) Rouse Hear) true w.bell
@@ -206,66 +201,3 @@ hear-law t = at-nap t Hear (λ w p c ok below nap.
     (subst (λ (z : View). Agrees t z ok.shown ok.giver) (slept-bell (view w) p p 0 (cond (look w.words (Bell p) == 1) Rouse Hear))
     (slept-agrees (view w) (naps_at (view w) p (cond (look w.words (Bell p) == 1) Rouse Hear)) (parked_at (view w) p ((view w).node p).parked) (updated (view w).bell p 0) t ok.shown ok.giver ok.agrees
     (napped t.rules.form (view w) p (cond (look w.words (Bell p) == 1) Rouse Hear) ((view w).node p).parked (updated (view w).bell p 0) ok.agrees.owed k))))
-
--- the pass p sets the wakeup word of whom, and is awake
-module _ (form : Form) (w : View) (p whom : ℕ) (h : Owed form w) (was : (w.pass p).nap ≡ Ring whom) where
-  waked : (q : ℕ) → q ≢ p → naps_at w p Awake q ≡ (w.pass q).nap
-  waked q n = Chain.updated-else (λ z. (w.pass z).nap) p q Awake n
-
-  here-awake : naps_at w p Awake p ≡ Awake
-  here-awake = Chain.updated-same (λ z. (w.pass z).nap) p Awake
-
-  abbrev rang : View
-  rang = slept w (naps_at w p Awake) (parked_at w p (w.node p).parked) (updated w.bell whom 1)
-
-  -- no other pass is about to do so
-  ring-past : (r q : ℕ) → naps_at w p Awake r ≡ Ring q → (r ≢ p) × ((w.pass r).nap ≡ Ring q)
-  ring-past r q e = let n : r ≢ p = λ i. (let a : naps_at w p Awake p ≡ Ring q = subst (λ z. naps_at w p Awake z ≡ Ring q) i e in let b = here-awake in cc) in (n, sym (waked r n) ∙ e)
-
-  ring-other : (r q : ℕ) → naps_at w p Awake r ≡ Ring q → q ≢ whom
-  ring-other r q e i = let t = ring-past r q e in t.0 (h.one whom r p (t.1 ∙ ap Ring i) was)
-
-  not-sleeper : (q : ℕ) → IsCalledSleeper w q → q ≢ p
-  not-sleeper q c i = let a : (w.pass p).nap ≡ Hear = subst (λ z. (w.pass z).nap ≡ Hear) i c.sleeps in cc
-
-  kept : (q : ℕ) → IsCalledSleeper w q → IsCalledSleeper rang q
-  kept q c = record { sleeps = waked q (not-sleeper q c) ∙ c.sleeps; called = c.called }
-
-  past : (q : ℕ) → IsCalledSleeper rang q → IsCalledSleeper w q
-  past q c = record { sleeps = sym (waked q (λ i. (let a : naps_at w p Awake p ≡ Hear = subst (λ z. naps_at w p Awake z ≡ Hear) i c.sleeps in let b = here-awake in cc))) ∙ c.sleeps; called = c.called }
-
-  rung-owed : Owed form rang
-  rung-owed = record {
-    places = Chain.updated-all (λ q z. fits z (w.pass q).phase ≡ true) (λ z. (w.pass z).nap) p Awake refl (λ q n. h.places q);
-    parked = λ q. Chain.updated-all (λ z b. b ≡ (w.node z).parked) (λ z. (w.node z).parked) p (w.node p).parked refl (λ z n. refl) q ∙ Chain.by_eq q p
-        (λ i. subst (λ z. (w.node z).parked ≡ announces (naps_at w p Awake z)) (sym i) (h.parked p ∙ (ap announces was ∙ ap announces (sym here-awake))))
-        (λ n. h.parked q ∙ ap announces (sym (waked q n)));
-    roused = Chain.updated-all (λ q z. z ≡ Rouse → called (w.node q) ≡ true) (λ z. (w.pass z).nap) p Awake (λ e. absurd (cc)) (λ q n. h.roused q);
-    spinning = λ s. absurd (must-park form w p h (λ e. absurd (cc)) s);
-    told = h.told;
-    grouped = h.grouped;
-    fresh = h.fresh;
-    owed = λ q c e. (let n : q ≢ whom = λ i. (let a : updated w.bell whom 1 whom ≡ 0 = subst (λ z. updated w.bell whom 1 z ≡ 0) i e in let b = Chain.updated-same w.bell whom 1 in omega arith) in
-        let t = h.owed q (past q c) (sym (Chain.updated-else w.bell whom q 1 n) ∙ e) in
-        let m : t.0 ≢ p = λ i. n (let a : (w.pass p).nap ≡ Ring q = subst (λ z. (w.pass z).nap ≡ Ring q) i t.1 in let b : Ring q ≡ Ring whom = sym a ∙ was in cc) in
-        (t.0, waked t.0 m ∙ t.1));
-    one = λ q a b c d. h.one q a b (ring-past a q c).1 (ring-past b q d).1;
-    rung = λ q. Chain.by_eq q whom
-        (λ i. subst (λ z. 0 < updated w.bell whom 1 z → IsCalledSleeper rang z × ((r : ℕ) → naps_at w p Awake r ≢ Ring z)) (sym i)
-            (λ e. (kept whom (h.rings p whom was).0, λ r f. ring-other r whom f refl)))
-        (λ n e. let t = h.rung q (subst (λ z. 0 < z) (Chain.updated-else w.bell whom q 1 n) e) in (kept q t.0, λ r f. t.1 r (ring-past r q f).1));
-    rings = λ r q e. let t = h.rings r q (ring-past r q e).1 in (kept q t.0, Chain.updated-else w.bell whom q 1 (ring-other r q e) ∙ t.1);
-  }
-
--- a pass that isn't awake is one of the lock's
-sleepy-in : (l : List PassState) (q : ℕ) → (known l q).nap ≢ Awake → q < length l
-sleepy-in l q n = ⊎_elim (λ h. h) (λ h. absurd (n (ap (λ (z : PassState). z.nap) (get_or_past l q (idle q) h)))) (cases_lt q (length l))
-
-pub ring-law : (t : Terms) (whom : ℕ) → NapLawOf t (Ring whom)
-ring-law t whom = at-nap t (Ring whom) (λ w p c ok below nap.
-    let sleeps = (ok.agrees.owed.rings p whom nap).0.sleeps in
-    let in-lock : whom < length w.passes = sleepy-in w.passes whom (λ e. absurd (cc)) in
-    advance-bell t w ok p below (record (known w.passes p) { nap = Awake }) Nothing ok.giver refl tt tt whom 1 (below-count t w ok whom in-lock) (omega arith)
-    (subst (λ (z : View). Agrees t z ok.shown ok.giver) (slept-bell (view w) p whom 1 Awake)
-    (slept-agrees (view w) (naps_at (view w) p Awake) (parked_at (view w) p ((view w).node p).parked) (updated (view w).bell whom 1) t ok.shown ok.giver ok.agrees
-    (rung-owed t.rules.form (view w) p whom ok.agrees.owed nap))))

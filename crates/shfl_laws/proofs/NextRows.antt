@@ -1,11 +1,10 @@
 -- The steps that store a next word: the late link, and the three stores of a relink.
-use Rattle.std.proofs.Common.{◌≡◌, ◌≢◌, ℕ, zero, suc, ◌+◌, ◌-◌, ◌*◌, ◌<◌, ◌≤◌, ◌==◌, Bool, true, false, cond, List, [], ◌∷◌, length, get_or, set, refl, sym, ap, ◌∙◌, subst, ⊎_elim, add-one, arith}
-use Rattle.std.specs.Prelude.{Some, None}
-use Rattle.std.proofs.lemmas.Bool.Decides.{nat_tests}
+use Rattle.std.proofs.Common.{◌≡◌, ◌≢◌, ℕ, suc, ◌+◌, ◌-◌, ◌<◌, ◌≤◌, Bool, true, false, cond, List, ◌∷◌, length, set, refl, sym, ap, ◌∙◌, subst, ⊎_elim, add-one, arith}
+use Rattle.std.specs.Prelude.{None}
 use Rattle.shfl_line.specs.declared.events.LineEvent.{LineEvent}
 use Rattle.shfl_line.specs.declared.events.LineEvent.TheVariants.{Nothing, Pick as PickEvent, Place as PlaceEvent}
-use Rattle.shfl_line.specs.Line.{Line, mark_of, active_shuffler}
-use Rattle.shfl_line.specs.Steps.{Admits, after, NamesBelow, batch_end, IsInRound}
+use Rattle.shfl_line.specs.Line.{Line, mark_of}
+use Rattle.shfl_line.specs.Steps.{Admits, after, NamesBelow, batch_end}
 use Rattle.shfl_line.specs.Words.{link_word}
 use Rattle.shfl_line.specs.Passes.{updated, times, EachPair, MarkedFirst, StopsAt, last_marked, put_behind}
 use Rattle.shfl_line.proofs.Marks
@@ -19,7 +18,7 @@ use Rattle.shfl_core.specs.Words.{look, index}
 use Rattle.shfl_core.specs.Take.{to}
 use Rattle.shfl_core.specs.Waiting.{idle}
 use Rattle.shfl_core.specs.Worlds.{World, known}
-use Rattle.shfl_core.specs.Phases.{is_round, is_queued, is_fore, is_linking, has_hand, is_holding, is_backing, is_writing, is_reading, decide_to_pick}
+use Rattle.shfl_core.specs.Phases.{is_round, is_queued, is_fore, has_hand, is_holding, is_backing, is_writing, is_reading, decide_to_pick}
 use Rattle.shfl_core.specs.View.{View, view}
 use Rattle.shfl_core.specs.Order.{Order as Ordered}
 use Rattle.shfl_core.specs.Grouping.{Grouping}
@@ -27,12 +26,11 @@ use Rattle.shfl_core.specs.Holding.{Holding, backs}
 use Rattle.shfl_core.specs.Lawful.{Terms, count, Agrees, Lawful, Advances, LawOf}
 use Rattle.shfl_core.proofs.Lists.{past, below-or}
 use Rattle.shfl_laws.proofs.Order
-use Rattle.shfl_laws.proofs.Rows.{on, row_link, row_pick, row_aim, row_place}
 use Rattle.shfl_laws.proofs.Leave.{law_link, link-room}
 use Rattle.shfl_laws.proofs.Pick.{picked, law_pick, admits-pick}
 use Rattle.shfl_laws.proofs.Place.{placed, law_aim, law_place}
-use Rattle.shfl_laws.proofs.Registered.{Registers, registered-set}
-use Rattle.shfl_laws.proofs.OwedFrames.{Awoken, owed-awake}
+use Rattle.shfl_laws.proofs.Registered.{registered-set}
+use Rattle.shfl_laws.proofs.OwedFrames.{owed-awake}
 use Rattle.shfl_laws.proofs.Advance.{at-phase, advance-next, below-count}
 use Rattle.shfl_laws.proofs.Frame.{written_next}
 use Rattle.shfl_laws.proofs.Holding.{stay}
@@ -103,7 +101,7 @@ module _ (t : Terms) (w : World) (p : ℕ) (ok : Lawful t w) (below : p < length
       (subst (λ n. Grouping t.rules.limit (written_next (view w) q.reg.before n p (to Look q.reg)) ok.shown) (sym (add-one p)) laws.1)
 
   -- what a next word of the line names is a pass of the line
-  named : (a b : ℕ) → 0 < times a ok.shown.line → look w.words (NextOf a) ≡ suc b → b < count t
+  pub named : (a b : ℕ) → 0 < times a ok.shown.line → look w.words (NextOf a) ≡ suc b → b < count t
   named a b h e = let z = Order.scene (view w) ok.shown ok.giver a ok.agrees.order h in let v = z.2 in
       let i = Order.succ-in (view w) z.0 z.1 a b v.walks v.stop (subst (λ l. 0 < times a l) v.line h) e in
       ok.of_passes.line b (subst (λ l. 0 < times b l) (sym v.line) (let y = i.0 in let x : 0 < times b (z.0 ∷ z.1) = omega arith in x))
@@ -112,7 +110,7 @@ module _ (t : Terms) (w : World) (p : ℕ) (ok : Lawful t w) (below : p < length
   in-line a h = ok.of_passes.line a h
 
   -- the detached waiter is a pass that is there
-  hand-there : is_round q.phase ≡ true → has_hand q.phase ≡ true → (link_word ok.shown.hand ≡ suc q.reg.cand) × (q.reg.cand < count t)
+  pub hand-there : is_round q.phase ≡ true → has_hand q.phase ≡ true → (link_word ok.shown.hand ≡ suc q.reg.cand) × (q.reg.cand < count t)
   hand-there a b = let e : link_word ok.shown.hand ≡ suc q.reg.cand = (ok.agrees.order.round p a).hand_is ∙ (λ j. cond (b j) (suc q.reg.cand) 0) in (e, ok.of_passes.hand q.reg.cand e)
 
   law-pick-row : q.phase ≡ Pick → Advances t w ok (PickEvent p q.reg.cand) (record { words = set w.words (index (NextOf q.reg.prev)) (q.reg.after + 1); passes = set w.passes p (to Aim q.reg) })

@@ -1,14 +1,12 @@
 -- What the order of a world says of neighbours.
-use Rattle.std.proofs.Common.{◌≡◌, ◌≢◌, ℕ, zero, suc, ◌+◌, ◌<◌, ◌≤◌, ◌⊎◌, List, [], ◌∷◌, ◌++◌, Bool, true, false, cond, ◌==◌, refl, sym, ◌∙◌, inl, inr, ⊎_elim, subst, arith}
+use Rattle.std.proofs.Common.{◌≡◌, ◌≢◌, ℕ, suc, ◌<◌, ◌≤◌, List, [], ◌∷◌, true, false, refl, sym, ◌∙◌, ⊎_elim, subst, arith}
 use Rattle.std.proofs.lemmas.Bool.Decides.{nat_tests}
-use Rattle.shfl_line.specs.Line.{Line, mark_of, active_shuffler, idle_shuffler, is_write, writer_count, reader_count}
-use Rattle.shfl_line.specs.Words.{link_word}
-use Rattle.shfl_line.specs.Passes.{updated, times, first, last, Chain, EachPair, end, without, put_after, put_behind, follower_after, follower, last_marked, MarkedFirst, StopsAt, IsLastMarked}
-use Rattle.shfl_line.specs.declared.words.NodeState.{NodeState}
+use Rattle.shfl_line.specs.Line.{Line}
+use Rattle.shfl_line.specs.Passes.{updated, times, Chain, end, follower_after, MarkedFirst}
 use Rattle.shfl_core.specs.declared.phase.PassState.{PassState}
-use Rattle.shfl_core.specs.Phases.{is_round, is_queued, is_fore, is_linking, has_hand, knows, is_holding, is_backing}
+use Rattle.shfl_core.specs.Phases.{is_round, is_queued, is_linking}
 use Rattle.shfl_core.specs.View.{View}
-use Rattle.shfl_core.specs.Order.{Order as Ordered, Round, Follows, Walks, Fronted, Stands, Clean, awake}
+use Rattle.shfl_core.specs.Order.{Order as Ordered, Follows, Walks, Stands}
 use Rattle.shfl_core.specs.Grouping.{Grouping}
 use Rattle.shfl_line.proofs.Chain
 

@@ -1,19 +1,16 @@
 -- The steps between phases outside the queue, which write the lock word.
-use Rattle.std.proofs.Common.{◌≡◌, ◌≢◌, ℕ, zero, suc, ◌+◌, ◌-◌, ◌*◌, ◌%◌, ◌^◌, ◌<◌, ◌≤◌, ◌==◌, Bool, true, false, cond, List, length, set, refl, sym, ap, ◌∙◌, subst, arith}
+use Rattle.std.proofs.Common.{◌≡◌, ◌≢◌, ℕ, ◌+◌, ◌-◌, ◌%◌, ◌^◌, ◌<◌, ◌≤◌, ◌==◌, Bool, true, false, cond, length, set, refl, sym, ap, ◌∙◌, subst, arith}
 use Rattle.std.specs.Prelude.{bit_and, ◌||◌, ◌&&◌, not}
 use Rattle.std.proofs.lemmas.Bool.Decides.{nat_tests}
 use prog.Atomic.{either}
-use Rattle.shfl_line.specs.declared.events.Form.{Form}
-use Rattle.shfl_line.specs.declared.events.Mode.{Mode}
 use Rattle.shfl_line.specs.declared.events.Mode.TheVariants.{Write, Read}
 use Rattle.shfl_line.specs.declared.events.LineEvent.TheVariants.{Steal as StealEvent, Release as ReleaseEvent, Nothing}
-use Rattle.shfl_line.specs.Line.{Line, is_write, writer_count, reader_count, holds}
-use Rattle.shfl_line.specs.Steps.{Admits, after, add_holder, remove_holder, IsFreeFor, IsAway, NamesBelow}
-use Rattle.shfl_line.specs.Words.{link_word, held_of, closed_of, readers_of, packed_lock, IsLockWord}
-use Rattle.shfl_line.specs.Passes.{updated, times}
+use Rattle.shfl_line.specs.Line.{Line, is_write, writer_count, reader_count}
+use Rattle.shfl_line.specs.Steps.{Admits, after, add_holder, remove_holder, NamesBelow}
+use Rattle.shfl_line.specs.Words.{held_of, closed_of, readers_of, IsLockWord}
+use Rattle.shfl_line.specs.Passes.{updated}
 use Rattle.shfl_core.specs.declared.phase.Phase.{Phase}
 use Rattle.shfl_core.specs.declared.phase.Phase.TheVariants.{Idle, Steal, Init, Open, Held, Release, Count, Uncount, TryUncount, ReadRelease, Swap, Ready, Begin, Late, WriteGrab, Grab}
-use Rattle.shfl_core.specs.declared.phase.Registers.{Registers as Regs}
 use Rattle.shfl_core.specs.declared.phase.Nap.TheVariants.{Awake}
 use Rattle.shfl_core.specs.declared.phase.PassState.{PassState}
 use Rattle.shfl_core.specs.declared.words.Word.TheVariants.{Lock}
@@ -23,10 +20,8 @@ use Rattle.shfl_core.specs.Plan.{shares}
 use Rattle.shfl_core.specs.Worlds.{World, known}
 use Rattle.shfl_core.specs.Phases.{is_round, is_queued, is_fore, is_linking, knows, is_holding, is_backing, is_writing, is_reading, decide_to_pick}
 use Rattle.shfl_core.specs.View.{View, view}
-use Rattle.shfl_core.specs.Holding.{Holding, backs, Registered, write_of, read_of}
+use Rattle.shfl_core.specs.Holding.{Holding, backs, write_of, read_of}
 use Rattle.shfl_core.specs.Lawful.{Terms, count, Agrees, Lawful, Advances, LawOf}
-use Rattle.shfl_laws.proofs.Quiet.{Quiet, moved}
-use Rattle.shfl_laws.proofs.Registered.{Registers}
 use Rattle.shfl_laws.proofs.QuietAgrees.{GoesOn, quiet-agrees}
 use Rattle.shfl_laws.proofs.Advance.{at-phase, advance-lock, below-count}
 use Rattle.shfl_laws.proofs.Frame.{written_lock}
@@ -97,14 +92,14 @@ module _ (t : Terms) (w : World) (p : ℕ) (ok : Lawful t w) (below : p < length
   n = look w.words Lock
 
   -- an outside pass goes on, the lock word becomes m, and the hold becomes hold
-  outside-lock : (f : Phase) (m : ℕ) (v : PassState) (e : _) (form : IsLockWord m) → q.phase ≡ f → outside f ≡ true → GoesOn t (view w) ok.shown p v → v.reg.me ≡ q.reg.me
+  pub outside-lock : (f : Phase) (m : ℕ) (v : PassState) (e : _) (form : IsLockWord m) → q.phase ≡ f → outside f ≡ true → GoesOn t (view w) ok.shown p v → v.reg.me ≡ q.reg.me
       → Admits t.rules.limit ok.shown e → NamesBelow (count t) e → (hold : _) → after ok.shown e ≡ record ok.shown { hold = hold } → Holding (count t) (held_of m) (readers_of m) (updated (known w.passes) p v) hold
       → Advances t w ok e (record { words = set w.words (index Lock) m; passes = set w.passes p v })
   outside-lock f m v e form was out on me may names hold same holding = advance-lock t w ok p below v e ok.giver me may names m form
       (subst (λ (z : Line). Agrees t (written_lock (view w) m p v) z ok.giver) (sym same) (quiet-agrees t (view w) ok.shown ok.giver p v ok.agrees nap on (held_of m) (closed_of m) (readers_of m) hold holding))
 
   -- the same where the line shows nothing of it
-  outside-still : (f : Phase) (m : ℕ) (v : PassState) → IsLockWord m → q.phase ≡ f → outside f ≡ true → GoesOn t (view w) ok.shown p v → v.reg.me ≡ q.reg.me
+  pub outside-still : (f : Phase) (m : ℕ) (v : PassState) → IsLockWord m → q.phase ≡ f → outside f ≡ true → GoesOn t (view w) ok.shown p v → v.reg.me ≡ q.reg.me
       → Holding (count t) (held_of m) (readers_of m) (updated (known w.passes) p v) ok.shown.hold → Advances t w ok Nothing (record { words = set w.words (index Lock) m; passes = set w.passes p v })
   outside-still f m v form was out on me holding = outside-lock f m v Nothing form was out on me tt tt ok.shown.hold refl holding
 

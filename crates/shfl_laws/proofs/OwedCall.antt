@@ -1,12 +1,10 @@
 -- A pass tells another to go on, and is about to set its wakeup word where that one sleeps: no wakeup is lost.
-use Rattle.std.proofs.Common.{◌≡◌, ◌≢◌, ℕ, zero, suc, ◌<◌, ◌≤◌, ◌⊎◌, ◌==◌, Bool, true, false, cond, refl, sym, ap, ◌∙◌, subst, ⊎_elim, inl, inr, arith}
+use Rattle.std.proofs.Common.{◌≡◌, ◌≢◌, ℕ, zero, suc, ◌<◌, ◌⊎◌, Bool, true, false, cond, refl, sym, ap, ◌∙◌, subst, ⊎_elim, inl, inr, arith}
 use Rattle.std.specs.Prelude.{◌||◌, ◌&&◌, not}
-use Rattle.std.proofs.lemmas.Bool.Decides.{nat_tests}
 use Rattle.shfl_line.specs.declared.events.Form.{Form}
 use Rattle.shfl_line.specs.declared.words.NodeState.{NodeState}
 use Rattle.shfl_line.specs.Passes.{updated}
 use Rattle.shfl_line.proofs.Chain
-use Rattle.shfl_core.specs.declared.phase.Phase.{Phase}
 use Rattle.shfl_core.specs.declared.phase.Phase.TheVariants.{Swap}
 use Rattle.shfl_core.specs.declared.phase.Nap.{Nap}
 use Rattle.shfl_core.specs.declared.phase.Nap.TheVariants.{Awake, Doze, Hear, Rouse, Ring}
@@ -114,7 +112,6 @@ module _ (form : Form) (w : View) (p c : ℕ) (n : NodeState) (v : PassState) (h
   stays q s = Chain.by_eq q c
       (λ e. subst (λ z. IsCalledSleeper w' z) (sym e) (let s0 : IsCalledSleeper w c = subst (λ z. IsCalledSleeper w z) e s in record { sleeps = nap-else c k.other ∙ s0.sleeps; called = ap called node-own ∙ k.keeps s0.called }))
       (λ d. sleeper-else q d (not-own q s) s)
-
 
   owed-by : (b : Bool) → asleep (w.node c) ≡ b → Owed form w'
   owed-by b e = record {

@@ -1,16 +1,16 @@
 -- Parking, where a pass goes on awake and stays in its class.
-use Rattle.std.proofs.Common.{◌≡◌, ◌≢◌, ℕ, suc, ◌<◌, Bool, true, false, refl, sym, ap, ◌∙◌, subst, arith}
+use Rattle.std.proofs.Common.{◌≡◌, ℕ, ◌<◌, true, false, refl, sym, ap, ◌∙◌, subst}
 use Rattle.shfl_line.specs.declared.events.Form.{Form}
 use Rattle.shfl_line.specs.declared.words.NodeState.{NodeState}
 use Rattle.shfl_line.specs.Passes.{updated}
 use Rattle.shfl_line.proofs.Chain
 use Rattle.shfl_core.specs.declared.phase.Phase.TheVariants.{Swap}
-use Rattle.shfl_core.specs.declared.phase.Nap.TheVariants.{Awake, Hear, Rouse, Ring}
+use Rattle.shfl_core.specs.declared.phase.Nap.TheVariants.{Awake}
 use Rattle.shfl_core.specs.declared.phase.PassState.{PassState}
 use Rattle.shfl_core.specs.Plan.{parks}
 use Rattle.shfl_core.specs.Phases.{is_queued, is_fore}
 use Rattle.shfl_core.specs.View.{View}
-use Rattle.shfl_core.specs.Owed.{Owed, IsCalledSleeper, called, announces, fits}
+use Rattle.shfl_core.specs.Owed.{Owed, IsCalledSleeper, announces, fits}
 
 -- what an awake pass has to show at its new place
 pub record Awoken (form : Form) (node : ℕ → NodeState) (p : ℕ) (v : PassState) : Type 0 where

@@ -1,30 +1,24 @@
 -- The first store of the relink.
-use Rattle.std.proofs.Common.{◌≡◌, ◌≢◌, ℕ, zero, suc, ◌+◌, ◌<◌, ◌≤◌, ◌⊎◌, List, [], ◌∷◌, ◌++◌, Bool, true, false, cond, ◌==◌, refl, sym, ap, ◌∙◌, inl, inr, ⊎_elim, subst, arith}
-use Rattle.std.specs.Prelude.{Option, Some, None}
-use Rattle.std.proofs.lemmas.Bool.Decides.{nat_tests, eqb_tells}
-use Rattle.shfl_line.specs.Line.{Line, mark_of, active_shuffler, idle_shuffler, is_write, writer_count, reader_count}
+use Rattle.std.proofs.Common.{◌≡◌, ◌≢◌, ℕ, suc, ◌<◌, ◌≤◌, List, ◌∷◌, true, false, refl, sym, ap, ◌∙◌, ⊎_elim, subst, arith}
+use Rattle.std.specs.Prelude.{Some}
+use Rattle.std.proofs.lemmas.Bool.Decides.{nat_tests}
+use Rattle.shfl_line.specs.Line.{Line, mark_of}
 use Rattle.shfl_line.specs.Words.{link_word}
-use Rattle.shfl_line.specs.declared.events.Role.{Role}
-use Rattle.shfl_core.specs.declared.phase.Phase.{Phase}
-use Rattle.shfl_core.specs.declared.phase.Phase.TheVariants.{Idle, Steal, Init, Swap, Link, Close, Look, Begin, Next, Tail, Attr, Decide, After, Pick, Aim, Place, Mark, Give, Peek, Grab, WriteGrab, Take, Cut, Late, Ready, Open, Held, Release, Count, Uncount, TryUncount, HeadCount, HeadLook, ReadRelease}
+use Rattle.shfl_core.specs.declared.phase.Phase.TheVariants.{Pick, Aim}
 use Rattle.shfl_line.proofs.Batches.{stands-behind}
-use Rattle.shfl_line.specs.Passes.{behind, updated, times, first, last, Chain, EachPair, end, without, put_after, put_behind, follower_after, follower, last_marked, MarkedFirst, StopsAt, IsLastMarked}
-use Rattle.shfl_line.specs.declared.words.NodeState.{NodeState}
-use Rattle.shfl_core.specs.declared.phase.PassState.{PassState}
-use Rattle.shfl_core.specs.Phases.{is_round, is_queued, is_fore, is_linking, has_hand, knows, is_holding, is_backing}
+use Rattle.shfl_line.specs.Passes.{behind, updated, times, last, Chain, EachPair, end, without, follower_after, follower, last_marked, MarkedFirst, StopsAt}
+use Rattle.shfl_core.specs.Phases.{is_round, is_queued, is_linking}
 use Rattle.shfl_core.specs.View.{View}
-use Rattle.shfl_core.specs.Order.{Order as Ordered, Round, Follows, Walks, Fronted, Stands, Clean, awake}
+use Rattle.shfl_core.specs.Order.{Order as Ordered, Round, Follows, Walks, Stands}
 use Rattle.shfl_core.specs.Grouping.{Grouping}
-use Rattle.shfl_laws.proofs.Rows.{on, swap_found, row_swap, row_link, row_pick, row_aim, row_place, next_found, row_next, row_tail, row_attr, decided, row_decide, after_found, row_after, take_found, row_take, row_cut, row_ready, row_close, marked, row_mark}
+use Rattle.shfl_laws.proofs.Rows.{on, row_pick}
 use Rattle.shfl_line.specs.declared.events.LineEvent.TheVariants.{Pick as PickEvent}
-use Rattle.shfl_line.specs.Steps.{Admits, IsInRound, MayDetach}
-use Rattle.shfl_line.specs.declared.events.LineEvent.{LineEvent}
-use Rattle.shfl_line.specs.declared.events.LineEvent.TheVariants as event
+use Rattle.shfl_line.specs.Steps.{Admits}
 use Rattle.shfl_line.proofs.Chain
 use Rattle.shfl_laws.proofs.Order
 use Rattle.shfl_line.proofs.Marks
 use Rattle.shfl_laws.proofs.Quiet.{Quiet}
-use Rattle.shfl_laws.proofs.Relink.{relinked, relink-follows, relink-order, relink-grouping}
+use Rattle.shfl_laws.proofs.Relink.{relink-follows, relink-order, relink-grouping}
 
 abbrev pub picked : Line → ℕ → Line
 picked s c = record s { line = without c s.line; hand = Some c }

@@ -1,17 +1,16 @@
 -- A pass goes on in its place, awake, and at most the lock word is written: everything is kept but what the row must say.
-use Rattle.std.proofs.Common.{◌≡◌, ◌≢◌, ℕ, suc, ◌<◌, Bool, true, false, List, refl, sym, ap, ◌∙◌, subst, arith}
+use Rattle.std.proofs.Common.{◌≡◌, ◌≢◌, ℕ, ◌<◌, Bool, true, false, List, refl, sym, ◌∙◌}
 use Rattle.shfl_line.specs.declared.events.Mode.{Mode}
 use Rattle.shfl_line.specs.Line.{Line, mark_of}
 use Rattle.shfl_line.specs.Words.{link_word}
 use Rattle.shfl_line.specs.Passes.{updated, IsLastMarked}
-use Rattle.shfl_core.specs.declared.phase.Phase.TheVariants.{Begin, Give, Swap}
+use Rattle.shfl_core.specs.declared.phase.Phase.TheVariants.{Begin, Give}
 use Rattle.shfl_core.specs.declared.phase.Nap.TheVariants.{Awake}
 use Rattle.shfl_core.specs.declared.phase.PassState.{PassState}
-use Rattle.shfl_core.specs.Phases.{is_round, is_queued, is_fore, knows}
+use Rattle.shfl_core.specs.Phases.{is_round, knows}
 use Rattle.shfl_core.specs.View.{View}
 use Rattle.shfl_core.specs.Order.{Round}
 use Rattle.shfl_core.specs.Holding.{Holding}
-use Rattle.shfl_core.specs.Owed.{Owed}
 use Rattle.shfl_core.specs.Lawful.{Terms, count, Agrees}
 use Rattle.shfl_laws.proofs.Quiet.{Quiet, moved, quiet-order, quiet-grouping}
 use Rattle.shfl_laws.proofs.Registered.{Registers, registered-set}

@@ -1,5 +1,5 @@
 -- The modes and the registers that speak of words, where one pass changes.
-use Rattle.std.proofs.Common.{◌≡◌, ◌≢◌, ℕ, suc, Bool, true, false, refl, sym, ap, ◌∙◌, subst}
+use Rattle.std.proofs.Common.{◌≡◌, ◌≢◌, ℕ, suc, true, false, sym, ap, ◌∙◌, subst}
 use Rattle.shfl_line.specs.declared.events.Form.{Form}
 use Rattle.shfl_line.specs.declared.events.Mode.TheVariants.{Write, Read}
 use Rattle.shfl_line.specs.Words.{held_of, readers_of}

@@ -1,22 +1,19 @@
 -- Rows that write one next word, and leave each pass in its place.
-use Rattle.std.proofs.Common.{◌≡◌, ◌≢◌, ℕ, zero, suc, ◌+◌, ◌<◌, ◌≤◌, ◌⊎◌, List, [], ◌∷◌, ◌++◌, Bool, true, false, cond, ◌==◌, ◌||◌, refl, sym, ap, ◌∙◌, inl, inr, ⊎_elim, subst, arith}
-use Rattle.std.specs.Prelude.{Option, Some, None}
-use Rattle.std.proofs.lemmas.Bool.Decides.{nat_tests, eqb_tells}
-use Rattle.shfl_line.specs.Line.{Line, mark_of, active_shuffler, idle_shuffler, is_write, writer_count, reader_count}
+use Rattle.std.proofs.Common.{◌≡◌, ◌≢◌, ℕ, suc, ◌+◌, ◌<◌, List, true, false, cond, ◌==◌, refl, sym, ap, ◌∙◌, arith}
+use Rattle.std.specs.Prelude.{Option, None}
+use Rattle.shfl_line.specs.Line.{Line, mark_of, active_shuffler, idle_shuffler}
 use Rattle.shfl_line.specs.Words.{link_word}
 use Rattle.shfl_line.specs.declared.events.Role.{Role}
-use Rattle.shfl_core.specs.declared.phase.Phase.{Phase}
-use Rattle.shfl_core.specs.declared.phase.Phase.TheVariants.{Swap, Ready, Begin, Give}
-use Rattle.shfl_line.specs.Passes.{updated, times, first, last, Chain, EachPair, end, without, put_after, put_behind, follower_after, follower, last_marked, MarkedFirst, StopsAt, IsLastMarked}
-use Rattle.shfl_line.specs.declared.words.NodeState.{NodeState}
+use Rattle.shfl_core.specs.declared.phase.Phase.TheVariants.{Swap, Begin, Give}
+use Rattle.shfl_line.specs.Passes.{updated, times, first, last, EachPair, MarkedFirst, IsLastMarked}
 use Rattle.shfl_core.specs.declared.phase.PassState.{PassState}
-use Rattle.shfl_core.specs.Phases.{is_round, is_queued, is_fore, is_linking, has_hand, knows, is_holding, is_backing}
+use Rattle.shfl_core.specs.Phases.{is_round, is_queued, is_linking, knows}
 use Rattle.shfl_core.specs.View.{View}
-use Rattle.shfl_core.specs.Order.{Order as Ordered, Round, Follows, Walks, Fronted, Stands, Clean, awake}
+use Rattle.shfl_core.specs.Order.{Order as Ordered, Round, Follows, Walks}
 use Rattle.shfl_core.specs.Grouping.{Grouping}
 use Rattle.shfl_line.proofs.Chain
 use Rattle.shfl_laws.proofs.Order
-use Rattle.shfl_laws.proofs.Quiet.{Quiet, quiet-order, quiet-queued, quiet-linking, quiet-fronted}
+use Rattle.shfl_laws.proofs.Quiet.{Quiet, quiet-queued, quiet-linking, quiet-fronted}
 
 abbrev pub relinked : View → ℕ → ℕ → ℕ → PassState → View
 relinked w i u p v = record w { next = updated w.next i u; pass = updated w.pass p v }

@@ -1,30 +1,21 @@
 -- The laws of a round's steps that only read.
-use Rattle.std.proofs.Common.{◌≡◌, ◌≢◌, ℕ, zero, suc, ◌+◌, ◌*◌, ◌<◌, ◌≤◌, ◌⊎◌, ◌==◌, Bool, true, false, cond, List, [], ◌∷◌, length, set, refl, sym, ap, ◌∙◌, inl, inr, ⊎_elim, subst, arith}
+use Rattle.std.proofs.Common.{◌≡◌, ◌≢◌, ℕ, zero, suc, ◌+◌, ◌<◌, ◌==◌, Bool, true, false, cond, List, ◌∷◌, refl, sym, ap, ◌∙◌, inr, ⊎_elim, subst, arith}
 use Rattle.std.proofs.lemmas.Bool.Decides.{nat_tests}
-use Rattle.shfl_line.specs.declared.events.LineEvent.TheVariants.{Nothing}
 use Rattle.shfl_line.specs.Line.{Line, mark_of}
 use Rattle.shfl_line.specs.Words.{link_word}
-use Rattle.shfl_line.specs.Passes.{times, Chain, EachPair, end, MarkedFirst, StopsAt, IsLastMarked}
+use Rattle.shfl_line.specs.Passes.{times, EachPair, MarkedFirst, StopsAt, IsLastMarked}
 use Rattle.shfl_line.proofs.Chain
 use Rattle.shfl_core.specs.declared.phase.Phase.{Phase}
-use Rattle.shfl_core.specs.declared.phase.Phase.TheVariants.{Next, Tail, Attr, Decide, After, Pick, Mark, Give}
-use Rattle.shfl_core.specs.declared.phase.Registers.{Registers as Regs}
-use Rattle.shfl_core.specs.declared.phase.Nap.TheVariants.{Awake}
+use Rattle.shfl_core.specs.declared.phase.Phase.TheVariants.{Next, Tail, Attr, Decide, After, Mark, Give}
 use Rattle.shfl_core.specs.declared.phase.PassState.{PassState}
-use Rattle.shfl_core.specs.declared.words.Word.TheVariants.{Lock, Tail as TailWord, Next as NextOf, State as StateOf, Attr as AttrOf}
-use Rattle.shfl_core.specs.Words.{look, index, wide, site}
-use Rattle.shfl_core.specs.Take.{to, next_found, after_found, decided, stops}
-use Rattle.shfl_core.specs.Plan.{plan_at}
-use Rattle.shfl_core.specs.Worlds.{World, known}
-use Rattle.shfl_core.specs.Phases.{is_round, is_queued, has_hand, tail_to_pick, attr_to_pick, next_to_place, tail_to_decide, after_to_place, decide_to_pick}
-use Rattle.shfl_core.specs.View.{View, view}
+use Rattle.shfl_core.specs.Take.{to, after_found, stops}
+use Rattle.shfl_core.specs.Phases.{is_round, tail_to_pick}
+use Rattle.shfl_core.specs.View.{View}
 use Rattle.shfl_core.specs.Order.{Order as Ordered, Round, Follows}
 use Rattle.shfl_core.specs.Grouping.{Grouping}
-use Rattle.shfl_core.specs.Lawful.{Terms, count, Lawful, Advances, LawOf}
 use Rattle.shfl_laws.proofs.Order
-use Rattle.shfl_laws.proofs.Advance.{at-phase}
-use Rattle.shfl_laws.proofs.Loads.{Rounded, give, next-round}
-use Rattle.shfl_laws.proofs.RoundLoads.{Stays, round-load}
+use Rattle.shfl_laws.proofs.Loads.{Rounded, give}
+use Rattle.shfl_laws.proofs.RoundLoads.{Stays}
 
 -- the candidate of a round stands in the line, behind the batch
 pub record Candidate (w : View) (s : Line) (q : PassState) : Type 0 where

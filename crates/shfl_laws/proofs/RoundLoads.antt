@@ -1,35 +1,23 @@
 -- The steps of a round that only read.
-use Rattle.std.proofs.Common.{◌≡◌, ◌≢◌, ℕ, zero, suc, ◌+◌, ◌*◌, ◌<◌, ◌≤◌, ◌⊎◌, ◌==◌, Bool, true, false, cond, List, [], ◌∷◌, length, set, refl, sym, ap, ◌∙◌, inl, inr, ⊎_elim, subst, arith}
-use Rattle.std.proofs.lemmas.Bool.Decides.{nat_tests}
+use Rattle.std.proofs.Common.{◌≡◌, ◌≢◌, ℕ, ◌<◌, true, false, length, set, sym, ◌∙◌, subst, arith}
 use Rattle.shfl_line.specs.declared.events.LineEvent.TheVariants.{Nothing}
-use Rattle.shfl_line.specs.declared.events.Mode.TheVariants.{Write}
 use Rattle.shfl_line.specs.Line.{Line, mark_of}
-use Rattle.shfl_line.specs.Words.{link_word}
-use Rattle.shfl_line.specs.Passes.{updated, times, Chain, EachPair, end, MarkedFirst, StopsAt, IsLastMarked}
-use Rattle.shfl_line.proofs.Chain
-use Rattle.shfl_core.specs.declared.phase.Phase.{Phase}
-use Rattle.shfl_core.specs.declared.phase.Phase.TheVariants.{Idle, Next, Tail, Attr, Decide, After, Pick, Mark, Give, Swap, Ready, Begin, Late, WriteGrab, Grab}
-use Rattle.shfl_core.specs.declared.phase.Registers.{Registers as Regs}
+use Rattle.shfl_line.specs.Passes.{IsLastMarked}
+use Rattle.shfl_core.specs.declared.phase.Phase.TheVariants.{Idle, Give, Swap, Ready, Begin, Late, WriteGrab, Grab}
 use Rattle.shfl_core.specs.declared.phase.Nap.TheVariants.{Awake}
 use Rattle.shfl_core.specs.declared.phase.PassState.{PassState}
 use Rattle.shfl_core.specs.declared.words.Word.{Word}
 use Rattle.shfl_core.specs.Words.{look, index, wide}
-use Rattle.shfl_core.specs.Take.{to, next_found, after_found, decided, stops}
-use Rattle.shfl_core.specs.Plan.{plan_at, shares}
 use Rattle.shfl_core.specs.Worlds.{World, known}
-use Rattle.shfl_core.specs.Phases.{is_round, is_queued, is_fore, is_linking, knows, is_holding, is_backing, is_writing, is_reading, has_hand, decide_to_pick, tail_to_pick, attr_to_pick, next_to_place, tail_to_decide, after_to_place}
+use Rattle.shfl_core.specs.Phases.{is_round, is_queued, is_fore, is_linking, knows, is_holding, is_writing, is_reading, decide_to_pick}
 use Rattle.shfl_core.specs.View.{View, view}
-use Rattle.shfl_core.specs.Order.{Order as Ordered, Round, Follows}
 use Rattle.shfl_core.specs.Grouping.{Grouping}
-use Rattle.shfl_core.specs.Holding.{Holding, backs, Registered}
-use Rattle.shfl_core.specs.Lawful.{Terms, count, Agrees, Lawful, Advances, LawOf}
-use Rattle.shfl_laws.proofs.Order
-use Rattle.shfl_laws.proofs.Quiet.{Quiet, moved}
+use Rattle.shfl_core.specs.Holding.{backs, Registered}
+use Rattle.shfl_core.specs.Lawful.{Terms, count, Lawful, Advances}
 use Rattle.shfl_laws.proofs.QuietAgrees.{GoesOn, quiet-agrees}
-use Rattle.shfl_laws.proofs.Advance.{at-phase, advance-load, below-count}
-use Rattle.shfl_laws.proofs.Frame.{passed}
+use Rattle.shfl_laws.proofs.Advance.{advance-load, below-count}
 use Rattle.shfl_laws.proofs.Holding.{stay}
-use Rattle.shfl_laws.proofs.Loads.{Rounded, give, next-round}
+use Rattle.shfl_laws.proofs.Loads.{Rounded}
 
 -- the pass stays in its round
 pub record Stays (q v : PassState) : Type 0 where

@@ -1,8 +1,7 @@
 -- The laws of a round's reading steps, over words.
-use Rattle.std.proofs.Common.{◌≡◌, ◌≢◌, ℕ, zero, suc, ◌+◌, ◌*◌, ◌<◌, ◌≤◌, ◌==◌, Bool, true, false, cond, List, length, set, refl, sym, ap, ◌∙◌, subst, arith}
+use Rattle.std.proofs.Common.{◌≡◌, ◌≢◌, ℕ, zero, suc, ◌+◌, ◌*◌, ◌<◌, ◌==◌, Bool, true, false, cond, length, set, refl, ap, arith}
 use Rattle.shfl_line.specs.declared.events.LineEvent.TheVariants.{Nothing}
-use Rattle.shfl_core.specs.declared.phase.Phase.{Phase}
-use Rattle.shfl_core.specs.declared.phase.Phase.TheVariants.{Next, Tail, Attr, Decide, After, Pick, Mark, Give}
+use Rattle.shfl_core.specs.declared.phase.Phase.TheVariants.{Next, Tail, Attr, Decide, After, Mark, Give}
 use Rattle.shfl_core.specs.declared.phase.Nap.TheVariants.{Awake}
 use Rattle.shfl_core.specs.declared.phase.PassState.{PassState}
 use Rattle.shfl_core.specs.declared.words.Word.{Word}
@@ -11,7 +10,7 @@ use Rattle.shfl_core.specs.Words.{look, index, wide}
 use Rattle.shfl_core.specs.Take.{to, next_found, after_found, decided, stops}
 use Rattle.shfl_core.specs.Worlds.{World, known}
 use Rattle.shfl_core.specs.Phases.{is_round, decide_to_pick, tail_to_pick}
-use Rattle.shfl_core.specs.View.{View, view}
+use Rattle.shfl_core.specs.View.{view}
 use Rattle.shfl_core.specs.Lawful.{Terms, count, Lawful, Advances, LawOf}
 use Rattle.shfl_laws.proofs.Advance.{at-phase}
 use Rattle.shfl_laws.proofs.Loads.{Rounded, give, next-round}
@@ -41,13 +40,13 @@ module _ (t : Terms) (w : World) (p : ℕ) (ok : Lawful t w) (below : p < length
   rounded : is_round q.phase ≡ true → Rounded (view w) ok.shown q
   rounded h = ok.agrees.order.round p h
 
-  prev-there : is_round q.phase ≡ true → q.reg.prev < count t
+  pub prev-there : is_round q.phase ≡ true → q.reg.prev < count t
   prev-there h = ok.of_passes.line q.reg.prev (rounded h).prev_in
 
   here : is_round q.phase ≡ true → tail_to_pick q.phase ≡ true → Candidate (view w) ok.shown q
   here h k = candidate t.rules.limit (view w) ok.shown ok.giver p ok.agrees.order ok.agrees.grouping h k
 
-  cand-there : is_round q.phase ≡ true → tail_to_pick q.phase ≡ true → q.reg.cand < count t
+  pub cand-there : is_round q.phase ≡ true → tail_to_pick q.phase ≡ true → q.reg.cand < count t
   cand-there h k = ok.of_passes.line q.reg.cand (here h k).inside
 
   own-there : p < count t

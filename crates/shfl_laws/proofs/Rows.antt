@@ -1,11 +1,9 @@
 -- What each row does to a world as it is read.
 use Rattle.std.specs.Prelude.{ℕ, suc, ◌+◌, Bool, true, cond, ◌==◌, nat_lt}
 use Rattle.shfl_line.specs.Passes.{updated}
-use Rattle.shfl_line.specs.declared.words.NodeState.{NodeState}
 use Rattle.shfl_core.specs.declared.phase.Phase.{Phase}
 use Rattle.shfl_core.specs.declared.phase.Phase.TheVariants.{Look, Aim, Place, Mark, Decide, Attr, Give, Open, Cut, Late, Held, Peek, Next}
 use Rattle.shfl_core.specs.declared.phase.Nap.{Nap}
-use Rattle.shfl_core.specs.declared.phase.Nap.TheVariants.{Awake}
 use Rattle.shfl_core.specs.declared.phase.PassState.{PassState}
 use Rattle.shfl_core.specs.View.{View}
 use Rattle.shfl_core.specs.Take as T

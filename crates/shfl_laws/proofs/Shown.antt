@@ -1,21 +1,16 @@
 -- A world shows one line.
-use Rattle.std.proofs.Common.{◌≡◌, ◌≢◌, ℕ, zero, suc, ◌+◌, ◌<◌, ◌≤◌, ◌⊎◌, List, [], ◌∷◌, ◌++◌, Bool, true, false, cond, ◌==◌, refl, sym, ap, ◌∙◌, inl, inr, ⊎_elim, subst, arith}
-use Rattle.std.specs.Prelude.{Option, Some, None}
-use Rattle.std.proofs.lemmas.Bool.Decides.{nat_tests, eqb_tells}
-use Rattle.shfl_line.specs.Line.{Line, mark_of, active_shuffler, idle_shuffler, is_write, writer_count, reader_count}
-use Rattle.shfl_line.specs.Words.{link_word}
+use Rattle.std.proofs.Common.{◌≡◌, ℕ, zero, suc, ◌<◌, ◌≤◌, List, [], ◌∷◌, Bool, true, false, refl, sym, ap, ◌∙◌, subst, arith}
+use Rattle.std.proofs.lemmas.Bool.Decides.{nat_tests}
+use Rattle.shfl_line.specs.Line.{Line}
 use Rattle.shfl_core.specs.declared.phase.Phase.{Phase}
-use Rattle.shfl_core.specs.declared.phase.Phase.TheVariants.{Link, Swap, Ready}
-use Rattle.shfl_line.specs.Passes.{updated, times, first, last, Chain, EachPair, end, without, put_after, put_behind, follower_after, follower, last_marked, MarkedFirst, StopsAt, IsLastMarked}
-use Rattle.shfl_line.specs.declared.words.NodeState.{NodeState}
-use Rattle.shfl_core.specs.declared.phase.PassState.{PassState}
-use Rattle.shfl_core.specs.Phases.{is_round, is_queued, is_fore, is_linking, has_hand, knows, is_holding, is_backing}
+use Rattle.shfl_core.specs.declared.phase.Phase.TheVariants.{Link}
+use Rattle.shfl_line.specs.Passes.{times, first, Chain, end, follower_after}
+use Rattle.shfl_core.specs.Phases.{is_linking}
 use Rattle.shfl_core.specs.View.{View}
-use Rattle.shfl_core.specs.Order.{Order as Ordered, Round, Follows, Walks, Fronted, Stands, Clean, awake}
+use Rattle.shfl_core.specs.Order.{Order as Ordered, Follows}
 use Rattle.shfl_core.specs.Grouping.{Grouping}
 use Rattle.shfl_line.proofs.Chain
 use Rattle.shfl_laws.proofs.Order
-use Rattle.shfl_line.proofs.Marks
 use Rattle.shfl_laws.proofs.Leave
 
 -- the pass at Ready is one

@@ -1,16 +1,14 @@
 -- A step of parking: only park states, announcements and wakeup words change.
-use Rattle.std.proofs.Common.{◌≡◌, ◌≢◌, ℕ, suc, ◌<◌, List, [], ◌∷◌, Bool, true, false, refl, sym, ap, ◌∙◌, subst}
+use Rattle.std.proofs.Common.{◌≡◌, ℕ, List, [], ◌∷◌, Bool, refl, sym, ap, ◌∙◌, subst}
 use Rattle.shfl_line.specs.declared.events.Form.{Form}
 use Rattle.shfl_line.specs.declared.events.Mode.{Mode}
-use Rattle.shfl_line.specs.declared.words.NodeState.{NodeState}
 use Rattle.shfl_line.specs.Line.{Line}
 use Rattle.shfl_line.specs.Words.{state_of}
-use Rattle.shfl_line.specs.Passes.{updated, Chain}
+use Rattle.shfl_line.specs.Passes.{updated}
 use Rattle.shfl_line.proofs.Chain
 use Rattle.shfl_core.specs.declared.phase.Nap.{Nap}
-use Rattle.shfl_core.specs.declared.phase.PassState.{PassState}
 use Rattle.shfl_core.specs.View.{View}
-use Rattle.shfl_core.specs.Order.{Order as Ordered, Round, Follows, Walks}
+use Rattle.shfl_core.specs.Order.{Order as Ordered, Follows, Walks}
 use Rattle.shfl_core.specs.Grouping.{Grouping}
 use Rattle.shfl_core.specs.Holding.{Holding, Registered}
 use Rattle.shfl_core.specs.Owed.{Owed}
@@ -91,7 +89,7 @@ parked_at w p y = updated (λ q. (w.node q).parked) p y
 nap-path : (w : View) (p : ℕ) (x : Nap) (q : ℕ) → record (w.pass q) { nap = naps_at w p x q } ≡ updated w.pass p (record (w.pass p) { nap = x }) q
 nap-path w p x q = Chain.by_eq q p
     (λ e. subst (λ z. record (w.pass z) { nap = naps_at w p x z } ≡ updated w.pass p (record (w.pass p) { nap = x }) z) (sym e)
-        (ap (λ (y : Nap). record (w.pass p) { nap = y }) (Chain.updated-same (λ z. (w.pass z).nap) p x) ∙ sym (Chain.updated-same w.pass p (record (w.pass p) { nap = x }))))
+    (ap (λ (y : Nap). record (w.pass p) { nap = y }) (Chain.updated-same (λ z. (w.pass z).nap) p x) ∙ sym (Chain.updated-same w.pass p (record (w.pass p) { nap = x }))))
     (λ n. ap (λ (y : Nap). record (w.pass q) { nap = y }) (Chain.updated-else (λ z. (w.pass z).nap) p q x n) ∙ sym (Chain.updated-else w.pass p q (record (w.pass p) { nap = x }) n))
 
 -- the pass writes its own state word, or the wakeup word of a pass
@@ -102,11 +100,18 @@ slept-state w p n x y e = λ j. record w { node = λ q. nodes q j; pass = λ q. 
     nodes : (q : ℕ) → record (w.node q) { parked = parked_at w p y q } ≡ updated w.node p (state_of n) q
     nodes q = Chain.by_eq q p
         (λ i. subst (λ z. record (w.node z) { parked = parked_at w p y z } ≡ updated w.node p (state_of n) z) (sym i)
-            (ap (λ (b : Bool). record (w.node p) { parked = b }) (Chain.updated-same (λ z. (w.node z).parked) p y) ∙ (sym e ∙ sym (Chain.updated-same w.node p (state_of n)))))
+        (ap (λ (b : Bool). record (w.node p) { parked = b }) (Chain.updated-same (λ z. (w.node z).parked) p y) ∙ (sym e ∙ sym (Chain.updated-same w.node p (state_of n)))))
         (λ m. ap (λ (b : Bool). record (w.node q) { parked = b }) (Chain.updated-else (λ z. (w.node z).parked) p q y m) ∙ sym (Chain.updated-else w.node p q (state_of n) m))
 
 pub slept-bell : (w : View) (p i n : ℕ) (x : Nap) → slept w (naps_at w p x) (parked_at w p (w.node p).parked) (updated w.bell i n) ≡ written_bell w i n p (record (w.pass p) { nap = x })
 slept-bell w p i n x = λ j. record w { node = λ q. nodes q j; bell = updated w.bell i n; pass = λ q. nap-path w p x q j }
+  where
+    nodes : (q : ℕ) → record (w.node q) { parked = parked_at w p (w.node p).parked q } ≡ w.node q
+    nodes q = ap (λ (b : Bool). record (w.node q) { parked = b }) (Chain.updated-all (λ z b. b ≡ (w.node z).parked) (λ z. (w.node z).parked) p (w.node p).parked refl (λ z n. refl) q)
+
+-- the pass writes no word
+pub slept-pass : (w : View) (p : ℕ) (x : Nap) → slept w (naps_at w p x) (parked_at w p (w.node p).parked) w.bell ≡ record w { pass = updated w.pass p (record (w.pass p) { nap = x }) }
+slept-pass w p x = λ j. record w { node = λ q. nodes q j; pass = λ q. nap-path w p x q j }
   where
     nodes : (q : ℕ) → record (w.node q) { parked = parked_at w p (w.node p).parked q } ≡ w.node q
     nodes q = ap (λ (b : Bool). record (w.node q) { parked = b }) (Chain.updated-all (λ z b. b ≡ (w.node z).parked) (λ z. (w.node z).parked) p (w.node p).parked refl (λ z n. refl) q)

@@ -44,28 +44,28 @@ join-kept limit n p s e below w h =
     }
 
 -- the first of a line, and what is behind it
-tail-of : (p : ℕ) (line : List ℕ) → first line ≡ suc p → (xs : List ℕ) × (line ≡ p ∷ xs)
+pub tail-of : (p : ℕ) (line : List ℕ) → first line ≡ suc p → (xs : List ℕ) × (line ≡ p ∷ xs)
 tail-of p [] e = absurd (omega arith)
 tail-of p (x ∷ xs) e = (xs, ap (λ y. y ∷ xs) (omega arith))
 
-first-out : (p : ℕ) (xs line : List ℕ) → line ≡ p ∷ xs → times p line ≤ 1 → times p xs ≡ 0
+pub first-out : (p : ℕ) (xs line : List ℕ) → line ≡ p ∷ xs → times p line ≤ 1 → times p xs ≡ 0
 first-out p xs line e o = let c : times p line ≡ times p (p ∷ xs) = ap (times p) e in grind (arith, nat_tests)
 
-role-left : (p q : ℕ) (r : Role) → idle_shuffler (role_without p r) ≡ suc q → (idle_shuffler r ≡ suc q) × (q ≢ p)
+pub role-left : (p q : ℕ) (r : Role) → idle_shuffler (role_without p r) ≡ suc q → (idle_shuffler r ≡ suc q) × (q ≢ p)
 role-left p q r e = by (idle_shuffler r == suc p) refl e
   where
     by : (b : Bool) → (idle_shuffler r == suc p) ≡ b → idle_shuffler (cond b Nobody r) ≡ suc q → (idle_shuffler r ≡ suc q) × (q ≢ p)
     by true h e = absurd (omega arith)
     by false h e = (e, λ i. grind (arith, nat_tests))
 
-role-walks : (p q : ℕ) (r : Role) → active_shuffler (role_without p r) ≡ suc q → active_shuffler r ≡ suc q
+pub role-walks : (p q : ℕ) (r : Role) → active_shuffler (role_without p r) ≡ suc q → active_shuffler r ≡ suc q
 role-walks p q r e = by (idle_shuffler r == suc p) e
   where
     by : (b : Bool) → active_shuffler (cond b Nobody r) ≡ suc q → active_shuffler r ≡ suc q
     by true e = absurd (omega arith)
     by false e = e
 
-role-calm : (p : ℕ) (r : Role) → active_shuffler (role_without p r) ≡ 0 → active_shuffler r ≡ 0
+pub role-calm : (p : ℕ) (r : Role) → active_shuffler (role_without p r) ≡ 0 → active_shuffler r ≡ 0
 role-calm p Nobody e = refl
 role-calm p (Idle q) e = refl
 role-calm p (Walk q) e = absurd (grind (arith, nat_tests))

@@ -189,18 +189,18 @@ fn policies_answer_by_the_socket_or_always_alike(rt: HostRuntime) {
 struct Recorder {
     answers: Vec<Answer>,
     lost: bool,
-    open: bool,
+    asking: bool,
 }
 
 impl Chooser for Recorder {
     ghost home = { λ _. [] };
 
-    ghost in_round = { λ s. s.open };
+    ghost in_round = { λ s. s.asking };
 
     ghost told = { λ s. if s.lost then None else Some s.answers.items };
 
     fn begin<Rt: Wait>(&mut self, _rt: &Rt) {
-        self.open = true;
+        self.asking = true;
     }
 
     fn skip(&mut self, anchor: &Attr, batch: u16) -> bool {
@@ -232,7 +232,7 @@ impl Chooser for Recorder {
     }
 
     fn end(&mut self) {
-        self.open = false;
+        self.asking = false;
     }
 }
 
@@ -241,7 +241,7 @@ fn a_policy_tells_its_answers(rt: HostRuntime) -> Result<(), Fail> {
     let mut policy = Recorder {
         answers: Vec::new(rt.alloc()),
         lost: false,
-        open: false,
+        asking: false,
     };
     let here = Attr::unpack(1);
     policy.begin(&rt);
@@ -249,6 +249,6 @@ fn a_policy_tells_its_answers(rt: HostRuntime) -> Result<(), Fail> {
     assert_eq!(rt; policy.should(&here, &here, 2), true);
     policy.end();
     assert_eq!(rt; policy.answers.len(), 2);
-    assert_eq!(rt; policy.open, false);
+    assert_eq!(rt; policy.asking, false);
     Ok(())
 }

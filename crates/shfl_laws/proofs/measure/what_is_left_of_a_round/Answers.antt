@@ -1,0 +1,5 @@
+use Rattle.shfl_laws.proofs.MeasureRounds.{own-lowers, others-keep, begins-bounded}
+use Rattle.shfl_laws.proofs.measure.what_is_left_of_a_round.Goals as goal
+
+pub returns : goal.returns
+returns c = record { own = own-lowers; others = others-keep; begins = begins-bounded }

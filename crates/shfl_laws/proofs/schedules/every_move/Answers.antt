@@ -1,0 +1,6 @@
+use Rattle.shfl_laws.proofs.Laws.{laws}
+use Rattle.shfl_laws.proofs.MoveLaws.{move-law}
+use Rattle.shfl_laws.proofs.schedules.every_move.Goals as goal
+
+pub returns : goal.returns
+returns c = record { law = λ t m. move-law t (laws t) m }

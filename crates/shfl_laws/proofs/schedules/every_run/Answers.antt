@@ -1,0 +1,6 @@
+use Rattle.shfl_laws.proofs.Laws.{laws}
+use Rattle.shfl_laws.proofs.MoveLaws.{run-law}
+use Rattle.shfl_laws.proofs.schedules.every_run.Goals as goal
+
+pub returns : goal.returns
+returns c = record { law = run-law laws }

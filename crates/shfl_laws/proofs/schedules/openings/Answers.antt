@@ -1,0 +1,5 @@
+use Rattle.shfl_laws.proofs.Opens.{opening-law}
+use Rattle.shfl_laws.proofs.schedules.openings.Goals as goal
+
+pub returns : goal.returns
+returns c = record { law = opening-law }

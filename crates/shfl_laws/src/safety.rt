@@ -1,0 +1,17 @@
+//! What the laws say in plain words. The functions do nothing when they run: their contracts are the theorems.
+ghost use Rattle.shfl_laws.specs.Theorem.{HeadlineLaw, ShowsWellFormed, ShowsOne, RunHeadline};
+ghost use Rattle.shfl_laws.specs.Facts.{FactsLaw};
+
+/// In every lawful world one writer holds the lock, or readers alone, or nobody; every queued waiter stands once in the
+/// line or is the one detached, and nobody else does; one pass at most shuffles; the batch is a prefix within the limit.
+pub fn a_lawful_world_in_plain_words()
+    ensures headline { HeadlineLaw }
+    ensures well_formed { ShowsWellFormed }
+    ensures one { ShowsOne }
+    ensures facts { FactsLaw }
+{}
+
+/// The same after any schedule from the opening, whatever the policies answer.
+pub fn every_run_is_safe()
+    ensures headline { RunHeadline }
+{}
