@@ -9,6 +9,8 @@ ghost use Rattle.shfl_park.specs.Parking as parking;
 ghost use Rattle.shfl_park.specs.Parking.{parked, Spins};
 
 mod steps;
+#[cfg(test)]
+mod tests;
 
 use crate::steps::{cleared, is_awake, nap_after, nap_plan, nap_take, with_spin};
 use shfl_core::{Access, Ask, Nap, Phase, Registers, Waiter, Watch};
@@ -16,6 +18,7 @@ use shfl_line::Mode;
 use std::marker::Model;
 
 /// The waiter `inner`, with the steps of parking.
+#[derive(Drop)]
 pub struct Parked<W: Waiter> {
     inner: W,
     nap: Nap,
