@@ -40,20 +40,20 @@ plain_bytes x h w = refl
 half_facts : (p : Profile) (bytes : List ℕ) (count slot : ℕ) → is_second_half bytes slot ≡ true → Facts p bytes count slot (half_in (raw_at bytes slot))
 half_facts p bytes count slot h =
     cond_both ((r.op == 0) && (r.dst == 0) && (r.src == 0) && is_zero r.off) _ _ (Facts p bytes count slot) (λ e.
-        let three = and_parts ((r.op == 0) && (r.dst == 0) && (r.src == 0)) (is_zero r.off) e in
-        let two = and_parts ((r.op == 0) && (r.dst == 0)) (r.src == 0) three.0 in
-        let one = and_parts (r.op == 0) (r.dst == 0) two.0 in
-        record {
-          half = sym h;
-          wide = sym (half-step bytes slot ∙ rw h refl);
-          fields = tt;
-          owned = old_form p insn.Half refl;
-          not_last = λ w. absurd (false≢true w);
-          no_half_target = λ off j. absurd (cc);
-          half_fields = λ _. same_raw r 0 0 0 (pos 0) r.imm (sym (eqb-true r.op 0 one.0)) (sym (eqb-true r.dst 0 one.1)) (sym (eqb-true r.src 0 two.1)) (zero_is r.off three.1) refl;
-          plain_bytes = λ f _. absurd (true≢false f);
-          wide_bytes = λ w. absurd (false≢true w);
-        }) (λ _. tt)
+    let three = and_parts ((r.op == 0) && (r.dst == 0) && (r.src == 0)) (is_zero r.off) e in
+    let two = and_parts ((r.op == 0) && (r.dst == 0)) (r.src == 0) three.0 in
+    let one = and_parts (r.op == 0) (r.dst == 0) two.0 in
+    record {
+      half = sym h;
+      wide = sym (half-step bytes slot ∙ rw h refl);
+      fields = tt;
+      owned = old_form p insn.Half refl;
+      not_last = λ w. absurd (false≢true w);
+      no_half_target = λ off j. absurd (cc);
+      half_fields = λ _. same_raw r 0 0 0 (pos 0) r.imm (sym (eqb-true r.op 0 one.0)) (sym (eqb-true r.dst 0 one.1)) (sym (eqb-true r.src 0 two.1)) (zero_is r.off three.1) refl;
+      plain_bytes = λ f _. absurd (true≢false f);
+      wide_bytes = λ w. absurd (false≢true w);
+    }) (λ _. tt)
   where
     r : Raw
     r = raw_at bytes slot
@@ -70,10 +70,13 @@ wide_facts p bytes count slot small h e =
   where
     r : Raw
     r = raw_at bytes slot
+
     x : Insn
     x = insn.Wide r.dst r.imm (raw_at bytes (slot + 1)).imm
+
     same : ((r.src == 0) ≡ true) × (is_zero r.off ≡ true) → raw 0x18 r.dst 0 (pos 0) r.imm ≡ r
     same zeros = same_raw r 0x18 r.dst 0 (pos 0) r.imm (sym (eqb-true r.op 0x18 e)) refl (sym (eqb-true r.src 0 zeros.0)) (zero_is r.off zeros.1) refl
+
     whole : nat_le r.dst 9 ≡ true → ((r.src == 0) ≡ true) × (is_zero r.off ≡ true) → (last : Bool) → (slot + 1 == count) ≡ last → Facts p bytes count slot (unless last x)
     whole dst zeros true is_last = tt
     whole dst zeros false is_last = record {

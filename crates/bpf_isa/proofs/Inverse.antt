@@ -81,9 +81,9 @@ pub operand_sound : (p : Profile) (r : Raw) (reserved : Bool) (f : Operand → I
 operand_sound p r reserved f in_register in_slot =
     cond_both (takes_register r) _ _ (λ (m : Result Operand SlotFault). Sound p r (m >>= λ src. Ok (f src)))
     (λ t. checked_bind_sound p r (nat_le r.dst 9 && nat_le r.src 9) (reserved && is_zero r.imm) (operand.Reg r.src) (λ src. Ok (f src)) (λ registers zeros.
-        in_register t (both_in r registers).0 (both_in r registers).1 (and_parts reserved (is_zero r.imm) zeros).0 (zero_is r.imm (and_parts reserved (is_zero r.imm) zeros).1)))
+    in_register t (both_in r registers).0 (both_in r registers).1 (and_parts reserved (is_zero r.imm) zeros).0 (zero_is r.imm (and_parts reserved (is_zero r.imm) zeros).1)))
     (λ t. checked_bind_sound p r (nat_le r.dst 9) (reserved && (r.src == 0)) (operand.Imm r.imm) (λ src. Ok (f src)) (λ registers zeros.
-        in_slot t (leb-true r.dst 9 registers) (and_parts reserved (r.src == 0) zeros).0 (sym (eqb-true r.src 0 (and_parts reserved (r.src == 0) zeros).1))))
+    in_slot t (leb-true r.dst 9 registers) (and_parts reserved (r.src == 0) zeros).0 (sym (eqb-true r.src 0 (and_parts reserved (r.src == 0) zeros).1))))
 
 -- an instruction of profile one is one of both
 pub old_form : (p : Profile) (x : Insn) → has profile.One x ≡ true → has p x ≡ true
@@ -99,18 +99,18 @@ jump_sound p w r within class = found_sound p r (condition_of (r.op / 16)) _ (λ
     let code : condition_code c ≡ r.op / 16 = condition_code-condition_of (r.op / 16) c (omega (arith, within.op)) e in
     operand_sound p r true (λ src. insn.Jump w c r.dst src r.off)
     (λ t dst src _ imm. record {
-        same = same_raw r (16 * condition_code c + 8 + jump_class w) r.dst r.src r.off (pos 0) (omega (arith, code, class, bit_set r.op t)) refl refl refl imm;
-        fields = (dst, src, within.off);
-        owned = old_form p (insn.Jump w c r.dst (operand.Reg r.src) r.off) refl;
-        no_half = refl;
-        no_wide = refl;
+      same = same_raw r (16 * condition_code c + jump_class w + 8) r.dst r.src r.off (pos 0) (omega (arith, code, class, bit_set r.op t)) refl refl refl imm;
+      fields = (dst, src, within.off);
+      owned = old_form p (insn.Jump w c r.dst (operand.Reg r.src) r.off) refl;
+      no_half = refl;
+      no_wide = refl;
     })
     (λ t dst _ src. record {
-        same = same_raw r (16 * condition_code c + jump_class w) r.dst 0 r.off r.imm (omega (arith, code, class, bit_clear r.op t)) refl src refl refl;
-        fields = (dst, within.imm, within.off);
-        owned = old_form p (insn.Jump w c r.dst (operand.Imm r.imm) r.off) refl;
-        no_half = refl;
-        no_wide = refl;
+      same = same_raw r (16 * condition_code c + jump_class w) r.dst 0 r.off r.imm (omega (arith, code, class, bit_clear r.op t)) refl src refl refl;
+      fields = (dst, within.imm, within.off);
+      owned = old_form p (insn.Jump w c r.dst (operand.Imm r.imm) r.off) refl;
+      no_half = refl;
+      no_wide = refl;
     }))
 
 load_row : (p : Profile) (r : Raw) → InRange r → (s : Size) → load_opcode s ≡ r.op → r.dst ≤ 9 → r.src ≤ 9 → pos 0 ≡ r.imm → Inverts p r (insn.Load s r.dst r.src r.off)

@@ -78,15 +78,15 @@ order_of_some profile.Two width.W64 true o op e code bit_is class = absurd (cc)
 neg_sound : (p : Profile) (w : Width) (r : Raw) → r.op / 16 ≡ 8 → r.op % 8 ≡ alu_class w → Sound p r (neg_in w r)
 neg_sound p w r code class =
     cond_both (takes_register r) _ _ (Sound p r) (λ _. tt) (λ t. checked_sound p r (nat_le r.dst 9) ((r.src == 0) && is_zero r.off && is_zero r.imm) (insn.Neg w r.dst) (λ registers zeros.
-        let outer = and_parts ((r.src == 0) && is_zero r.off) (is_zero r.imm) zeros in
-        let inner = and_parts (r.src == 0) (is_zero r.off) outer.0 in
-        record {
-          same = same_raw r (0x80 + alu_class w) r.dst 0 (pos 0) (pos 0) (omega (arith, bit_clear r.op t)) refl (sym (eqb-true r.src 0 inner.0)) (zero_is r.off inner.1) (zero_is r.imm outer.1);
-          fields = leb-true r.dst 9 registers;
-          owned = old_form p (insn.Neg w r.dst) refl;
-          no_half = refl;
-          no_wide = refl;
-        }))
+    let outer = and_parts ((r.src == 0) && is_zero r.off) (is_zero r.imm) zeros in
+    let inner = and_parts (r.src == 0) (is_zero r.off) outer.0 in
+    record {
+      same = same_raw r (0x80 + alu_class w) r.dst 0 (pos 0) (pos 0) (omega (arith, bit_clear r.op t)) refl (sym (eqb-true r.src 0 inner.0)) (zero_is r.off inner.1) (zero_is r.imm outer.1);
+      fields = leb-true r.dst 9 registers;
+      owned = old_form p (insn.Neg w r.dst) refl;
+      no_half = refl;
+      no_wide = refl;
+    }))
 
 swap_sound : (p : Profile) (w : Width) (r : Raw) → r.op / 16 ≡ 13 → r.op % 8 ≡ alu_class w → Sound p r (swap_in p w r)
 swap_sound p w r code class = found_sound p r (order_of p w (takes_register r)) _ (λ o e.
@@ -120,18 +120,18 @@ plain_alu_sound p w r within class = found_sound p r (alu_op (r.op / 16)) _ (λ 
     let code : alu_code op ≡ r.op / 16 = alu_code-alu_op (r.op / 16) op (omega (arith, within.op)) e in
     operand_sound p r (is_zero r.off) (λ src. insn.Alu w op r.dst src)
     (λ t dst src off imm. record {
-        same = same_raw r (16 * alu_code op + 8 + alu_class w) r.dst r.src (pos 0) (pos 0) (omega (arith, code, class, bit_set r.op t)) refl refl (zero_is r.off off) imm;
-        fields = (dst, src);
-        owned = old_form p (insn.Alu w op r.dst (operand.Reg r.src)) refl;
-        no_half = refl;
-        no_wide = refl;
+      same = same_raw r (16 * alu_code op + alu_class w + 8) r.dst r.src (pos 0) (pos 0) (omega (arith, code, class, bit_set r.op t)) refl refl (zero_is r.off off) imm;
+      fields = (dst, src);
+      owned = old_form p (insn.Alu w op r.dst (operand.Reg r.src)) refl;
+      no_half = refl;
+      no_wide = refl;
     })
     (λ t dst off src. record {
-        same = same_raw r (16 * alu_code op + alu_class w) r.dst 0 (pos 0) r.imm (omega (arith, code, class, bit_clear r.op t)) refl src (zero_is r.off off) refl;
-        fields = (dst, within.imm);
-        owned = old_form p (insn.Alu w op r.dst (operand.Imm r.imm)) refl;
-        no_half = refl;
-        no_wide = refl;
+      same = same_raw r (16 * alu_code op + alu_class w) r.dst 0 (pos 0) r.imm (omega (arith, code, class, bit_clear r.op t)) refl src (zero_is r.off off) refl;
+      fields = (dst, within.imm);
+      owned = old_form p (insn.Alu w op r.dst (operand.Imm r.imm)) refl;
+      no_half = refl;
+      no_wide = refl;
     }))
 
 alu_sound : (p : Profile) (w : Width) (r : Raw) → InRange r → r.op % 8 ≡ alu_class w → Sound p r (alu_in p w r)
@@ -140,9 +140,9 @@ alu_sound p w r within class =
     cond_both (r.op / 16 == 0x8) _ _ (Sound p r) (λ e. neg_sound p w r (eqb-true (r.op / 16) 8 e) class) (λ _.
     cond_both (r.op / 16 == 0xd) _ _ (Sound p r) (λ e. swap_sound p w r (eqb-true (r.op / 16) 13 e) class) (λ _.
     cond_both ((r.op / 16 == 0xb) && takes_register r && not (is_zero r.off)) _ _ (Sound p r) (λ e.
-        let outer = and_parts ((r.op / 16 == 0xb) && takes_register r) (not (is_zero r.off)) e in
-        let inner = and_parts (r.op / 16 == 0xb) (takes_register r) outer.0 in
-        mov_signed_sound p w r (eqb-true (r.op / 16) 11 inner.0) inner.1 class) (λ _. plain_alu_sound p w r within class)))
+    let outer = and_parts ((r.op / 16 == 0xb) && takes_register r) (not (is_zero r.off)) e in
+    let inner = and_parts (r.op / 16 == 0xb) (takes_register r) outer.0 in
+    mov_signed_sound p w r (eqb-true (r.op / 16) 11 inner.0) inner.1 class) (λ _. plain_alu_sound p w r within class)))
 
 -- what the table gives for a slot has the slot's fields
 pub insn_sound : (p : Profile) (r : Raw) → InRange r → Sound p r (insn_in p r)
@@ -159,15 +159,18 @@ insn_sound p r within =
   where
     registers : (r.dst == 0) && (r.src == 0) ≡ true → (0 ≡ r.dst) × (0 ≡ r.src)
     registers e = let both = and_parts (r.dst == 0) (r.src == 0) e in (sym (eqb-true r.dst 0 both.0), sym (eqb-true r.src 0 both.1))
+
     exit_row : ((r.dst == 0) && (r.src == 0) && is_zero r.off && is_zero r.imm) ≡ true → (r.op == 0x95) ≡ true → Inverts p r insn.Exit
     exit_row zeros e =
         let outer = and_parts ((r.dst == 0) && (r.src == 0) && is_zero r.off) (is_zero r.imm) zeros in
         let inner = and_parts ((r.dst == 0) && (r.src == 0)) (is_zero r.off) outer.0 in
         record { same = same_raw r 0x95 0 0 (pos 0) (pos 0) (sym (eqb-true r.op 0x95 e)) (registers inner.0).0 (registers inner.0).1 (zero_is r.off inner.1) (zero_is r.imm outer.1); fields = tt; owned = old_form p insn.Exit refl; no_half = refl; no_wide = refl }
+
     goto_row : ((r.dst == 0) && (r.src == 0) && is_zero r.imm) ≡ true → (r.op == 0x05) ≡ true → Inverts p r (insn.Goto r.off)
     goto_row zeros e =
         let outer = and_parts ((r.dst == 0) && (r.src == 0)) (is_zero r.imm) zeros in
         record { same = same_raw r 0x05 0 0 r.off (pos 0) (sym (eqb-true r.op 0x05 e)) (registers outer.0).0 (registers outer.0).1 refl (zero_is r.imm outer.1); fields = within.off; owned = old_form p (insn.Goto r.off) refl; no_half = refl; no_wide = refl }
+
     goto_long_row : ((r.dst == 0) && (r.src == 0) && is_zero r.off) ≡ true → (r.op == 0x06) ≡ true → Inverts p r (insn.GotoLong r.imm)
     goto_long_row zeros e =
         let outer = and_parts ((r.dst == 0) && (r.src == 0)) (is_zero r.off) zeros in

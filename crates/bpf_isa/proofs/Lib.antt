@@ -7,3 +7,8 @@ pub mod SlotBytes
 pub mod Facts
 pub mod Decoded
 pub mod RoundTrip
+pub mod TableAgain
+pub mod Raws
+pub mod EncodedAgain
+pub mod DecodedAgain
+pub mod InsnAt

@@ -43,10 +43,13 @@ encoded_from p bytes count (x ∷ xs) slot small end whole facts = step (is_seco
   where
     here : SlotFacts p bytes count slot x
     here = subst (λ (j : ℕ). SlotFacts p bytes count j x) (omega arith) (facts 0 (omega arith))
+
     fits : 8 * slot + 8 ≤ length bytes
     fits = omega arith
+
     next : slot + 1 < count → SlotFacts p bytes count (slot + 1) (insn_at (x ∷ xs) 1)
     next lt = facts 1 (omega (arith, lt))
+
     step : (half : Bool) → is_second_half bytes slot ≡ half → (wide : Bool) → is_wide x ≡ wide → encoding xs ≡ rest_at (is_second_half bytes (slot + 1)) bytes (slot + 1) → encoding (x ∷ xs) ≡ rest_at half bytes slot
     step true h w is_w others = ap (λ (front : List ℕ). front ++ encoding xs) (half_has_none x (here.half ∙ h)) ∙ others ∙ ap (λ (b : Bool). rest_at b bytes (slot + 1)) (half_after bytes slot h)
     step false h false is_w others =
@@ -92,6 +95,7 @@ decoding_is_well_formed p bytes xs small e =
     never : (b : Bool) → (b ≡ true → ⊥) → b ≡ false
     never true h = absurd (h refl)
     never false h = refl
+
     target_half : (bytes : List ℕ) (count place : ℕ) → place < count → half_at bytes count (pos place) ≡ false → is_second_half bytes place ≡ false
     target_half bytes count place lt h = ap (λ (b : Bool). b && is_second_half bytes place) (sym (lt-ltb place count lt)) ∙ h
 

@@ -1,5 +1,5 @@
 -- Decoding: the instructions of all slots, or the first fault.
-use Rattle.std.specs.Prelude.{ℕ, ℤ, pos, negsuc, zero, suc, ◌+◌, ◌/◌, ◌%◌, List, [], ◌∷◌, length, Bool, true, false, ◌&&◌, Option, Some, None, Result, Ok, Err, nat_le, nat_lt, ◌==◌, if◌then◌else◌}
+use Rattle.std.specs.Prelude.{◌≡◌, ◌*◌, ◌<◌, ℕ, ℤ, pos, negsuc, zero, suc, ◌+◌, ◌/◌, ◌%◌, List, [], ◌∷◌, length, Bool, true, false, ◌&&◌, Option, Some, None, Result, Ok, Err, nat_le, nat_lt, ◌==◌, if◌then◌else◌}
 use Rattle.bpf_isa.specs.declared.insn.Insn.{Insn}
 use Rattle.bpf_isa.specs.declared.insn.Insn.TheVariants as insn
 use Rattle.bpf_isa.specs.declared.insn.Profile.{Profile}
@@ -9,7 +9,7 @@ use Rattle.bpf_isa.specs.declared.error.IsaError.TheVariants as errors
 use Rattle.bpf_isa.specs.declared.fault.SlotFault.{SlotFault}
 use Rattle.bpf_isa.specs.declared.fault.SlotFault.TheVariants.{HalfLoad}
 use Rattle.bpf_isa.specs.Faults.{fault_at}
-use Rattle.bpf_isa.specs.Flow.{jump_offset, target}
+use Rattle.bpf_isa.specs.Flow.{insn_at, jump_offset, target}
 use Rattle.bpf_isa.specs.Slots.{raw_at, is_second_half}
 use Rattle.bpf_isa.specs.Table.{is_zero, checked, ◌>>=◌, insn_in}
 
@@ -61,3 +61,8 @@ decoding p bytes =
     else if nat_lt 0 (length bytes % 8) then Err errors.OddLength
     else if nat_lt 4096 (length bytes) then Err errors.TooLong
     else slots_from p bytes (length bytes / 8) 0 (length bytes / 8)
+
+-- each slot of the bytes has its instruction
+pub record HasSlots (p : Profile) (bytes : List ℕ) (insns : List Insn) : Type 0 where
+  pub whole : 8 * length insns ≡ length bytes
+  pub each : (slot : ℕ) → slot < length insns → slot_in p bytes (length insns) slot ≡ Ok (insn_at insns slot)

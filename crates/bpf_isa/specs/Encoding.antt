@@ -7,6 +7,7 @@ use Rattle.bpf_isa.specs.declared.insn.Cond.{Cond}
 use Rattle.bpf_isa.specs.declared.insn.Cond.TheVariants as condition
 use Rattle.bpf_isa.specs.declared.insn.Insn.{Insn}
 use Rattle.bpf_isa.specs.declared.insn.Insn.TheVariants as insn
+use Rattle.bpf_isa.specs.declared.insn.Operand.{Operand}
 use Rattle.bpf_isa.specs.declared.insn.Operand.TheVariants as operand
 use Rattle.bpf_isa.specs.declared.insn.Order.{Order}
 use Rattle.bpf_isa.specs.declared.insn.Order.TheVariants as order
@@ -75,18 +76,21 @@ swap_opcode order.Swap = 0xd7
 abbrev pub raw : ℕ → ℕ → ℕ → ℤ → ℤ → Raw
 raw op dst src off imm = record { op = op; dst = dst; src = src; off = off; imm = imm }
 
+-- the fields of a slot whose second operand is a register, which bit 3 of the opcode says, or a number
+abbrev pub operand_raw : ℕ → ℕ → Operand → ℤ → Raw
+operand_raw op dst (operand.Reg src) off = raw (op + 8) dst src off (pos 0)
+operand_raw op dst (operand.Imm imm) off = raw op dst 0 off imm
+
 -- the fields of an instruction's slot
 abbrev pub raw_of : Insn → Raw
-raw_of (insn.Alu w op dst (operand.Reg src)) = raw (16 * alu_code op + 8 + alu_class w) dst src (pos 0) (pos 0)
-raw_of (insn.Alu w op dst (operand.Imm imm)) = raw (16 * alu_code op + alu_class w) dst 0 (pos 0) imm
+raw_of (insn.Alu w op dst src) = operand_raw (16 * alu_code op + alu_class w) dst src (pos 0)
 raw_of (insn.Neg w dst) = raw (0x80 + alu_class w) dst 0 (pos 0) (pos 0)
 raw_of (insn.Load s dst src off) = raw (load_opcode s) dst src off (pos 0)
 raw_of (insn.Wide dst low high) = raw 0x18 dst 0 (pos 0) low
 raw_of insn.Half = raw 0 0 0 (pos 0) (pos 0)
 raw_of (insn.Goto off) = raw 0x05 0 0 off (pos 0)
 raw_of (insn.GotoLong off) = raw 0x06 0 0 (pos 0) off
-raw_of (insn.Jump w c dst (operand.Reg src) off) = raw (16 * condition_code c + 8 + jump_class w) dst src off (pos 0)
-raw_of (insn.Jump w c dst (operand.Imm imm) off) = raw (16 * condition_code c + jump_class w) dst 0 off imm
+raw_of (insn.Jump w c dst src off) = operand_raw (16 * condition_code c + jump_class w) dst src off
 raw_of insn.Exit = raw 0x95 0 0 (pos 0) (pos 0)
 raw_of (insn.LoadSigned s dst src off) = raw (signed_load_opcode s) dst src off (pos 0)
 raw_of (insn.MovSigned w bits dst src) = raw (0xb8 + alu_class w) dst src (pos bits) (pos 0)

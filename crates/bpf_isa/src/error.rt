@@ -1,5 +1,5 @@
 //! Why bytes are no list of instructions.
-ghost use Rattle.bpf_isa.specs.declared.error.IsaError.TheVariants.{NoMemory};
+ghost use Rattle.bpf_isa.specs.declared.error.IsaError.TheVariants as errors;
 ghost use Rattle.std.specs.Prelude.{◌≡◌};
 
 use std::alloc::{AllocError, AllocFailed};
@@ -27,6 +27,10 @@ pub enum IsaError {
     NoMemory,
 }
 
+/// Memory ran out.
+#[derive(Clone, Copy, Debug, PartialEq, Eq)]
+pub struct NoMemory;
+
 impl fmt::Display for IsaError {
     fn fmt<W: fmt::Write>(&self, f: &mut fmt::Formatter<W>) -> fmt::Result {
         match self {
@@ -45,7 +49,7 @@ impl fmt::Display for IsaError {
 impl Error for IsaError {}
 
 impl From<AllocError> for IsaError {
-    ghost from_gives = { λ _ e. e ≡ NoMemory };
+    ghost from_gives = { λ _ e. e ≡ errors.NoMemory };
 
     fn from(_: AllocError) -> Self {
         IsaError::NoMemory
@@ -53,9 +57,29 @@ impl From<AllocError> for IsaError {
 }
 
 impl<T: Drop> From<AllocFailed<T>> for IsaError {
-    ghost from_gives = { λ _ e. e ≡ NoMemory };
+    ghost from_gives = { λ _ e. e ≡ errors.NoMemory };
 
     fn from(_: AllocFailed<T>) -> Self {
         IsaError::NoMemory
+    }
+}
+
+impl fmt::Display for NoMemory {
+    fn fmt<W: fmt::Write>(&self, f: &mut fmt::Formatter<W>) -> fmt::Result {
+        f.write_str("out of memory")
+    }
+}
+
+impl Error for NoMemory {}
+
+impl From<AllocError> for NoMemory {
+    fn from(_: AllocError) -> Self {
+        NoMemory
+    }
+}
+
+impl<T: Drop> From<AllocFailed<T>> for NoMemory {
+    fn from(_: AllocFailed<T>) -> Self {
+        NoMemory
     }
 }

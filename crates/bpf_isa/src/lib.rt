@@ -2,7 +2,8 @@
 #![tactic(auto)]
 
 mod alu_table;
-mod decode;
+mod decoder;
+mod encoder;
 mod error;
 mod fault;
 mod flow;
@@ -11,8 +12,9 @@ mod operands;
 mod raw;
 mod table;
 
-pub use decode::MAX_SLOTS;
-pub use error::IsaError;
+pub use decoder::{MAX_SLOTS, decode};
+pub use encoder::encode;
+pub use error::{IsaError, NoMemory};
 pub use fault::SlotFault;
 pub use flow::target;
 pub use insn::{AluOp, Cond, Insn, Operand, Order, Profile, Size, Width};

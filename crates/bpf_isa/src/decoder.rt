@@ -2,7 +2,9 @@
 ghost use Rattle.std.specs.Prelude.{◌≡◌, ◌+◌, ◌*◌, ◌/◌, ◌<◌, ◌≤◌, ℕ, List, length, IfOk, slice_index_or, false, not, ◌&&◌, ◌==◌};
 ghost use Rattle.bpf_isa.specs.Slots.{is_second_half};
 ghost use Rattle.bpf_isa.specs.Faults.{Gives};
-ghost use Rattle.bpf_isa.specs.Decoding.{half_at, into_half, half_in, wide_in, slot_in, slots_from, decoding};
+ghost use Rattle.bpf_isa.specs.Decoding.{half_at, into_half, half_in, wide_in, slot_in, slots_from, decoding, HasSlots};
+ghost use Rattle.bpf_isa.specs.Encoding.{encoding};
+ghost use Rattle.bpf_isa.specs.WellFormed.{IsWellFormed, IsOf};
 
 use crate::error::IsaError;
 use crate::fault::SlotFault;
@@ -13,7 +15,7 @@ use crate::table::{LAST_REGISTER, insn_of};
 use std::alloc::{AllocError, Global};
 
 /// The opcode of a wide load.
-const WIDE: u8 = 0x18;
+pub const WIDE: u8 = 0x18;
 
 /// How many slots a program has at most.
 pub const MAX_SLOTS: usize = 512;
@@ -137,6 +139,7 @@ fn slots_of(
     Ok(insns)
 }
 
+/// The instructions, without the laws about them.
 fn decode_exactly(alloc: Global, profile: Profile, bytes: &[u8]) -> Result<Vec<Insn>, IsaError>
     ensures { Gives (λ v. v.items) result (decoding profile bytes.now) }
 {
@@ -151,4 +154,15 @@ fn decode_exactly(alloc: Global, profile: Profile, bytes: &[u8]) -> Result<Vec<I
     }
     let halves = second_halves(alloc, bytes, bytes.len() / SLOT_BYTES)?;
     slots_of(alloc, profile, bytes, &halves)
+}
+
+/// The instructions of the bytes, one for each slot, or the first fault: the lengths, then the first faulty slot and its first fault.
+pub fn decode(alloc: Global, profile: Profile, bytes: &[u8]) -> Result<Vec<Insn>, IsaError>
+    ensures exact { Gives (λ v. v.items) result (decoding profile bytes.now) }
+    ensures encodes { IfOk result (λ v. encoding v.items ≡ bytes.now) }
+    ensures well_formed { IfOk result (λ v. IsWellFormed v.items) }
+    ensures of_profile { IfOk result (λ v. IsOf profile v.items) }
+    ensures slots { IfOk result (λ v. HasSlots profile bytes.now v.items) }
+{
+    decode_exactly(alloc, profile, bytes)
 }

@@ -1,7 +1,7 @@
 use Rattle.std.proofs.Common.{◌≡◌, ◌∙◌, ℤ, pos, ◌+ℤ◌, ◌+◌, List, ℕ, Bool, length, ap, arith}
 use Rattle.std.proofs.lemmas.Int.{ints}
 use Rattle.bpf_isa.specs.Decoding.{half_at}
-use Rattle.bpf_isa.proofs.decode.leads_into_half.Goals as goal
+use Rattle.bpf_isa.proofs.decoder.leads_into_half.Goals as goal
 
 same-place : (bytes : List ℕ) (count : ℕ) (r : Bool) (y z : ℤ) → y ≡ z → r ≡ half_at bytes count y → r ≡ half_at bytes count z
 same-place bytes count r y z e h = h ∙ ap (λ (x : ℤ). half_at bytes count x) e

@@ -2,7 +2,7 @@ use Rattle.std.proofs.Common.{◌≡◌, Ok, Err, length, arith, ℕ, Result}
 use Rattle.bpf_isa.specs.Faults.{Fails, fault_at}
 use Rattle.bpf_isa.specs.Decoding.{slot_in, slots_from}
 use Rattle.bpf_isa.proofs.SlotLoop.{goes_on, ends, is_done, fails_at}
-use Rattle.bpf_isa.proofs.decode.slots_of.Goals as goal
+use Rattle.bpf_isa.proofs.decoder.slots_of.Goals as goal
 
 pub returns-in-Err : goal.returns-in-Err
 returns-in-Err c = rw c.at.ensures (fails_at c.loop-slot.slot c.in-Err.fault _ (ends c.loop-slot.insns.items c.args.profile c.args.bytes.now (length c.args.halves.now) c.loop-slot.slot c.in-Err.fault _ c.loop-slot-test.true c.in-Err.ensures c.loop-slot.invariant))

@@ -1,7 +1,7 @@
 use Rattle.std.proofs.Common.{◌≡◌, ◌<◌, ℕ, length, not, ◌&&◌, ◌==◌, get_or, sym, ◌∙◌, ap, arith}
 use Rattle.std.proofs.lemmas.Grind.{common_steps}
 use Rattle.bpf_isa.proofs.Halves.{half-step, half-zero}
-use Rattle.bpf_isa.proofs.decode.second_halves.Goals as goal
+use Rattle.bpf_isa.proofs.decoder.second_halves.Goals as goal
 
 pub loop-i-init : goal.loop-i-init
 loop-i-init c = record { count = grind (arith, common_steps); half = half-zero c.args.bytes.now; each = λ k lt. absurd (omega (arith, lt)) }

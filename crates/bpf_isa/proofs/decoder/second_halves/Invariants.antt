@@ -1,6 +1,6 @@
 use Rattle.std.proofs.Common.{◌≡◌, ◌<◌, ℕ, length, get_or, false}
 use Rattle.bpf_isa.specs.Slots.{is_second_half}
-use Rattle.bpf_isa.proofs.decode.second_halves.Given as goal
+use Rattle.bpf_isa.proofs.decoder.second_halves.Given as goal
 
 abbrev pub invariant-loop-i : goal.invariant-loop-i
 invariant-loop-i l = record {
