@@ -1,0 +1,3 @@
+pub mod SlotSteps
+pub mod Going
+pub mod Raws

@@ -1,0 +1,6 @@
+pub mod Arithmetic
+pub mod Operations
+pub mod Slots
+pub mod Meaning
+pub mod Instructions
+pub mod Programs
