@@ -1,0 +1,4 @@
+pub mod Filters
+pub mod KeptOnce
+pub mod LegalMerge
+pub mod Points
