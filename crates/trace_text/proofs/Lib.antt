@@ -1,2 +1,5 @@
 pub mod Shapes
 pub mod Sorting
+pub mod Verdicts
+pub mod PolicyLoop
+pub mod CallLoop

@@ -1,6 +1,6 @@
 -- Names in order: what a search among them finds, and how a loop keeps each once.
 use Rattle.std.proofs.Common.{◌≡◌, ◌≢◌, ℕ, zero, suc, ◌+◌, ◌-◌, ◌<◌, ◌≤◌, ◌⊎◌, inl, inr, List, [], ◌∷◌, ◌++◌, length, map, get_or, take, Bool, true, false, Option, Some, None, Result, Ok, Err, refl, sym, ap, ◌∙◌, subst, arith, length-append}
-use Rattle.std.specs.Prelude.{◌↔◌, All, Contains, IfOk}
+use Rattle.std.specs.Prelude.{◌↔◌, All, Contains, IfOk, OnSome}
 use Rattle.std.specs.List.{HoldsAt, AllWithin}
 use Rattle.std.specs.List.Sorted.{IsSorted, IsSortedBy, IsPermutation}
 use Rattle.std.proofs.lemmas.List.Sorted.{IsPermutation-sym, IsPermutation-map, Contains-permutation}
@@ -230,3 +230,17 @@ same-permuted now some others ks p s = same-permutation (map now some) (map now 
 pub ok_then : {V E : Type 0} (r : Result V E) (P Q : V → Type 0) → ((v : V) → P v → Q v) → IfOk r P → IfOk r Q
 ok_then (Ok v) P Q f h = f v h
 ok_then (Err e) P Q f h = tt
+
+pub ok_some : {X : Type 0} {P : Type 0} (o : Option X) (x : X) → o ≡ Some x → OnSome o P → P
+ok_some (Some y) x e h = h
+ok_some None x e h = cc
+
+pub at_holds : {X : Type 0} (bytes : X → List ℕ) (xs : List X) (k : ℕ) (n : List ℕ) → k < length xs → HoldsAt (λ y. bytes y ≡ n) xs k → get_or (map bytes xs) k [] ≡ n
+at_holds bytes [] k n lt h = absurd (omega (arith, lt))
+at_holds bytes (x ∷ xs) k n lt h = bytes_at bytes (x ∷ xs) k x lt ∙ h x
+
+pub absent-contains : {X : Type 0} (bytes : X → List ℕ) (xs : List X) (n : List ℕ) → All (λ y. bytes y ≢ n) xs → Contains (map bytes xs) n → ⊥
+absent-contains bytes [] n h (k, lt, e) = absurd (omega (arith, lt))
+absent-contains bytes (x ∷ xs) n h (k, lt, e) =
+    let inside : k < length (x ∷ xs) = omega (arith, lt, length-map (x ∷ xs) bytes) in
+    h k x inside (sym (get_or-map bytes (x ∷ xs) k x n inside) ∙ e)

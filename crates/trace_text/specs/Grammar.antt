@@ -1,7 +1,6 @@
 -- The grammar of traces: the document that bytes are, or the first bad line and the lowest fault on it.
-use Rattle.std.specs.Prelude.{◌≡◌, ℕ, ◌+◌, List, [], ◌∷◌, ◌++◌, length, Bool, not, ◌⊎◌, Option, Some, None, Result, Ok, Err, nat_le, ◌==◌, if◌then◌else◌, codes, MatchOption}
+use Rattle.std.specs.Prelude.{◌≡◌, ℕ, ◌+◌, List, [], ◌∷◌, ◌++◌, length, Bool, not, Option, Some, None, Result, Ok, Err, nat_le, ◌==◌, if◌then◌else◌, codes, MatchOption}
 use Rattle.shfl_line.specs.declared.words.Attr.{Attr}
-use Rattle.bpf_isa.specs.declared.insn.Insn.{Insn}
 use Rattle.bpf_isa.specs.declared.insn.Profile.{Profile}
 use Rattle.bpf_isa.specs.declared.insn.Profile.TheVariants as profile
 use Rattle.doc_text.specs.declared.fault.Fault.{Fault}
@@ -9,6 +8,7 @@ use Rattle.doc_text.specs.Text.{pieces, text_in}
 use Rattle.doc_text.specs.Words.{words, same}
 use Rattle.doc_text.specs.Faults.{fault, ◌>>=◌, or_fault, line_due, one_of, fixed_due, lines_from, section_from}
 use Rattle.trace_text.specs.Document.{CallLine, PolicyLine, Document}
+use Rattle.trace_text.specs.Accepted.{Judged}
 use Rattle.trace_text.specs.Lines.{profile_in, attr_in, begins, policy_in, programs_in, is_declared, call_in, is_in_range, may_do, is_full}
 
 -- ---- the first line, and in version 2 the profile line
@@ -33,7 +33,7 @@ heading_in ps = line_due 1 2 ps >>= λ first.
 
 -- A line that begins with `worker` is one, good or bad; at the first place each line is due to be one.
 -- A bad worker line is fault 3, and one more than 16 is fault 4.
-abbrev pub worker_says : List Attr → ℕ → List ℕ → Result (Option Attr) Fault
+unfoldable pub worker_says : List Attr → ℕ → List ℕ → Result (Option Attr) Fault
 worker_says before line text =
     if begins (codes "worker") (words text) then (or_fault line 3 (attr_in (words text)) >>= λ attr. if nat_le 16 (length before) then fault line 4 else Ok (Some attr))
     else if length before == 0 then fault line 3 else Ok None
@@ -49,7 +49,7 @@ workers_in line ps = section_from worker_says worker_due [] line ps
 
 -- A line other than `calls` is a policy line: bad words are fault 5, one more than 64 is fault 6, a name that was declared
 -- before is fault 7, and bad digits are fault 8. That a program isn't accepted is fault 9, which stands below.
-abbrev pub policy_says : List PolicyLine → ℕ → List ℕ → Result (Option PolicyLine) Fault
+unfoldable pub policy_says : List PolicyLine → ℕ → List ℕ → Result (Option PolicyLine) Fault
 policy_says before line text =
     if same text (codes "calls") then (if length before == 0 then fault line 5 else Ok None)
     else or_fault line 5 (policy_in (words text)) >>= λ p.
@@ -62,33 +62,20 @@ abbrev pub Then : {A B : Type 0} → Result A Fault → (A → Result B Fault �
 Then (Ok x) next read = next x read
 Then (Err e) next read = read ≡ Err e
 
-module _ (IsAccepted : List ℕ → Type 0) where
-  -- a program that is there is accepted
-  abbrev pub AcceptsProgram : Option (List ℕ) → Type 0
-  AcceptsProgram None = Unit {0}
-  AcceptsProgram (Some program) = IsAccepted program
-
-  abbrev pub AcceptsPolicy : PolicyLine → Type 0
-  AcceptsPolicy policy = AcceptsProgram policy.should × AcceptsProgram policy.skip
-
-  -- the policy's programs are accepted, and then this holds, or not, and then that
-  abbrev pub Judged : PolicyLine → Type 0 → Type 0 → Type 0
-  Judged policy this that = (AcceptsPolicy policy × this) ⊎ ((¬ (AcceptsPolicy policy)) × that)
-
-  -- The policies and the pieces from the line `calls` on, or a fault. A policy whose programs aren't both accepted is fault 9.
-  -- It is a relation, since acceptance speaks of all paths through a program.
-  unfoldable pub ReadsPolicies : List PolicyLine → ℕ → List (List ℕ) → Result (List PolicyLine × List (List ℕ)) Fault → Type 0
-  ReadsPolicies before line [] read = read ≡ fault line 5
-  ReadsPolicies before line (p ∷ ps) read =
-      Then (or_fault line 1 (text_in p) >>= policy_says before line)
-      (λ o read. MatchOption o (read ≡ Ok (before, p ∷ ps)) (λ policy. Judged policy (ReadsPolicies (before ++ policy ∷ []) (line + 1) ps read) (read ≡ fault line 9)))
-      read
+-- The policies and the pieces from the line `calls` on, or a fault. A policy whose programs aren't both accepted is fault 9.
+-- It is a relation, since acceptance speaks of all paths through a program.
+unfoldable pub ReadsPolicies : Profile → List PolicyLine → ℕ → List (List ℕ) → Result (List PolicyLine × List (List ℕ)) Fault → Type 0
+ReadsPolicies profile before line [] read = read ≡ fault line 5
+ReadsPolicies profile before line (p ∷ ps) read =
+  Then (or_fault line 1 (text_in p) >>= policy_says before line)
+    (λ o read. MatchOption o (read ≡ Ok (before, p ∷ ps)) (λ policy. Judged profile policy (ReadsPolicies profile (before ++ policy ∷ []) (line + 1) ps read) (read ≡ fault line 9)))
+    read
 
 -- ---- the calls
 
 -- Bad words are fault 10, a worker that isn't declared is fault 11, a directory or a name out of range is fault 12, an
 -- attachment that may not be is fault 13, and one more call than there is room for is fault 14.
-abbrev pub call_says : ℕ → List PolicyLine → List CallLine → ℕ → List ℕ → Result CallLine Fault
+unfoldable pub call_says : ℕ → List PolicyLine → List CallLine → ℕ → List ℕ → Result CallLine Fault
 call_says workers policies before line text =
     or_fault line 10 (call_in (words text)) >>= λ call.
     if nat_le workers call.worker then fault line 11
@@ -122,10 +109,9 @@ unfoldable pub document_in : Front → Result (List PolicyLine × List (List ℕ
 document_in f policies = policies >>= λ p. calls_in (length f.workers) p.0 (policies_line f + length p.0) p.1 >>= λ calls.
     Ok (record { version = f.version; profile = f.profile; workers = f.workers; policies = p.0; calls = calls })
 
-module _ (IsAccepted : Profile → List ℕ → Type 0) where
-  -- the document, or the fault, that the bytes are
-  abbrev pub ReadsTrace : List ℕ → Result Document Fault → Type 0
-  ReadsTrace bytes read =
-      Then (front_in (pieces bytes))
-      (λ f read. (policies : Result (List PolicyLine × List (List ℕ)) Fault) × ReadsPolicies (IsAccepted f.profile) [] (policies_line f) f.rest policies × (read ≡ document_in f policies))
-      read
+-- the document, or the fault, that the bytes are
+abbrev pub ReadsTrace : List ℕ → Result Document Fault → Type 0
+ReadsTrace bytes read =
+  Then (front_in (pieces bytes))
+    (λ f read. (policies : Result (List PolicyLine × List (List ℕ)) Fault) × ReadsPolicies f.profile [] (policies_line f) f.rest policies × (read ≡ document_in f policies))
+    read

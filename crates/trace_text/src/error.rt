@@ -75,3 +75,11 @@ impl From<Fault> for TraceError {
         }
     }
 }
+
+impl From<NoMemory> for TraceError {
+    ghost from_gives = { λ _ e. e ≡ NoMemory };
+
+    fn from(_: NoMemory) -> Self {
+        TraceError::NoMemory
+    }
+}

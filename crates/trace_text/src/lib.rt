@@ -2,9 +2,18 @@
 #![tactic(auto)]
 
 mod error;
+mod acceptance;
+mod calls;
+mod heading;
 mod names;
+mod numbering;
+mod policies;
+mod read;
 mod shape;
 mod spelled;
+mod trace;
+mod workers;
 
 pub use error::{NoMemory, TraceError};
-pub use spelled::SpelledCall;
+pub use read::read_trace;
+pub use trace::{NamedSource, Trace, TraceAct, TraceCall};

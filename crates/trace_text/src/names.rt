@@ -1,4 +1,4 @@
-ghost use Rattle.std.specs.Prelude.{◌≡◌, ◌≢◌, ◌<◌, ℕ, IfOk, length, map, All, IfSome, IfNone, IsTrue, ◌↔◌};
+ghost use Rattle.std.specs.Prelude.{◌≡◌, ◌≢◌, ◌<◌, ◌≤◌, ℕ, IfOk, length, map, All, IfSome, IfNone, IsTrue, ◌↔◌};
 ghost use Rattle.std.specs.List.{HoldsAt};
 ghost use Rattle.std.specs.List.Sorted.{IsSorted};
 ghost use Rattle.std.specs.Ordering.{nat_cmp};
@@ -25,6 +25,7 @@ fn once_each(alloc: Global, sorted: &[&[u8]]) -> Result<Vec<Vec<u8>>, NoMemory>
     ensures rising { IfOk result (λ v. AreRisingBy (λ n. n.items) v.items) }
     ensures same { IfOk result (λ v.
         SameMembers (map (λ n. n.now) sorted.now) (map (λ n. n.items) v.items)) }
+    ensures few { IfOk result (λ v. length v.items ≤ length sorted.now) }
 {
     let mut names: Vec<Vec<u8>> = Vec::new(alloc);
     for name in sorted {
@@ -40,6 +41,7 @@ pub fn distinct(alloc: Global, mut names: Vec<&[u8]>) -> Result<Vec<Vec<u8>>, No
     ensures rising { IfOk result (λ v. AreRisingBy (λ n. n.items) v.items) }
     ensures same { IfOk result (λ v.
         SameMembers (map (λ n. n.now) names.entry.items) (map (λ n. n.items) v.items)) }
+    ensures few { IfOk result (λ v. length v.items ≤ length names.entry.items) }
 {
     names.sort()?;
     once_each(alloc, names.as_slice())

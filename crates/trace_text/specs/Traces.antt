@@ -1,0 +1,51 @@
+-- A trace in memory, seen as what its text says.
+use Rattle.std.specs.Prelude.{ℕ, List, [], map, Option, Some, None, slice_index_or}
+use Rattle.std.specs.Option.{option_map}
+use Rattle.dir_table.specs.declared.calls.DirCall.{DirCall}
+use Rattle.dir_table.specs.declared.calls.DirCall.TheVariants as call
+use Rattle.trace_text.specs.declared.trace.TraceAct.{TraceAct}
+use Rattle.trace_text.specs.declared.trace.TraceAct.TheVariants as does
+use Rattle.trace_text.specs.declared.trace.TraceCall.{TraceCall}
+use Rattle.trace_text.specs.declared.trace.NamedSource.{NamedSource}
+use Rattle.trace_text.specs.declared.trace.Trace.{Trace}
+use Rattle.trace_text.specs.Document.{Act, make, drop_name, rename, find, count, next, attach, CallLine, PolicyLine, Document}
+
+-- a declared policy
+abbrev pub policy_of : NamedSource → PolicyLine
+policy_of p = record { name = p.name.items; should = p.source.should; skip = p.source.skip }
+
+-- the bytes of a name
+abbrev pub name_at : List (List ℕ) → ℕ → List ℕ
+name_at names k = slice_index_or names k []
+
+-- a call on the directory, its names spelled out
+abbrev pub dir_act : List (List ℕ) → DirCall → Act
+dir_act names (call.Make dir name) = make dir (name_at names name)
+dir_act names (call.Drop dir name) = drop_name dir (name_at names name)
+dir_act names (call.Rename dir name to_dir to_name) = rename dir (name_at names name) to_dir (name_at names to_name)
+dir_act names (call.Find dir name) = find dir (name_at names name)
+dir_act names (call.Count dir) = count dir
+dir_act names (call.Next dir after) = next dir (option_map (name_at names) after)
+
+-- what a worker does; the second list has the names of the policies
+abbrev pub act_of : List (List ℕ) → List (List ℕ) → TraceAct → Act
+act_of names policies (does.Dir c) = dir_act names c
+act_of names policies (does.Attach k) = attach (name_at policies k)
+
+abbrev pub call_of : List (List ℕ) → List (List ℕ) → TraceCall → CallLine
+call_of names policies c = record { worker = c.worker; act = act_of names policies c.act }
+
+abbrev pub names_of : Trace → List (List ℕ)
+names_of t = map (λ n. n.items) t.names.items
+
+abbrev pub policy_names_of : Trace → List (List ℕ)
+policy_names_of t = map (λ p. p.name.items) t.policies.items
+
+abbrev pub document_of : Trace → Document
+document_of t = record {
+  version = t.version;
+  profile = t.profile;
+  workers = t.workers.items;
+  policies = map policy_of t.policies.items;
+  calls = map (call_of (names_of t) (policy_names_of t)) t.calls.items;
+}
