@@ -1,5 +1,5 @@
 -- What a filter keeps of the front of a list.
-use Rattle.std.proofs.Common.{◌≡◌, ℕ, zero, suc, ◌+◌, ◌<◌, ◌≤◌, Bool, true, false, cond, List, [], ◌∷◌, ◌++◌, take, length, get_or, sym, refl, ap, ◌∙◌, arith}
+use Rattle.std.proofs.Common.{◌≡◌, ℕ, zero, suc, Bool, false, cond, List, [], ◌∷◌, take, length, sym, refl, ap, ◌∙◌, arith}
 use Rattle.std.specs.List.{filter, AllWithin}
 
 module _ {E : Type 0} (test : E → Bool) where

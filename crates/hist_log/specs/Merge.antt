@@ -40,6 +40,6 @@ module _ {E : Type 0} (receipt : E → ℕ) where
 
 -- each read is answered by the state that as many writes leave as its receipt says
 abbrev pub ReadsFit : {O C R : Type 0} → (C → List ℕ) → (R → List ℕ) → (List ℕ → Type 0)
-  → (List ℕ → List ℕ → List ℕ) → (List ℕ → List ℕ → List ℕ) → List ℕ → List (Entry O C R) → List (List (Entry O C R)) → Type 0
+    → (List ℕ → List ℕ → List ℕ) → (List ℕ → List ℕ → List ℕ) → List ℕ → List (Entry O C R) → List (List (Entry O C R)) → Type 0
 ReadsFit call reply is_read reply_at state_after state writes reads =
-  All (All (λ e. is_read (call e.call) × (reply e.reply ≡ reply_at (state_left state_after state (operations call reply (take e.receipt writes))) (call e.call)))) reads
+    All (All (λ e. is_read (call e.call) × (reply e.reply ≡ reply_at (state_left state_after state (operations call reply (take e.receipt writes))) (call e.call)))) reads

@@ -5,12 +5,13 @@ mod entry;
 mod legality;
 mod merging;
 mod object;
+#[cfg(test)]
+mod tests;
 
 pub use entry::{Entry, Receipt};
 pub use legality::legal;
 pub use merging::merge;
 pub use object::Object;
-
 use std::alloc::{AllocError, AllocFailed};
 use std::error::Error;
 use std::fmt;

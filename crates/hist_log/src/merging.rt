@@ -1,5 +1,5 @@
 //! The writes with each worker's reads put between them.
-ghost use Rattle.std.specs.Prelude.{◌≡◌, ℕ, ◌≤◌, ◌<◌, ◌+◌, ◌==◌, ◌++◌, List, map, filter, length, IfOk, OnOk, slice_index, slice_index_or, [], All};
+ghost use Rattle.std.specs.Prelude.{◌≡◌, ℕ, ◌≤◌, ◌<◌, ◌+◌, ◌==◌, ◌++◌, List, map, filter, IfOk, OnOk};
 ghost use Rattle.std.specs.List.{flat_map};
 ghost use Rattle.std.specs.List.Sorted.{IsNonDecreasingBy, IsPermutation};
 ghost use Rattle.hist_log.specs.History.{operations, IsLegal};
@@ -10,8 +10,8 @@ use crate::entry::Entry;
 use crate::object::Object;
 use std::alloc::Global;
 
-/// Puts each read after as many writes as its receipt says, reads of one point by worker and then in the worker's order.
-/// List k, from 0, has the reads of worker k.
+/// Puts each read after as many writes as its receipt says, reads of one point by worker and then
+/// in the worker's order. List k, from 0, has the reads of worker k.
 pub fn merge<O: Object>(
     alloc: Global,
     writes: &[Entry<O>],
@@ -19,15 +19,20 @@ pub fn merge<O: Object>(
 ) -> Result<Vec<Entry<O>>, NoMemory>
     requires in_order { AreInOrder (λ e. e.receipt) (map (λ v. v.items) reads.now) }
     requires within { AreWithin (λ e. e.receipt) writes.now (map (λ v. v.items) reads.now) }
-    ensures order { IfOk result (λ v. v.items ≡ merged (λ e. e.receipt) writes.now (map (λ v. v.items) reads.now)) }
-    ensures once { IfOk result (λ v. IsPermutation (writes.now ++ flat_map (λ v. v.items) reads.now) v.items) }
+    ensures order { IfOk result (λ v.
+        v.items ≡ merged (λ e. e.receipt) writes.now (map (λ v. v.items) reads.now)) }
+    ensures once { IfOk result (λ v.
+        IsPermutation (writes.now ++ flat_map (λ v. v.items) reads.now) v.items) }
 
-    // Where the writes are legal, and each read is answered by the writes before its point, the whole is legal.
-    ensures legal {
-        (state : List ℕ) → IsLegal O.reply_at O.state_after state (operations O.call_numbers O.reply_numbers writes.now)
-        → ReadsFit O.call_numbers O.reply_numbers O.reads O.reply_at O.state_after state writes.now (map (λ v. v.items) reads.now)
-        → IfOk result (λ v. IsLegal O.reply_at O.state_after state (operations O.call_numbers O.reply_numbers v.items))
-    }
+    // Where the writes are legal, and each read is answered by the writes before its point,
+    // the whole is legal.
+    ensures legal { (state : List ℕ)
+        → IsLegal O.reply_at O.state_after state
+        (operations O.call_numbers O.reply_numbers writes.now)
+        → ReadsFit O.call_numbers O.reply_numbers O.reads O.reply_at O.state_after state
+        writes.now (map (λ v. v.items) reads.now)
+        → IfOk result (λ v. IsLegal O.reply_at O.state_after state
+        (operations O.call_numbers O.reply_numbers v.items)) }
 {
     let mut merged = Vec::with_capacity(alloc, writes.len())?;
     let mut starts = vec![in alloc; 0; reads.len()]?;
@@ -48,8 +53,10 @@ fn append_reads<O: Object>(
 ) -> Result<(), NoMemory>
     requires in_order { AreInOrder (λ e. e.receipt) (map (λ v. v.items) reads.now) }
     requires starts { AllStartAt (λ e. e.receipt) point (map (λ v. v.items) reads.now) starts.old }
-    ensures appended { OnOk result (merged.new.items ≡ merged.old.items ++ reads_at (λ e. e.receipt) (map (λ v. v.items) reads.now) point) }
-    ensures starts { OnOk result (AllStartAt (λ e. e.receipt) (point + 1) (map (λ v. v.items) reads.now) starts.new) }
+    ensures appended { OnOk result (merged.new.items
+        ≡ merged.old.items ++ reads_at (λ e. e.receipt) (map (λ v. v.items) reads.now) point) }
+    ensures starts { OnOk result
+        (AllStartAt (λ e. e.receipt) (point + 1) (map (λ v. v.items) reads.now) starts.new) }
 {
     for k in 0..reads.len() {
         starts[k] = append_point(merged, &reads[k], starts[k], point)?;
@@ -66,7 +73,8 @@ fn append_point<O: Object>(
 ) -> Result<usize, NoMemory>
     requires in_order { IsNonDecreasingBy (λ e. e.receipt) reads.now }
     requires start { StartsAt (λ e. e.receipt) point reads.now start }
-    ensures appended { OnOk result (merged.new.items ≡ merged.old.items ++ filter (λ e. e.receipt == point) reads.now) }
+    ensures appended { OnOk result (merged.new.items
+        ≡ merged.old.items ++ filter (λ e. e.receipt == point) reads.now) }
     ensures end { IfOk result (λ end. StartsAt (λ e. e.receipt) (point + 1) reads.now end) }
 {
     let mut end = start;

@@ -42,28 +42,34 @@ pub trait Object {
     fn apply(&mut self, call: &Self::Call) -> Self::Reply
         requires left { 0 < spare self.old }
         requires admitted { admits (state_numbers self.old) (call_numbers call.now) }
-        ensures reply { reply_numbers result ≡ reply_at (state_numbers self.old) (call_numbers call.now) }
-        ensures state { state_numbers self.new ≡ state_after (state_numbers self.old) (call_numbers call.now) }
+        ensures reply { reply_numbers result
+            ≡ reply_at (state_numbers self.old) (call_numbers call.now) }
+        ensures state { state_numbers self.new
+            ≡ state_after (state_numbers self.old) (call_numbers call.now) }
         ensures spare { spare self.new + 1 ≡ spare self.old };
 
     /// Answers a read. Takes no memory.
     fn look(&self, call: &Self::Call) -> Self::Reply
         requires read { reads (call_numbers call.now) }
         requires admitted { admits (state_numbers self.now) (call_numbers call.now) }
-        ensures { reply_numbers result ≡ reply_at (state_numbers self.now) (call_numbers call.now) };
+        ensures { reply_numbers result
+            ≡ reply_at (state_numbers self.now) (call_numbers call.now) };
 
     /// Different calls have different numbers.
     ghost calls_differ: { (a b : Self.Call) → call_numbers a ≡ call_numbers b → a ≡ b };
 
     /// Replies are equal exactly where they have the same numbers.
-    ghost replies_differ: { (a b : Self.Reply) → IsTrue (Self.Reply.eq a b) ↔ (reply_numbers a ≡ reply_numbers b) };
+    ghost replies_differ: { (a b : Self.Reply)
+        → IsTrue (Self.Reply.eq a b) ↔ (reply_numbers a ≡ reply_numbers b) };
 
     /// Objects with the same state and as many calls left are the same.
-    ghost states_differ: { (a b : Self) → state_numbers a ≡ state_numbers b → spare a ≡ spare b → a ≡ b };
+    ghost states_differ: { (a b : Self)
+        → state_numbers a ≡ state_numbers b → spare a ≡ spare b → a ≡ b };
 
     /// A read leaves the state.
     ghost reads_leave: { (state call : List ℕ) → reads call → state_after state call ≡ state };
 
     /// No call changes which calls are admitted.
-    ghost admits_stays: { (state call other : List ℕ) → admits state other ↔ admits (state_after state call) other };
+    ghost admits_stays: { (state call other : List ℕ)
+        → admits state other ↔ admits (state_after state call) other };
 }

@@ -1,5 +1,5 @@
-use Rattle.std.proofs.Common.{◌≡◌, ℕ, ◌+◌, ◌↔◌, IsTrue, All, List, drop}
-use Rattle.hist_log.specs.History.{Operation, operations, state_left, IsLegal}
+use Rattle.std.proofs.Common.{◌≡◌, ◌+◌, ◌↔◌, IsTrue, All, drop}
+use Rattle.hist_log.specs.History.{operations, state_left, IsLegal}
 use Rattle.hist_log.proofs.legality.legal.Given as goal
 
 -- the entries so far and those that are left are legal exactly where all are, and the state is the one they leave

@@ -1,5 +1,5 @@
-use Rattle.std.proofs.Common.{◌≡◌, ◌≢◌, ℕ, ◌+◌, ◌<◌, ◌≤◌, ◌++◌, List, [], Bool, true, false, eqb, take, length, get_or, sym, refl, ap, ◌∙◌, arith, append-nil}
-use Rattle.std.specs.List.{filter, AllWithin}
+use Rattle.std.proofs.Common.{◌≢◌, ◌+◌, ◌≤◌, ◌++◌, eqb, length, get_or, sym, ap, ◌∙◌, arith, append-nil}
+use Rattle.std.specs.List.{AllWithin}
 use Rattle.std.proofs.lemmas.Bool.Decides.{nat_tests}
 use Rattle.std.proofs.lemmas.List.{get_or_default}
 use Rattle.hist_log.proofs.Filters.{filter-take_none, filter-take_all}
@@ -14,7 +14,7 @@ loop-end-init g c =
       since = omega arith;
       taken = sym (ap (λ xs. c.args.merged.now.items ++ xs)
           (filter-take_none (λ e. eqb e.receipt c.args.point) c.args.reads.now c.args.start
-            (λ k d from below. let h = start.before k d from below in grind (arith, nat_tests))) ∙ append-nil c.args.merged.now.items);
+          (λ k d from below. let h = start.before k d from below in grind (arith, nat_tests))) ∙ append-nil c.args.merged.now.items);
       before = λ k d from below. let h = start.before k d from below in omega arith;
     }
 
@@ -38,5 +38,5 @@ pub returns-else-reads-end-clause-appended : goal.returns-else-reads-end-clause-
 returns-else-reads-end-clause-appended g c =
     c.loop-end.invariant.taken
     ∙ ap (λ xs. c.args.merged.now.items ++ xs)
-      (filter-take_all (λ e. eqb e.receipt c.args.point) c.args.reads.now c.loop-end.end
-        (λ k d from below. let h = behind g c k d from below in grind (arith, nat_tests)))
+    (filter-take_all (λ e. eqb e.receipt c.args.point) c.args.reads.now c.loop-end.end
+    (λ k d from below. let h = behind g c k d from below in grind (arith, nat_tests)))

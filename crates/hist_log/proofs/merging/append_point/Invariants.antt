@@ -1,4 +1,4 @@
-use Rattle.std.proofs.Common.{◌≡◌, ℕ, ◌+◌, ◌-◌, ◌<◌, ◌≤◌, ◌++◌, eqb, take, length}
+use Rattle.std.proofs.Common.{◌≡◌, ◌+◌, ◌-◌, ◌<◌, ◌≤◌, ◌++◌, eqb, take, length}
 use Rattle.std.specs.List.{filter, AllWithin}
 use Rattle.hist_log.proofs.merging.append_point.Given as goal
 

@@ -13,8 +13,8 @@ loop-k-preserved g c =
     let k = c.loop-k.k in
     let in_range : k < length reads = omega arith in
     let here : c.deref.result.now ≡ get_or (map (λ v. v.items) reads) k [] =
-      c.deref.ensures.value ∙ ap (λ v. v.items) c.index-reads-k.is ∙ sym (get_or-map (λ v. v.items) reads k c.index-reads-k.result [] in_range) in
+    c.deref.ensures.value ∙ ap (λ v. v.items) c.index-reads-k.is ∙ sym (get_or-map (λ v. v.items) reads k c.index-reads-k.result [] in_range) in
     TakenTo-more (λ e. e.receipt) c.args.point (map (λ v. v.items) reads) c.args.merged.now.items c.loop-k.merged.items c.append_point.new.merged.items
-      c.loop-k.starts k c.in_ok-starts.field-0 c.loop-k.invariant (rw length-map in_range)
-      (c.in_ok-starts.ensures.appended ∙ ap (λ l. c.loop-k.merged.items ++ filter (λ e. eqb e.receipt c.args.point) l) here)
-      (subst (λ l. StartsAt (λ e. e.receipt) (c.args.point + 1) l c.in_ok-starts.field-0) here c.in_ok-starts.ensures.end)
+    c.loop-k.starts k c.in_ok-starts.field-0 c.loop-k.invariant (rw length-map in_range)
+    (c.in_ok-starts.ensures.appended ∙ ap (λ l. c.loop-k.merged.items ++ filter (λ e. eqb e.receipt c.args.point) l) here)
+    (subst (λ l. StartsAt (λ e. e.receipt) (c.args.point + 1) l c.in_ok-starts.field-0) here c.in_ok-starts.ensures.end)

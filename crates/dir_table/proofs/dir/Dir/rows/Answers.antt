@@ -1,0 +1,9 @@
+use Rattle.std.proofs.Common.{ap, sym, ◌∙◌}
+use Rattle.std.specs.FinMap.{entries}
+use Rattle.dir_table.specs.Names.{entries_of}
+use Rattle.dir_table.proofs.NamesKept.{entries_names}
+use Rattle.dir_table.proofs.dir.Dir.rows.Goals as goal
+
+pub returns-clause-all : goal.returns-clause-all
+returns-clause-all c =
+    ap entries_of c.deref.ensures.value ∙ sym (entries_names c.self.inside.rows.items c.self.invariant.in_order) ∙ ap (λ d. entries d.names) c.self.view_is

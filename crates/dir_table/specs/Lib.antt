@@ -1,0 +1,7 @@
+pub mod Answers
+pub mod Directory
+pub mod Meanings
+pub mod Names
+pub mod Numbers
+pub mod ObjectLaws
+pub mod Rows

@@ -1,0 +1,135 @@
+//! A directory under one caller and as an object.
+ghost use Rattle.std.specs.Prelude.{◌≡◌, ◌<◌};
+ghost use Rattle.dir_table.specs.Meanings.{IsAdmitted};
+
+use crate::{Dir, DirCall, DirReply, DirRow};
+use hist_log::{Entry, Object, legal, merge};
+use std::process::Abort;
+use std::test::Fail;
+
+// Does the call, where one is left, and compares the reply.
+fn does(rt: &impl Abort, dir: &mut Dir, call: DirCall, reply: DirReply)
+    requires { IsAdmitted dir.old.room call }
+    ensures { dir.new.room ≡ dir.old.room }
+{
+    assert!(rt; dir.spare() > 0);
+    assert_eq!(rt; dir.apply(&call), reply);
+}
+
+#[test]
+fn calls_are_answered_by_the_names_that_are_there(rt: HostRuntime) -> Result<(), Fail> {
+    let mut dir = Dir::open(rt.alloc(), 2, 10)?;
+    does(
+        &rt,
+        &mut dir,
+        DirCall::Make { dir: 0, name: 0 },
+        DirReply::Ino(1),
+    );
+    does(
+        &rt,
+        &mut dir,
+        DirCall::Make { dir: 0, name: 0 },
+        DirReply::Exists,
+    );
+    let onto_itself = DirCall::Rename {
+        dir: 0,
+        name: 0,
+        to_dir: 0,
+        to_name: 0,
+    };
+    does(&rt, &mut dir, onto_itself, DirReply::Done);
+    does(
+        &rt,
+        &mut dir,
+        DirCall::Make { dir: 1, name: 1 },
+        DirReply::Ino(2),
+    );
+    let over_the_other = DirCall::Rename {
+        dir: 0,
+        name: 0,
+        to_dir: 1,
+        to_name: 1,
+    };
+    does(&rt, &mut dir, over_the_other, DirReply::Done);
+    does(
+        &rt,
+        &mut dir,
+        DirCall::Find { dir: 1, name: 1 },
+        DirReply::Ino(1),
+    );
+    does(
+        &rt,
+        &mut dir,
+        DirCall::Find { dir: 0, name: 0 },
+        DirReply::Absent,
+    );
+    does(
+        &rt,
+        &mut dir,
+        DirCall::Count { dir: 1 },
+        DirReply::Number(1),
+    );
+    does(
+        &rt,
+        &mut dir,
+        DirCall::Next {
+            dir: 1,
+            after: None,
+        },
+        DirReply::Name(1),
+    );
+    does(
+        &rt,
+        &mut dir,
+        DirCall::Next {
+            dir: 1,
+            after: Some(1),
+        },
+        DirReply::End,
+    );
+    let row = DirRow {
+        dir: 1,
+        name: 1,
+        ino: 1,
+    };
+    assert_eq!(rt; dir.rows(), [row].as_slice());
+    Ok(())
+}
+
+#[test]
+fn a_write_is_read_back_and_merged(rt: HostRuntime) -> Result<(), Fail> {
+    let alloc = rt.alloc();
+    let mut first = Dir::open(alloc, 1, 2)?;
+    let mut second = first.copy(alloc)?;
+    let mut opening = first.copy(alloc)?;
+    let write = DirCall::Make { dir: 0, name: 0 };
+    let read = DirCall::Find { dir: 0, name: 0 };
+    let made = first.apply(&write);
+    assert_eq!(rt; made, DirReply::Ino(1));
+    assert_eq!(rt; second.apply(&write), made);
+    let found = second.look(&read);
+    assert_eq!(rt; found, DirReply::Ino(1));
+    let writes = [Entry {
+        worker: 0,
+        call: write,
+        reply: made,
+        receipt: 0,
+    }];
+    let mut none = Vec::new(alloc);
+    let mut own = Vec::new(alloc);
+    own.push(Entry {
+        worker: 1,
+        call: read,
+        reply: found,
+        receipt: 1,
+    })?;
+    let mut reads = Vec::new(alloc);
+    reads.push(none)?;
+    reads.push(own)?;
+    let merged = merge(alloc, &writes, &reads)?;
+    assert_eq!(rt; merged.len(), 2);
+    assert_eq!(rt; merged[0].receipt, 0);
+    assert_eq!(rt; merged[1].receipt, 1);
+    assert!(rt; legal(&mut opening, &merged));
+    Ok(())
+}
