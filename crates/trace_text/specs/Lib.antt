@@ -7,3 +7,4 @@ pub mod Spelled
 pub mod Names
 pub mod Traces
 pub mod Errors
+pub mod Report

@@ -1,4 +1,4 @@
-ghost use Rattle.std.specs.Prelude.{◌≡◌, ◌<◌, length, IfOk};
+ghost use Rattle.std.specs.Prelude.{◌≡◌, ◌≤◌, IfOk};
 ghost use Rattle.doc_text.specs.Text.{pieces};
 ghost use Rattle.doc_text.specs.Words.{words};
 ghost use Rattle.doc_text.specs.Faults.{Gives, one_of};
@@ -35,7 +35,8 @@ fn profile_due(bytes: &[u8]) -> Result<(Profile, &[u8]), Fault>
 /// The version and the profile of a trace, and the bytes behind its first line or lines.
 #[tactic(auto, unfolding(crate::specs::Grammar::heading_in))]
 pub fn heading_of(bytes: &[u8]) -> Result<(u8, Profile, &[u8]), Fault>
-    ensures { Gives (λ x. heading x.0 x.1 (pieces x.2.now)) result (heading_in (pieces bytes.now)) }
+    ensures exact { Gives (λ x. heading x.0 x.1 (pieces x.2.now)) result (heading_in (pieces bytes.now)) }
+    ensures known { IfOk result (λ x. x.0 ≤ 2) }
 {
     let (first, rest) = line_due(bytes, 1, 2)?;
     if is_same(first, b"syncord-trace 1") {
