@@ -3,3 +3,4 @@ pub mod Sorting
 pub mod Verdicts
 pub mod PolicyLoop
 pub mod CallLoop
+pub mod Written

@@ -48,3 +48,8 @@ trace_lines d = heading_lines d.version d.profile ++ map worker_line d.workers +
 -- the one text of a trace
 abbrev pub spelling : Document → List ℕ
 spelling d = flat_map ended (trace_lines d)
+
+-- words each behind a blank
+abbrev pub blanked : List (List ℕ) → List ℕ
+blanked [] = []
+blanked (w ∷ ws) = (32 ∷ w) ++ blanked ws

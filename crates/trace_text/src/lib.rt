@@ -12,8 +12,11 @@ mod read;
 mod shape;
 mod spelled;
 mod trace;
+mod words;
 mod workers;
+mod write;
 
 pub use error::{NoMemory, TraceError};
 pub use read::read_trace;
+pub use write::write_trace;
 pub use trace::{NamedSource, Trace, TraceAct, TraceCall};
