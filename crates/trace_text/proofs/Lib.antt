@@ -4,3 +4,4 @@ pub mod Verdicts
 pub mod PolicyLoop
 pub mod CallLoop
 pub mod Written
+pub mod Counts

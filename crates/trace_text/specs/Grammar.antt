@@ -67,7 +67,7 @@ Then (Err e) next read = read ≡ Err e
 unfoldable pub ReadsPolicies : Profile → List PolicyLine → ℕ → List (List ℕ) → Result (List PolicyLine × List (List ℕ)) Fault → Type 0
 ReadsPolicies profile before line [] read = read ≡ fault line 5
 ReadsPolicies profile before line (p ∷ ps) read =
-  Then (or_fault line 1 (text_in p) >>= policy_says before line)
+    Then (or_fault line 1 (text_in p) >>= policy_says before line)
     (λ o read. MatchOption o (read ≡ Ok (before, p ∷ ps)) (λ policy. Judged profile policy (ReadsPolicies profile (before ++ policy ∷ []) (line + 1) ps read) (read ≡ fault line 9)))
     read
 
@@ -112,6 +112,6 @@ document_in f policies = policies >>= λ p. calls_in (length f.workers) p.0 (pol
 -- the document, or the fault, that the bytes are
 abbrev pub ReadsTrace : List ℕ → Result Document Fault → Type 0
 ReadsTrace bytes read =
-  Then (front_in (pieces bytes))
+    Then (front_in (pieces bytes))
     (λ f read. (policies : Result (List PolicyLine × List (List ℕ)) Fault) × ReadsPolicies f.profile [] (policies_line f) f.rest policies × (read ≡ document_in f policies))
     read

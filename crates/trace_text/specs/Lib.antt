@@ -8,3 +8,4 @@ pub mod Names
 pub mod Traces
 pub mod Errors
 pub mod Report
+pub mod Reported

@@ -45,12 +45,12 @@ row_line names row = spaced (decimal row.0.0 ∷ name_at names row.0.1 ∷ decim
 abbrev pub attach_line : List (List ℕ) → ℕ × ℕ → List ℕ
 attach_line policies attached = spaced (decimal attached.0 ∷ name_at policies attached.1 ∷ [])
 
--- version 2 names the profile
-abbrev pub report_words : ℕ → Profile → List (List ℕ)
-report_words version profile = if version == 1 then codes "syncord-replay" ∷ codes "1" ∷ [] else codes "syncord-replay" ∷ codes "2" ∷ codes "profile" ∷ profile_word profile ∷ []
+-- the version, and in version 2 the profile
+abbrev pub version_words : ℕ → Profile → List (List ℕ)
+version_words version profile = if version == 1 then codes "1" ∷ [] else codes "2" ∷ codes "profile" ∷ profile_word profile ∷ []
 
 abbrev pub report_heading : ℕ → Profile → ℕ → ℕ → List ℕ
-report_heading version profile workers entries = spaced (report_words version profile ++ codes "workers" ∷ decimal workers ∷ codes "entries" ∷ decimal entries ∷ [])
+report_heading version profile workers entries = spaced (codes "syncord-replay" ∷ version_words version profile ++ codes "workers" ∷ decimal workers ∷ codes "entries" ∷ decimal entries ∷ [])
 
 -- a word and a number
 abbrev pub counted_line : List ℕ → ℕ → List ℕ
@@ -76,3 +76,52 @@ report_lines r =
 
 abbrev pub report : Replay → List ℕ
 report r = flat_map ended (report_lines r)
+
+-- ---- the summary
+
+-- the kinds of replies, in the order of the summary
+abbrev pub kind_of : DirReply → ℕ
+kind_of (reply.Ino number) = 0
+kind_of reply.Done = 1
+kind_of reply.Exists = 2
+kind_of reply.Absent = 3
+kind_of (reply.Number count) = 4
+kind_of (reply.Name name) = 5
+kind_of reply.End = 6
+
+-- how many replies are of the kind
+abbrev pub count_of : ℕ → List DirReply → ℕ
+count_of kind replies = count_by (λ r. kind_of r == kind) replies
+
+pub record Bulk : Type 0 where
+  pub seed : ℕ
+  pub workers : ℕ
+  pub calls : ℕ
+  pub attaches : ℕ
+  pub replies : List DirReply
+  pub left : ℕ
+
+abbrev pub totals_line : ℕ → ℕ → ℕ → ℕ → List ℕ
+totals_line seed workers calls attaches = spaced (codes "bulk" ∷ codes "seed" ∷ decimal seed ∷ codes "workers" ∷ decimal workers ∷ codes "calls" ∷ decimal calls ∷ codes "attaches" ∷ decimal attaches ∷ [])
+
+-- a word and a number, each behind a blank
+abbrev pub paired : List ℕ → ℕ → List ℕ
+paired word n = (32 ∷ word) ++ (32 ∷ decimal n)
+
+-- `ino N done N exists N absent N`
+abbrev pub changes_text : List DirReply → List ℕ
+changes_text replies = codes "ino" ++ (32 ∷ decimal (count_of 0 replies)) ++ paired (codes "done") (count_of 1 replies) ++ paired (codes "exists") (count_of 2 replies) ++ paired (codes "absent") (count_of 3 replies)
+
+-- ` number N name N end N`
+abbrev pub looks_text : List DirReply → List ℕ
+looks_text replies = paired (codes "number") (count_of 4 replies) ++ paired (codes "name") (count_of 5 replies) ++ paired (codes "end") (count_of 6 replies)
+
+-- the number of replies of each kind
+abbrev pub kinds_line : List DirReply → List ℕ
+kinds_line replies = changes_text replies ++ looks_text replies
+
+abbrev pub bulk_lines : Bulk → List (List ℕ)
+bulk_lines b = totals_line b.seed b.workers b.calls b.attaches ∷ kinds_line b.replies ∷ counted_line (codes "left") b.left ∷ []
+
+abbrev pub bulk_report : Bulk → List ℕ
+bulk_report b = flat_map ended (bulk_lines b)

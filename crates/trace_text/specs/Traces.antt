@@ -1,5 +1,5 @@
 -- A trace in memory, seen as what its text says.
-use Rattle.std.specs.Prelude.{ℕ, List, [], map, Option, Some, None, slice_index_or}
+use Rattle.std.specs.Prelude.{ℕ, Bool, true, false, List, [], map, Option, Some, None, slice_index_or}
 use Rattle.std.specs.Option.{option_map}
 use Rattle.dir_table.specs.declared.calls.DirCall.{DirCall}
 use Rattle.dir_table.specs.declared.calls.DirCall.TheVariants as call
@@ -49,3 +49,7 @@ document_of t = record {
   policies = map policy_of t.policies.items;
   calls = map (call_of (names_of t) (policy_names_of t)) t.calls.items;
 }
+
+abbrev pub is_attachment : TraceAct → Bool
+is_attachment (does.Dir c) = false
+is_attachment (does.Attach k) = true

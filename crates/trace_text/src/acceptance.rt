@@ -32,7 +32,11 @@ fn is_program(alloc: Global, profile: Profile, bytes: &[u8]) -> Result<bool, NoM
     }
 }
 
-fn accepts_program(alloc: Global, profile: Profile, program: &Option<Vec<u8>>) -> Result<bool, NoMemory>
+fn accepts_program(
+    alloc: Global,
+    profile: Profile,
+    program: &Option<Vec<u8>>,
+) -> Result<bool, NoMemory>
     ensures { IfOk result (λ yes.
         IsTrue yes ↔ AcceptsProgram profile (option_map (λ v. v.items) program.now)) }
 {

@@ -64,7 +64,11 @@ fn one_more_attach(attaches: usize, act: &SpelledAct) -> usize
     requires { attaches < 65536 }
     ensures { result ≡ attaches + (if is_attach (act_said act.now) then 1 else 0) }
 {
-    if is_attach(act) { attaches + 1 } else { attaches }
+    if is_attach(act) {
+        attaches + 1
+    } else {
+        attaches
+    }
 }
 
 // The call that a line says, where `attaches` of those before it are attachments.

@@ -29,7 +29,8 @@ fn push_names<'a>(names: &mut Vec<&'a [u8]>, act: &SpelledAct<'a>) -> Result<(),
         SpelledAct::Count { .. } => {}
         SpelledAct::Next { after: None, .. } => {}
         SpelledAct::Next {
-            after: Some(name), ..
+            after: Some(name),
+            ..
         } => names.push(*name)?,
         SpelledAct::Attach { .. } => {}
     }
@@ -37,10 +38,7 @@ fn push_names<'a>(names: &mut Vec<&'a [u8]>, act: &SpelledAct<'a>) -> Result<(),
 }
 
 /// The names of the directory in the calls, in their order.
-pub fn names_in<'a>(
-    alloc: Global,
-    calls: &[SpelledCall<'a>],
-) -> Result<Vec<&'a [u8]>, NoMemory>
+pub fn names_in<'a>(alloc: Global, calls: &[SpelledCall<'a>]) -> Result<Vec<&'a [u8]>, NoMemory>
     ensures names { IfOk result (λ v. map (λ n. n.now) v.items ≡ call_names (map call_said calls.now)) }
     ensures few { IfOk result (λ v. length v.items ≤ 2 * length calls.now) }
 {

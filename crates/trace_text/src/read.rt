@@ -31,7 +31,12 @@ pub fn read_trace(alloc: Global, bytes: &[u8]) -> Result<Trace, TraceError>
     let line = line + policies.len() as u32;
     let calls = calls_of(alloc, workers.len(), policies.as_slice(), rest, line)?;
     let names = distinct(alloc, names_in(alloc, calls.as_slice())?)?;
-    let calls = numbered(alloc, names.as_slice(), policies.as_slice(), calls.as_slice())?;
+    let calls = numbered(
+        alloc,
+        names.as_slice(),
+        policies.as_slice(),
+        calls.as_slice(),
+    )?;
     Ok(Trace {
         version,
         profile,

@@ -60,11 +60,7 @@ fn due(before: &[Attr]) -> u8
 
 /// The workers of a trace, and the bytes from the line behind them on.
 #[tactic(auto, unfolding(crate::specs::Grammar::workers_in))]
-pub fn workers_of(
-    alloc: Global,
-    bytes: &[u8],
-    first: u32,
-) -> Result<(Vec<Attr>, &[u8]), TraceError>
+pub fn workers_of(alloc: Global, bytes: &[u8], first: u32) -> Result<(Vec<Attr>, &[u8]), TraceError>
     requires { first < 4 }
     ensures exact { GivesOrWants fault_of (λ x. (x.0.items, pieces x.1.now)) result
         (workers_in first (pieces bytes.now)) }

@@ -93,11 +93,7 @@ fn push_workers(out: &mut Vec<u8>, workers: &[Attr]) -> Result<(), NoMemory>
     Ok(())
 }
 
-fn push_policies(
-    alloc: Global,
-    out: &mut Vec<u8>,
-    policies: &[NamedSource],
-) -> Result<(), NoMemory>
+fn push_policies(alloc: Global, out: &mut Vec<u8>, policies: &[NamedSource]) -> Result<(), NoMemory>
     ensures { OnOk result (out.new.items
         ≡ out.old.items ++ flat_map ended (map policy_line (map policy_of policies.now))) }
 {

@@ -11,7 +11,7 @@ loop-name-preserved c =
     record {
       keeps = elim c.if-not-ends_with.branch [
         | then-not-ends_with+in_ok-from_slice+in_ok-push w ↦ rw (w.names-is, w.in_ok-push.ensures.items) (step-new (λ n. n.items) (λ n. n.now) parts i c.loop-name.names.items _ w.in_ok-from_slice.field-0 inside w.in_ok-from_slice.ensures.items c.requires
-          (λ e. (let yes_ = (rw c.as_slice.ensures.value at c.ends_with.ensures.1) e in cc (yes_, w.if-not-ends_with.true))) c.loop-name.invariant.keeps)
+            (λ e. (let yes_ = (rw c.as_slice.ensures.value at c.ends_with.ensures.1) e in cc (yes_, w.if-not-ends_with.true))) c.loop-name.invariant.keeps)
         | else-not-ends_with w ↦ rw w.names-is (step-old (λ n. n.items) (λ n. n.now) parts i c.loop-name.names.items _ inside (rw c.as_slice.ensures.value at (c.ends_with.ensures.0 w.if-not-ends_with.false)) c.loop-name.invariant.keeps)
       ];
       few = elim c.if-not-ends_with.branch [

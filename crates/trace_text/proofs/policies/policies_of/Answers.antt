@@ -45,7 +45,7 @@ loop-rest-preserved c =
     let room = ok_some c.in_ok-policy.field-0 c.in-Some-2.policy c.in-Some-2.is c.in_ok-policy.ensures.room in
     record {
       read = λ read more. c.loop-rest.invariant.read read (reads-more c.args.profile (map policy_of c.loop-rest.policies.items) c.loop-rest.line (pieces c.loop-rest.rest.now) (pieces c.piece_at.result.1.now) c.piece_at.result.0.now c.in-Some.text.now c.piece_at.ensures.first
-        (policy_of c.in-Some-2.policy) read c.in-Some.ensures (says ∙ ap (λ (o : Option NamedSource). Ok (option_map policy_of o)) c.in-Some-2.is) (c.in_ok-accepts.ensures.0 c.if-not-branch.false) (rw (c.in_ok-push.ensures.items, map-append) at more));
+          (policy_of c.in-Some-2.policy) read c.in-Some.ensures (says ∙ ap (λ (o : Option NamedSource). Ok (option_map policy_of o)) c.in-Some-2.is) (c.in_ok-accepts.ensures.0 c.if-not-branch.false) (rw (c.in_ok-push.ensures.items, map-append) at more));
       line = omega (arith, c.in_ok-push.ensures.len);
       few = omega (arith, c.in_ok-push.ensures.len, room, c.as_slice.ensures.len);
     }
