@@ -1,10 +1,9 @@
 -- What decoding gives as a whole: so many slots, each with its instruction.
-use Rattle.std.proofs.Common.{◌≡◌, ℕ, ◌+◌, ◌*◌, ◌/◌, ◌%◌, ◌<◌, ◌≤◌, zero, suc, List, [], ◌∷◌, length, get_or, Bool, true, false, ◌==◌, nat_lt, Result, Ok, Err, refl, sym, ap, ◌∙◌, arith, subst}
-use Rattle.std.proofs.lemmas.Bool.{cond_both, eqb-true, eqb-false, ltb-false}
+use Rattle.std.proofs.Common.{◌≡◌, ℕ, ◌+◌, ◌*◌, ◌/◌, ◌%◌, ◌<◌, ◌≤◌, zero, suc, List, ◌∷◌, length, false, ◌==◌, nat_lt, Result, Ok, Err, refl, sym, ap, ◌∙◌, arith, subst}
+use Rattle.std.proofs.lemmas.Bool.{cond_both, eqb-false, ltb-false}
 use Rattle.bpf_isa.specs.declared.error.IsaError.{IsaError}
 use Rattle.bpf_isa.specs.declared.fault.SlotFault.{SlotFault}
 use Rattle.bpf_isa.specs.declared.insn.Insn.{Insn}
-use Rattle.bpf_isa.specs.declared.insn.Insn.TheVariants as insn
 use Rattle.bpf_isa.specs.declared.insn.Profile.{Profile}
 use Rattle.bpf_isa.specs.Decoding.{in_front, slot_in, slots_from, decoding}
 use Rattle.bpf_isa.specs.Flow.{insn_at}

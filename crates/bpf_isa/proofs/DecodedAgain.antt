@@ -1,27 +1,16 @@
 -- The bytes of well-formed instructions decode to them, slot after slot.
-use Rattle.std.proofs.Common.{◌≡◌, ◌≢◌, ℕ, ℤ, pos, negsuc, ◌+◌, ◌*◌, ◌/◌, ◌%◌, ◌<◌, ◌≤◌, zero, suc, List, [], ◌∷◌, ◌++◌, length, get_or, drop, Bool, true, false, not, ◌&&◌, ◌||◌, ◌==◌, nat_lt, nat_le, Option, Some, None, Result, Ok, Err, refl, sym, ap, ◌∙◌, arith, subst, FitsSigned, inl, inr}
-use Rattle.std.specs.Int.{w16, w32}
-use Rattle.std.specs.List.{flat_map}
-use Rattle.std.proofs.lemmas.Bool.{false≢true, true≢false, le-leb, lt-ltb, le-ltb, ne_eqb, or_cases, eqb-true, cases_lt}
-use Rattle.std.proofs.lemmas.Int.{ints}
-use Rattle.bpf_isa.specs.declared.error.IsaError.{IsaError}
-use Rattle.bpf_isa.specs.declared.fault.SlotFault.{SlotFault}
+use Rattle.std.proofs.Common.{◌≡◌, ◌≢◌, ℕ, ℤ, pos, negsuc, ◌+◌, ◌*◌, ◌/◌, ◌%◌, ◌<◌, ◌≤◌, suc, List, [], ◌∷◌, length, true, false, ◌==◌, nat_lt, Option, Some, None, Ok, refl, sym, ap, ◌∙◌, arith, inl, inr}
+use Rattle.std.proofs.lemmas.Bool.{false≢true, true≢false, le-leb, lt-ltb, le-ltb, ne_eqb, cases_lt}
 use Rattle.bpf_isa.specs.declared.insn.Insn.{Insn}
 use Rattle.bpf_isa.specs.declared.insn.Insn.TheVariants as insn
-use Rattle.bpf_isa.specs.declared.insn.Operand.TheVariants as operand
 use Rattle.bpf_isa.specs.declared.insn.Profile.{Profile}
-use Rattle.bpf_isa.specs.declared.insn.Width.{Width}
-use Rattle.bpf_isa.specs.declared.insn.Width.TheVariants as width
 use Rattle.bpf_isa.specs.declared.raw.Raw.{Raw}
-use Rattle.bpf_isa.specs.Decoding.{half_at, into_half, half_in, wide_in, unless, slot_in, in_front, slots_from, decoding}
-use Rattle.bpf_isa.specs.Encoding.{raw, raw_of, encoding}
+use Rattle.bpf_isa.specs.Decoding.{half_at, into_half, slot_in, slots_from, decoding}
+use Rattle.bpf_isa.specs.Encoding.{raw_of, encoding}
 use Rattle.bpf_isa.specs.Flow.{insn_at, is_half, is_wide, jump_offset, target}
-use Rattle.bpf_isa.specs.Slots.{raw_at, is_second_half, slot_bytes}
-use Rattle.bpf_isa.specs.Table.{is_zero, checked, ◌>>=◌, insn_in}
-use Rattle.bpf_isa.specs.WellFormed.{IsWellFormed, IsOf, HasFields, has, is_extended}
-use Rattle.bpf_isa.proofs.Halves.{half-step, half-zero}
-use Rattle.bpf_isa.proofs.Raws.{high_of, fields_of, raws_from, high_before, raws_at, encoding_is_slots, length-raws_from, length-slots, RawFits, raw_at-slots}
-use Rattle.bpf_isa.proofs.SlotBytes.{raw_at-op}
+use Rattle.bpf_isa.specs.Slots.{raw_at, is_second_half}
+use Rattle.bpf_isa.specs.WellFormed.{IsWellFormed, IsOf, HasFields, has}
+use Rattle.bpf_isa.proofs.Raws.{high_of, fields_of, raws_from, high_before, encoding_is_slots, length-raws_from, length-slots}
 use Rattle.bpf_isa.proofs.TableAgain.{insn_again, wide_opcode}
 use Rattle.bpf_isa.proofs.EncodedAgain.{slot_fields, halves_again}
 

@@ -1,5 +1,5 @@
 -- What is known of the instruction that decoding gives for a slot.
-use Rattle.std.proofs.Common.{◌≡◌, ◌≢◌, ℕ, ℤ, pos, ◌+◌, ◌*◌, ◌<◌, ◌≤◌, List, [], ◌∷◌, ◌++◌, length, get_or, Bool, true, false, not, ◌&&◌, ◌==◌, nat_le, Some, None, Result, Ok, Err, refl, sym, ap, ◌∙◌, arith, subst}
+use Rattle.std.proofs.Common.{◌≡◌, ◌≢◌, ℕ, ℤ, pos, ◌+◌, List, ◌++◌, Bool, true, false, ◌&&◌, ◌==◌, nat_le, Some, Result, Ok, Err, refl, sym, ap, ◌∙◌, subst}
 use Rattle.std.proofs.lemmas.Bool.{cond_both, and_parts, leb-true, eqb-true, eqb-false, false≢true, true≢false}
 use Rattle.bpf_isa.specs.declared.fault.SlotFault.{SlotFault}
 use Rattle.bpf_isa.specs.declared.insn.Insn.{Insn}
@@ -10,10 +10,11 @@ use Rattle.bpf_isa.specs.Decoding.{half_at, into_half, half_in, wide_in, unless,
 use Rattle.bpf_isa.specs.Encoding.{raw, raw_of, insn_bytes}
 use Rattle.bpf_isa.specs.Flow.{is_half, is_wide, jump_offset, target}
 use Rattle.bpf_isa.specs.Slots.{raw_at, is_second_half, slot_bytes}
-use Rattle.bpf_isa.specs.Table.{is_zero, checked, ◌>>=◌, insn_in}
+use Rattle.bpf_isa.specs.Checks.{is_zero, ◌>>=◌}
+use Rattle.bpf_isa.specs.Table.{insn_in}
 use Rattle.bpf_isa.specs.WellFormed.{HasFields, has}
 use Rattle.bpf_isa.proofs.Halves.{half-step}
-use Rattle.bpf_isa.proofs.Inverse.{InRange, Inverts, Sound, same_raw, zero_is, old_form}
+use Rattle.bpf_isa.proofs.Inverse.{Sound, same_raw, zero_is, old_form}
 use Rattle.bpf_isa.proofs.InverseTable.{insn_sound}
 use Rattle.bpf_isa.proofs.SlotBytes.{IsBytes, raw_at_in_range, raw_at-op}
 

@@ -1,29 +1,21 @@
 -- What the table gives for a slot of arithmetic, and for any slot, has the slot's fields.
-use Rattle.std.proofs.Common.{◌≡◌, ◌≢◌, ℕ, ℤ, pos, negsuc, ◌+◌, ◌*◌, ◌/◌, ◌%◌, ◌<◌, ◌≤◌, Bool, true, false, not, ◌&&◌, ◌==◌, nat_le, ◌||◌, subst, Option, Some, None, Result, Ok, Err, refl, sym, ap, ◌∙◌, arith, FitsSigned, IsTrue}
-use Rattle.std.specs.Int.{w16, w32}
-use Rattle.std.proofs.lemmas.Bool.{cond_both, and_parts, leb-true, eqb-true, eqb-false, not-true}
-use Rattle.bpf_isa.specs.declared.fault.SlotFault.{SlotFault}
-use Rattle.bpf_isa.specs.declared.fault.SlotFault.TheVariants.{Opcode, Register, Field, HalfLoad}
-use Rattle.bpf_isa.specs.declared.insn.AluOp.{AluOp}
-use Rattle.bpf_isa.specs.declared.insn.Cond.{Cond}
+use Rattle.std.proofs.Common.{◌≡◌, ℕ, ℤ, pos, negsuc, ◌+◌, ◌*◌, ◌/◌, ◌%◌, Bool, true, false, not, ◌&&◌, ◌==◌, nat_le, ◌||◌, subst, Option, Some, None, Ok, refl, sym, ap, ◌∙◌, arith}
+use Rattle.std.proofs.lemmas.Bool.{cond_both, and_parts, leb-true, eqb-true}
 use Rattle.bpf_isa.specs.declared.insn.Insn.{Insn}
 use Rattle.bpf_isa.specs.declared.insn.Insn.TheVariants as insn
-use Rattle.bpf_isa.specs.declared.insn.Operand.{Operand}
 use Rattle.bpf_isa.specs.declared.insn.Operand.TheVariants as operand
 use Rattle.bpf_isa.specs.declared.insn.Order.{Order}
 use Rattle.bpf_isa.specs.declared.insn.Order.TheVariants as order
 use Rattle.bpf_isa.specs.declared.insn.Profile.{Profile}
 use Rattle.bpf_isa.specs.declared.insn.Profile.TheVariants as profile
-use Rattle.bpf_isa.specs.declared.insn.Size.{Size}
-use Rattle.bpf_isa.specs.declared.insn.Size.TheVariants as size
 use Rattle.bpf_isa.specs.declared.insn.Width.{Width}
 use Rattle.bpf_isa.specs.declared.insn.Width.TheVariants as width
 use Rattle.bpf_isa.specs.declared.raw.Raw.{Raw}
-use Rattle.bpf_isa.specs.Encoding.{raw, raw_of, alu_code, alu_class, condition_code, jump_class, load_opcode, signed_load_opcode, swap_opcode}
-use Rattle.bpf_isa.specs.Flow.{is_half, is_wide}
-use Rattle.bpf_isa.specs.Table.{alu_op, condition_of, is_zero, checked, ◌>>=◌, found, of_bits, takes_register, operand_in, neg_in, extended_bits, mov_signed_in, order_of, swapped_bits, swap_in, alu_in, jump_in, load_of, signed_load_of, load_in, insn_in}
-use Rattle.bpf_isa.specs.WellFormed.{HasFields, HasOperand, has}
-use Rattle.bpf_isa.proofs.Codes.{alu_code-alu_op, condition_code-condition_of}
+use Rattle.bpf_isa.specs.Encoding.{alu_code, alu_class, swap_opcode}
+use Rattle.bpf_isa.specs.Checks.{is_zero, ◌>>=◌, found, of_bits, takes_register, operand_in}
+use Rattle.bpf_isa.specs.Table.{alu_op, neg_in, extended_bits, mov_signed_in, order_of, swapped_bits, swap_in, alu_in, insn_in}
+use Rattle.bpf_isa.specs.WellFormed.{has}
+use Rattle.bpf_isa.proofs.Codes.{alu_code-alu_op}
 use Rattle.bpf_isa.specs.WellFormed.{is_extended}
 use Rattle.bpf_isa.proofs.Inverse.{InRange, Inverts, Sound, same_raw, zero_is, checked_sound, found_sound, checked_bind_sound, bit_set, bit_clear, both_in, operand_sound, jump_sound, load_sound, old_form}
 

@@ -1,13 +1,13 @@
 -- What decoding gives encodes to the bytes, and is well formed.
-use Rattle.std.proofs.Common.{◌≡◌, ◌≢◌, ℕ, ℤ, pos, ◌+◌, ◌*◌, ◌<◌, ◌≤◌, zero, suc, List, [], ◌∷◌, ◌++◌, length, get_or, drop, Bool, true, false, not, ◌&&◌, ◌==◌, Some, Ok, refl, sym, ap, ◌∙◌, arith, subst, append_assoc}
-use Rattle.std.proofs.lemmas.Bool.{false≢true, true≢false, lt-ltb}
+use Rattle.std.proofs.Common.{◌≡◌, ◌≢◌, ℕ, pos, ◌+◌, ◌*◌, ◌<◌, ◌≤◌, suc, List, [], ◌∷◌, ◌++◌, length, get_or, drop, Bool, true, false, not, ◌&&◌, ◌==◌, Ok, refl, sym, ap, ◌∙◌, arith, subst, append_assoc}
+use Rattle.std.proofs.lemmas.Bool.{false≢true, lt-ltb}
 use Rattle.std.proofs.lemmas.List.{drop_all}
 use Rattle.bpf_isa.specs.declared.insn.Insn.{Insn}
 use Rattle.bpf_isa.specs.declared.insn.Insn.TheVariants as insn
 use Rattle.bpf_isa.specs.declared.insn.Profile.{Profile}
 use Rattle.bpf_isa.specs.declared.raw.Raw.{Raw}
-use Rattle.bpf_isa.specs.Decoding.{slot_in, half_at, decoding}
-use Rattle.bpf_isa.specs.Encoding.{raw, insn_bytes, encoding}
+use Rattle.bpf_isa.specs.Decoding.{half_at, decoding}
+use Rattle.bpf_isa.specs.Encoding.{insn_bytes, encoding}
 use Rattle.bpf_isa.specs.Flow.{insn_at, is_half, is_wide}
 use Rattle.bpf_isa.specs.Slots.{raw_at, is_second_half, slot_bytes}
 use Rattle.bpf_isa.specs.WellFormed.{IsWellFormed, IsOf}

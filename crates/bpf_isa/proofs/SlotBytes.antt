@@ -1,11 +1,10 @@
 -- The eight bytes of a slot and its fields.
-use Rattle.std.proofs.Common.{◌≡◌, ℕ, ◌+◌, ◌*◌, ◌/◌, ◌%◌, ◌<◌, ◌≤◌, ◌^◌, List, [], ◌∷◌, ◌++◌, length, get_or, drop, zero, suc, refl, sym, ap, ◌∙◌, arith, FitsSigned}
+use Rattle.std.proofs.Common.{◌≡◌, ℕ, ◌+◌, ◌*◌, ◌/◌, ◌%◌, ◌<◌, ◌≤◌, ◌^◌, List, [], ◌∷◌, ◌++◌, length, get_or, drop, zero, suc, refl, sym, ap, ◌∙◌, arith}
 use Rattle.std.specs.Int.{w16, w32, cast_signed, cast_unsigned, from_le_bytes, to_le_bytes}
 use Rattle.std.proofs.lemmas.Int.{of_z-to_z}
 use Rattle.std.proofs.Math.Facts.{sfits_to_z}
 use Rattle.std.proofs.lemmas.List.{get_or-drop, drop-drop, length-drop}
 use Rattle.std.proofs.lemmas.Nat.{le_bytes_2, le_bytes_4}
-use Rattle.bpf_isa.specs.declared.raw.Raw.{Raw}
 use Rattle.bpf_isa.specs.Slots.{raw_at, slot_bytes}
 use Rattle.bpf_isa.proofs.Inverse.{InRange}
 

@@ -1,5 +1,5 @@
 -- The fields of an instruction's slot are read as that instruction.
-use Rattle.std.proofs.Common.{◌≡◌, ◌≢◌, ℕ, ℤ, pos, ◌+◌, ◌*◌, ◌≤◌, Bool, true, false, not, ◌&&◌, ◌||◌, ◌==◌, nat_le, Some, Ok, refl, sym, ap, ◌∙◌, arith, subst, inl, inr}
+use Rattle.std.proofs.Common.{◌≡◌, ◌≢◌, ℕ, ℤ, pos, ◌+◌, ◌*◌, true, false, ◌||◌, ◌==◌, nat_le, Ok, refl, sym, subst, inl, inr}
 use Rattle.std.proofs.lemmas.Bool.{le-leb, false≢true, true≢false, or_cases, eqb-true}
 use Rattle.bpf_isa.specs.declared.insn.AluOp.{AluOp}
 use Rattle.bpf_isa.specs.declared.insn.AluOp.TheVariants as alu

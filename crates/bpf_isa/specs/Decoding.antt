@@ -11,7 +11,8 @@ use Rattle.bpf_isa.specs.declared.fault.SlotFault.TheVariants.{HalfLoad}
 use Rattle.bpf_isa.specs.Faults.{fault_at}
 use Rattle.bpf_isa.specs.Flow.{insn_at, jump_offset, target}
 use Rattle.bpf_isa.specs.Slots.{raw_at, is_second_half}
-use Rattle.bpf_isa.specs.Table.{is_zero, checked, ◌>>=◌, insn_in}
+use Rattle.bpf_isa.specs.Checks.{is_zero, checked, ◌>>=◌}
+use Rattle.bpf_isa.specs.Table.{insn_in}
 
 -- the place is a second half of the program
 abbrev pub half_at : List ℕ → ℕ → ℤ → Bool

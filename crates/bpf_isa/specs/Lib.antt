@@ -2,6 +2,7 @@ pub mod Operands
 pub mod Flow
 pub mod Slots
 pub mod Faults
+pub mod Checks
 pub mod Table
 pub mod Decoding
 pub mod Encoding

@@ -1,5 +1,5 @@
 -- The slots of bytes, eight bytes each, and their fields.
-use Rattle.std.specs.Prelude.{ℕ, zero, suc, ◌+◌, ◌*◌, ◌/◌, ◌%◌, List, [], ◌∷◌, ◌++◌, Bool, false, ◌&&◌, not, ◌==◌, slice_index}
+use Rattle.std.specs.Prelude.{◌≡◌, ◌<◌, length, slice_index_or, ℕ, zero, suc, ◌+◌, ◌*◌, ◌/◌, ◌%◌, List, [], ◌∷◌, ◌++◌, Bool, false, ◌&&◌, not, ◌==◌, slice_index}
 use Rattle.std.specs.Int.{w16, w32, cast_signed, cast_unsigned, from_le_bytes, to_le_bytes}
 use Rattle.bpf_isa.specs.declared.raw.Raw.{Raw}
 
@@ -17,6 +17,10 @@ raw_at bytes slot = record {
 unfoldable pub is_second_half : List ℕ → ℕ → Bool
 is_second_half bytes zero = false
 is_second_half bytes (suc slot) = not (is_second_half bytes slot) && (slice_index bytes (8 * slot) == 0x18)
+
+-- the marks are those of the second halves
+abbrev pub MarksHalves : List Bool → List ℕ → Type 0
+MarksHalves marks bytes = (slot : ℕ) → slot < length marks → slice_index_or marks slot false ≡ is_second_half bytes slot
 
 -- the eight bytes of a slot with these fields
 unfoldable pub slot_bytes : Raw → List ℕ

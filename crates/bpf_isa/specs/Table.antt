@@ -6,8 +6,6 @@ use Rattle.bpf_isa.specs.declared.insn.Cond.{Cond}
 use Rattle.bpf_isa.specs.declared.insn.Cond.TheVariants as condition
 use Rattle.bpf_isa.specs.declared.insn.Insn.{Insn}
 use Rattle.bpf_isa.specs.declared.insn.Insn.TheVariants as insn
-use Rattle.bpf_isa.specs.declared.insn.Operand.{Operand}
-use Rattle.bpf_isa.specs.declared.insn.Operand.TheVariants as operand
 use Rattle.bpf_isa.specs.declared.insn.Order.{Order}
 use Rattle.bpf_isa.specs.declared.insn.Order.TheVariants as order
 use Rattle.bpf_isa.specs.declared.insn.Profile.{Profile}
@@ -16,8 +14,9 @@ use Rattle.bpf_isa.specs.declared.insn.Size.TheVariants as size
 use Rattle.bpf_isa.specs.declared.insn.Width.{Width}
 use Rattle.bpf_isa.specs.declared.insn.Width.TheVariants as width
 use Rattle.bpf_isa.specs.declared.fault.SlotFault.{SlotFault}
-use Rattle.bpf_isa.specs.declared.fault.SlotFault.TheVariants.{Opcode, Register, Field}
+use Rattle.bpf_isa.specs.declared.fault.SlotFault.TheVariants.{Opcode}
 use Rattle.bpf_isa.specs.declared.raw.Raw.{Raw}
+use Rattle.bpf_isa.specs.Checks.{is_zero, checked, ◌>>=◌, found, of_bits, takes_register, operand_in}
 
 -- the operation in the high four bits of an arithmetic opcode
 abbrev pub alu_op : ℕ → Option AluOp
@@ -49,39 +48,6 @@ condition_of code =
     if code == 0xb then Some condition.Le else
     if code == 0xc then Some condition.Slt else
     if code == 0xd then Some condition.Sle else None
-
-abbrev pub is_zero : ℤ → Bool
-is_zero (pos n) = n == 0
-is_zero (negsuc n) = false
-
--- the value, where the used registers are 0 to 9 and the reserved fields are 0; else the first fault
-abbrev pub checked : {A : Type 0} → Bool → Bool → A → Result A SlotFault
-checked registers reserved x = if registers then (if reserved then Ok x else Err Field) else Err Register
-
-infixl 10 ◌>>=◌
-abbrev pub ◌>>=◌ : {A B : Type 0} → Result A SlotFault → (A → Result B SlotFault) → Result B SlotFault
-(Ok x) >>= f = f x
-(Err e) >>= f = Err e
-
--- what the table has, or no such opcode
-abbrev pub found : {A B : Type 0} → Option A → (A → Result B SlotFault) → Result B SlotFault
-found None f = Err Opcode
-found (Some x) f = f x
-
--- the instruction of so many bits, or a field that holds no such number
-abbrev pub of_bits : Option ℕ → (ℕ → Insn) → Result Insn SlotFault
-of_bits None f = Err Field
-of_bits (Some bits) f = Ok (f bits)
-
--- bit 3 of the opcode says that the second operand is a register
-abbrev pub takes_register : Raw → Bool
-takes_register raw = raw.op / 8 % 2 == 1
-
--- the second operand, where reserved says that the other reserved fields are 0
-abbrev pub operand_in : Raw → Bool → Result Operand SlotFault
-operand_in raw reserved =
-    if takes_register raw then checked (nat_le raw.dst 9 && nat_le raw.src 9) (reserved && is_zero raw.imm) (operand.Reg raw.src)
-    else checked (nat_le raw.dst 9) (reserved && raw.src == 0) (operand.Imm raw.imm)
 
 abbrev pub neg_in : Width → Raw → Result Insn SlotFault
 neg_in w raw =

@@ -1,6 +1,6 @@
 //! Bytes to instructions: the lengths, then slot after slot, up to the first fault.
 ghost use Rattle.std.specs.Prelude.{◌≡◌, ◌+◌, ◌*◌, ◌/◌, ◌<◌, ◌≤◌, ℕ, List, length, IfOk, slice_index_or, false, not, ◌&&◌, ◌==◌};
-ghost use Rattle.bpf_isa.specs.Slots.{is_second_half};
+ghost use Rattle.bpf_isa.specs.Slots.{is_second_half, MarksHalves};
 ghost use Rattle.bpf_isa.specs.Faults.{Gives};
 ghost use Rattle.bpf_isa.specs.Decoding.{half_at, into_half, half_in, wide_in, slot_in, slots_from, decoding, HasSlots};
 ghost use Rattle.bpf_isa.specs.Encoding.{encoding};
@@ -30,7 +30,7 @@ fn next_half(half: bool, op: u8) -> bool
 fn second_halves(alloc: Global, bytes: &[u8], count: usize) -> Result<Vec<bool>, AllocError>
     requires { 8 * count ≤ length bytes.now }
     ensures count { IfOk result (λ v. length v.items ≡ count) }
-    ensures each { IfOk result (λ v. (k : ℕ) → k < count → slice_index_or v.items k false ≡ is_second_half bytes.now k) }
+    ensures each { IfOk result (λ v. MarksHalves v.items bytes.now) }
 {
     let mut halves = Vec::with_capacity(alloc, count)?;
     let mut half = false;
@@ -42,7 +42,7 @@ fn second_halves(alloc: Global, bytes: &[u8], count: usize) -> Result<Vec<bool>,
 }
 
 fn is_half_at(halves: &[bool], place: i64) -> bool
-    ensures { (bytes : List ℕ) → ((k : ℕ) → k < length halves.now → slice_index_or halves.now k false ≡ is_second_half bytes k)
+    ensures { (bytes : List ℕ) → MarksHalves halves.now bytes
         → result ≡ half_at bytes (length halves.now) place }
 {
     place >= 0 && place < halves.len() as i64 && halves[place as usize]
@@ -51,7 +51,7 @@ fn is_half_at(halves: &[bool], place: i64) -> bool
 /// Whether the jump of a slot leads into a second half.
 fn leads_into_half(halves: &[bool], slot: usize, offset: Option<i32>) -> bool
     requires { slot < 512 }
-    ensures { (bytes : List ℕ) → ((k : ℕ) → k < length halves.now → slice_index_or halves.now k false ≡ is_second_half bytes k)
+    ensures { (bytes : List ℕ) → MarksHalves halves.now bytes
         → result ≡ into_half bytes (length halves.now) slot offset }
 {
     match offset {
@@ -100,7 +100,7 @@ fn slot_of(profile: Profile, bytes: &[u8], halves: &[bool], slot: usize) -> Resu
     requires long { 8 * length halves.now ≤ length bytes.now }
     requires within { slot < length halves.now }
     requires few { length halves.now ≤ 512 }
-    requires halves { (k : ℕ) → k < length halves.now → slice_index_or halves.now k false ≡ is_second_half bytes.now k }
+    requires halves { MarksHalves halves.now bytes.now }
     ensures { result ≡ slot_in profile bytes.now (length halves.now) slot }
 {
     let raw = raw_slot(bytes, slot);
@@ -126,8 +126,9 @@ fn slots_of(
 ) -> Result<Vec<Insn>, IsaError>
     requires long { 8 * length halves.now ≤ length bytes.now }
     requires few { length halves.now ≤ 512 }
-    requires halves { (k : ℕ) → k < length halves.now → slice_index_or halves.now k false ≡ is_second_half bytes.now k }
-    ensures { Gives (λ v. v.items) result (slots_from profile bytes.now (length halves.now) 0 (length halves.now)) }
+    requires halves { MarksHalves halves.now bytes.now }
+    ensures { Gives (λ v. v.items) result
+        (slots_from profile bytes.now (length halves.now) 0 (length halves.now)) }
 {
     let mut insns = Vec::with_capacity(alloc, halves.len())?;
     for slot in 0..halves.len() {

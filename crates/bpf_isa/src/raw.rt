@@ -1,7 +1,7 @@
 //! A slot of eight bytes: the opcode; the registers, the destination in the low four bits; the offset; the immediate number.
 ghost use Rattle.std.specs.Prelude.{◌≡◌, ◌+◌, ◌*◌, ◌≤◌, ◌<◌, ◌%◌, length};
 ghost use Rattle.bpf_isa.specs.Slots.{raw_at, slot_bytes};
-ghost use Rattle.bpf_isa.specs.Table.{is_zero, takes_register};
+ghost use Rattle.bpf_isa.specs.Checks.{is_zero, takes_register};
 
 /// How many bytes a slot has.
 pub const SLOT_BYTES: usize = 8;

@@ -1,6 +1,7 @@
 //! The table of opcodes (RFC 9669, sections 4 and 5): which instruction a slot has, or what is wrong with it.
 ghost use Rattle.std.specs.Prelude.{◌≡◌, ℕ, true};
-ghost use Rattle.bpf_isa.specs.Table.{condition_of, jump_in, checked, insn_in, operand_in, load_of, signed_load_of, load_in};
+ghost use Rattle.bpf_isa.specs.Checks.{checked, operand_in};
+ghost use Rattle.bpf_isa.specs.Table.{condition_of, jump_in, insn_in, load_of, signed_load_of, load_in};
 
 use crate::alu_table::alu;
 use crate::fault::SlotFault;

@@ -1,10 +1,9 @@
 -- The run from a slot on, one instruction at a time.
-use Rattle.std.proofs.Common.{◌≡◌, ℕ, zero, suc, ◌+◌, ◌<◌, ◌≤◌, List, [], ◌∷◌, length, get_or, drop, refl, sym, ap, ◌∙◌, arith}
+use Rattle.std.proofs.Common.{◌≡◌, ℕ, zero, suc, ◌+◌, ◌<◌, ◌≤◌, List, [], ◌∷◌, length, get_or, drop, refl, ap, ◌∙◌, arith}
 use Rattle.std.proofs.lemmas.List.{drop-drop, drop_all, at_drop_more}
 use Rattle.bpf_isa.specs.declared.insn.Insn.{Insn}
-use Rattle.bpf_run.specs.declared.flow.Flow.{Flow}
 use Rattle.bpf_run.specs.declared.flow.Flow.TheVariants.{Past, End}
-use Rattle.bpf_run.specs.Meaning.{Outcome, one_more, going}
+use Rattle.bpf_run.specs.Meaning.{one_more, going}
 use Rattle.bpf_run.specs.Instructions.{after, flow_of, running}
 
 -- passing over slots is dropping them

@@ -14,7 +14,7 @@ use Rattle.bpf_isa.specs.Flow.{is_wide}
 use Rattle.bpf_isa.specs.WellFormed.{HasFields, is_extended}
 use Rattle.bpf_run.specs.Slots.{registers_after, flow_after}
 use Rattle.bpf_run.specs.Instructions.{after, flow_of}
-use Rattle.bpf_run.specs.Programs.{slot_behind, upper_of}
+use Rattle.bpf_isa.proofs.Raws.{high_of, fields_of}
 
 -- a move that extends the sign has an offset
 extended-some : (w : Width) (bits : ℕ) → IsTrue (is_extended w bits) → (bits == 0) ≡ false
@@ -22,8 +22,8 @@ extended-some width.W32 bits h = grind (arith, nat_tests)
 extended-some width.W64 bits h = grind (arith, nat_tests)
 
 -- the slot behind a wide load has its upper number
-pub registers_after-is : (x : Insn) (before behind : ℤ) (context regs : List ℕ) → HasFields x → (is_wide x ≡ true → behind ≡ upper_of x)
-    → registers_after (slot_behind before x) behind context regs ≡ after x context regs
+pub registers_after-is : (x : Insn) (before behind : ℤ) (context regs : List ℕ) → HasFields x → (is_wide x ≡ true → behind ≡ high_of x)
+    → registers_after (fields_of before x) behind context regs ≡ after x context regs
 registers_after-is (insn.Alu width.W32 alu.Add dst (operand.Reg src)) before behind context regs fields wide = refl
 registers_after-is (insn.Alu width.W32 alu.Add dst (operand.Imm imm)) before behind context regs fields wide = refl
 registers_after-is (insn.Alu width.W32 alu.Sub dst (operand.Reg src)) before behind context regs fields wide = refl
@@ -137,7 +137,7 @@ registers_after-is (insn.Jump width.W64 condition.Sle dst (operand.Reg src) off)
 registers_after-is (insn.Jump width.W64 condition.Sle dst (operand.Imm imm) off) before behind context regs fields wide = refl
 registers_after-is insn.Exit before behind context regs fields wide = refl
 
-pub flow_after-is : (x : Insn) (before : ℤ) (regs : List ℕ) → flow_after (slot_behind before x) regs ≡ flow_of x regs
+pub flow_after-is : (x : Insn) (before : ℤ) (regs : List ℕ) → flow_after (fields_of before x) regs ≡ flow_of x regs
 flow_after-is (insn.Alu width.W32 alu.Add dst (operand.Reg src)) before regs = refl
 flow_after-is (insn.Alu width.W32 alu.Add dst (operand.Imm imm)) before regs = refl
 flow_after-is (insn.Alu width.W32 alu.Sub dst (operand.Reg src)) before regs = refl

@@ -1,7 +1,9 @@
 -- What a decoded instruction does: to the registers, and to where the run goes on.
-use Rattle.std.specs.Prelude.{ℕ, ℤ, zero, suc, List, [], ◌∷◌, slice_index, slice_set}
+use Rattle.std.specs.Prelude.{ℕ, zero, suc, Bool, List, [], ◌∷◌, slice_index, slice_set}
 use Rattle.std.specs.Int.{w8, w16, w32, w64, cast_unsigned}
 use Rattle.std.specs.Int.{Width as Bits}
+use Rattle.bpf_isa.specs.declared.insn.AluOp.{AluOp}
+use Rattle.bpf_isa.specs.declared.insn.Cond.{Cond}
 use Rattle.bpf_isa.specs.declared.insn.Width.{Width}
 use Rattle.bpf_isa.specs.declared.insn.Width.TheVariants as width
 use Rattle.bpf_isa.specs.declared.insn.Size.{Size}
@@ -36,9 +38,16 @@ abbrev pub operand_at : Bits → Operand → List ℕ → ℕ
 operand_at w (operand.Reg r) regs = register w r regs
 operand_at w (operand.Imm imm) regs = cast_unsigned w imm
 
+-- what arithmetic makes of its two operands, and whether a condition holds of them
+abbrev pub result_of : Width → AluOp → ℕ → Operand → List ℕ → ℕ
+result_of w op dst src regs = computed op (bits_of w) (register (bits_of w) dst regs) (operand_at (bits_of w) src regs)
+
+abbrev pub is_met : Width → Cond → ℕ → Operand → List ℕ → Bool
+is_met w c dst src regs = holds c (bits_of w) (register (bits_of w) dst regs) (operand_at (bits_of w) src regs)
+
 -- the registers after an instruction
 abbrev pub after : Insn → List ℕ → List ℕ → List ℕ
-after (insn.Alu w op dst src) context regs = slice_set regs dst (computed op (bits_of w) (register (bits_of w) dst regs) (operand_at (bits_of w) src regs))
+after (insn.Alu w op dst src) context regs = slice_set regs dst (result_of w op dst src regs)
 after (insn.Neg w dst) context regs = slice_set regs dst (difference (bits_of w) 0 (register (bits_of w) dst regs))
 after (insn.Load s dst src off) context regs = slice_set regs dst (loaded (bits_loaded s) (address (slice_index regs src) off) context)
 after (insn.LoadSigned s dst src off) context regs = slice_set regs dst (loaded_signed (bits_loaded s) (address (slice_index regs src) off) context)
@@ -63,7 +72,7 @@ flow_of (insn.Wide dst lower upper) regs = Past 1
 flow_of insn.Half regs = Past 0
 flow_of (insn.Goto off) regs = jumped off
 flow_of (insn.GotoLong off) regs = jumped off
-flow_of (insn.Jump w c dst src off) regs = jumped_if (holds c (bits_of w) (register (bits_of w) dst regs) (operand_at (bits_of w) src regs)) off
+flow_of (insn.Jump w c dst src off) regs = jumped_if (is_met w c dst src regs) off
 flow_of insn.Exit regs = End (slice_index regs 0)
 
 -- the instructions that remain, the first so many of them passed over

@@ -3,4 +3,4 @@ pub mod Operations
 pub mod Slots
 pub mod Meaning
 pub mod Instructions
-pub mod Programs
+pub mod Examples

@@ -1,7 +1,9 @@
 -- What raw slots compute on a context: the value of register 0 at the exit, and how many instructions are run.
 use Rattle.std.specs.Prelude.{ℕ, ℤ, pos, zero, suc, ◌+◌, ◌/◌, List, [], ◌∷◌, length}
 use Rattle.bpf_isa.specs.declared.raw.Raw.{Raw}
+use Rattle.bpf_isa.specs.declared.insn.Insn.{Insn}
 use Rattle.bpf_isa.specs.Slots.{raw_at}
+use Rattle.bpf_isa.specs.Encoding.{encoding}
 use Rattle.bpf_run.specs.declared.flow.Flow.{Flow}
 use Rattle.bpf_run.specs.declared.flow.Flow.TheVariants.{Past, End}
 use Rattle.bpf_run.specs.Slots.{registers_after, flow_after}
@@ -34,10 +36,14 @@ abbrev pub at_start : List ℕ
 at_start = 0 ∷ 0 ∷ 0 ∷ 0 ∷ 0 ∷ 0 ∷ 0 ∷ 0 ∷ 0 ∷ 0 ∷ []
 
 -- so many slots of the bytes, from this one on
-abbrev pub slots_from : List ℕ → ℕ → ℕ → List Raw
-slots_from bytes slot zero = []
-slots_from bytes slot (suc left) = raw_at bytes slot ∷ slots_from bytes (slot + 1) left
+abbrev pub raw_slots : List ℕ → ℕ → ℕ → List Raw
+raw_slots bytes slot zero = []
+raw_slots bytes slot (suc left) = raw_at bytes slot ∷ raw_slots bytes (slot + 1) left
 
--- what a program's bytes compute
-abbrev pub meaning_of_bytes : List ℕ → List ℕ → Outcome
-meaning_of_bytes bytes context = meaning 0 (slots_from bytes 0 (length bytes / 8)) context at_start
+-- what a program's bytes compute on a context
+abbrev pub outcome_of_bytes : List ℕ → List ℕ → Outcome
+outcome_of_bytes bytes context = meaning 0 (raw_slots bytes 0 (length bytes / 8)) context at_start
+
+-- what a program computes: its bytes are those that it was decoded from
+abbrev pub outcome : List Insn → List ℕ → Outcome
+outcome insns context = outcome_of_bytes (encoding insns) context

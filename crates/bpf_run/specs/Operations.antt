@@ -1,5 +1,5 @@
 -- What the named operations make of values, by RFC 9669 sections 4.1 to 5.4.
-use Rattle.std.specs.Prelude.{ℕ, ℤ, ◌+◌, ◌==◌, Bool, not, List, length, nat_lt, nat_le, slice_index, drop, if◌then◌else◌}
+use Rattle.std.specs.Prelude.{ℕ, ℤ, ◌+◌, ◌==◌, Bool, not, List, length, nat_lt, nat_le, drop, if◌then◌else◌}
 use Rattle.std.specs.Prelude.{bit_and, bit_or, bit_xor}
 use Rattle.std.specs.Int.{w8, w16, w32, w64, cast_unsigned, from_le_bytes, byte_len}
 use Rattle.std.specs.Int.{Width as Bits}

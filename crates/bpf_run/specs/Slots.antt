@@ -6,7 +6,8 @@ use Rattle.bpf_isa.specs.declared.insn.AluOp.{AluOp}
 use Rattle.bpf_isa.specs.declared.insn.Cond.{Cond}
 use Rattle.bpf_isa.specs.declared.insn.Order.TheVariants as order
 use Rattle.bpf_isa.specs.declared.raw.Raw.{Raw}
-use Rattle.bpf_isa.specs.Table.{takes_register, is_zero, alu_op, condition_of}
+use Rattle.bpf_isa.specs.Checks.{takes_register, is_zero}
+use Rattle.bpf_isa.specs.Table.{alu_op, condition_of}
 use Rattle.bpf_run.specs.declared.flow.Flow.{Flow}
 use Rattle.bpf_run.specs.declared.flow.Flow.TheVariants.{Past, End}
 use Rattle.bpf_run.specs.Arithmetic.{low, difference}

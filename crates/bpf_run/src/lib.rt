@@ -11,3 +11,6 @@ mod steps;
 
 pub use running::{run, value};
 pub use steps::Steps;
+
+#[cfg(test)]
+mod tests;

@@ -28,7 +28,12 @@ pub fn load(size: Size, at: u64, context: &[u8; 40]) -> u64
                 return 0;
             }
             let at = at as usize;
-            let bytes = [context[at], context[at + 1], context[at + 2], context[at + 3]];
+            let bytes = [
+                context[at],
+                context[at + 1],
+                context[at + 2],
+                context[at + 3],
+            ];
             u64::from(u32::from_le_bytes(bytes))
         }
         Size::DW => {

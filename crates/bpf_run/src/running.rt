@@ -1,7 +1,7 @@
 //! The interpreter.
 ghost use Rattle.std.specs.Prelude.{◌≡◌, ◌+◌, ◌≤◌, ◌<◌, length};
 ghost use Rattle.bpf_isa.specs.WellFormed.{IsWellFormed};
-ghost use Rattle.bpf_run.specs.Programs.{outcome};
+ghost use Rattle.bpf_run.specs.Meaning.{outcome};
 
 use crate::flow::Flow;
 use crate::step::step;

@@ -1,10 +1,10 @@
 -- The lists of kinds with which paths arrive, by the last slot but one.
-use Rattle.std.proofs.Common.{◌≡◌, ◌≢◌, ◌⊎◌, inl, inr, ℕ, zero, suc, ◌+◌, ◌<◌, ◌≤◌, List, [], ◌∷◌, length, refl, sym, ap, ◌∙◌, subst, arith}
+use Rattle.std.proofs.Common.{◌≡◌, ◌⊎◌, inl, inr, ℕ, ◌+◌, ◌<◌, List, [], ◌∷◌, length, refl, ap, ◌∙◌, subst, arith}
 use Rattle.std.proofs.lemmas.Bool.Decides.{eqb_tells}
 use Rattle.bpf_isa.specs.declared.insn.Insn.{Insn}
 use Rattle.bpf_isa.specs.Flow.{insn_at}
 use Rattle.bpf_verifier.specs.declared.kind.Kind.{Kind}
-use Rattle.bpf_verifier.specs.Kinds.{kinds_at_start, kinds_after}
+use Rattle.bpf_verifier.specs.Kinds.{kinds_after}
 use Rattle.bpf_verifier.specs.Paths.{Edge, IsPath, kinds_along}
 use Rattle.bpf_verifier.proofs.Results.{Image, length-kinds_after}
 

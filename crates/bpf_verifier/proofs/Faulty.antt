@@ -1,5 +1,5 @@
 -- The faults that a slot's state shows are exactly those that the slot has.
-use Rattle.std.proofs.Common.{◌≡◌, ◌≢◌, ◌⊎◌, inl, inr, ℕ, ◌+◌, ◌<◌, ◌≤◌, List, [], ◌∷◌, length, Option, Some, None, true, false, eqb, refl, sym, ap, ◌∙◌, subst, arith}
+use Rattle.std.proofs.Common.{◌≡◌, ◌≢◌, ◌⊎◌, inl, inr, ℕ, ◌<◌, List, ◌∷◌, length, Option, Some, None, true, eqb, refl, sym, ap, ◌∙◌, subst, arith}
 use Rattle.std.proofs.lemmas.Bool.Decides.{nat_tests}
 use Rattle.bpf_isa.specs.declared.insn.Insn.{Insn}
 use Rattle.bpf_isa.specs.declared.insn.Insn.TheVariants.{Alu, Neg, Load, Wide, Half, Goto, GotoLong, Jump, Exit, LoadSigned, MovSigned, Swap}
@@ -11,7 +11,7 @@ use Rattle.bpf_verifier.specs.declared.kind.Kind.TheVariants.{Absent, Number, Co
 use Rattle.bpf_verifier.specs.declared.refusal.Refusal.{Refusal}
 use Rattle.bpf_verifier.specs.declared.refusal.Refusal.TheVariants.{Back, OutOfProgram, NoValue, PointerUse, BadLoad, NoMemory}
 use Rattle.bpf_verifier.specs.Kinds.{kind_at, base_of, loads_outside}
-use Rattle.bpf_verifier.specs.Paths.{IsPath, kinds_along, IsReached, HasKind}
+use Rattle.bpf_verifier.specs.Paths.{kinds_along, IsReached, HasKind}
 use Rattle.bpf_verifier.specs.Faults.{JumpsBack, LeavesProgram, ReadsNoValue, UsesPointer, LoadsBadly, HasFault, slot_of}
 use Rattle.bpf_verifier.specs.Pass.{EdgeFault, KindFault, SlotFault}
 use Rattle.bpf_verifier.proofs.Summary.{SumsUp, IsState}
@@ -101,9 +101,9 @@ fault_is insns slot None lt fits h fault f = edge_fault_is insns slot lt fault f
 fault_is insns slot (Some sum) lt fits h fault f = elim f [ inl edge ↦ edge_fault_is insns slot lt fault edge | inr kind ↦ kind_fault_is insns slot sum lt fits h fault kind ]
 
 -- an edge's fault is shown by any state
-pub by_edge : (insns : List Insn) (slot : ℕ) (state : Option (List Kind)) (fault : Refusal) → EdgeFault (insn_at insns slot) slot (length insns) fault → SlotFault (insn_at insns slot) slot (length insns) state fault
-by_edge insns slot None fault f = f
-by_edge insns slot (Some sum) fault f = inl f
+pub by_edge : (insn : Insn) (slot count : ℕ) (state : Option (List Kind)) (fault : Refusal) → EdgeFault insn slot count fault → SlotFault insn slot count state fault
+by_edge insn slot count None fault f = f
+by_edge insn slot count (Some sum) fault f = inl f
 
 by_kind : (insns : List Insn) (slot : ℕ) (state : Option (List Kind)) (fault : Refusal) → IsState (Arrives insns slot) state → IsReached insns slot → ((sum : List Kind) → SumsUp (Arrives insns slot) sum → KindFault (insn_at insns slot) slot sum fault)
     → SlotFault (insn_at insns slot) slot (length insns) state fault
@@ -111,8 +111,8 @@ by_kind insns slot None fault h r f = absurd (h (kinds_along insns (slot ∷ r.0
 by_kind insns slot (Some sum) fault h r f = inr (f sum h)
 
 pub fault_shows : (insns : List Insn) (slot : ℕ) (state : Option (List Kind)) → HasFields (insn_at insns slot) → IsState (Arrives insns slot) state → (fault : Refusal) → IsAt insns slot fault → SlotFault (insn_at insns slot) slot (length insns) state fault
-fault_shows insns slot state fits h (Back at) f = let P : ℕ → Type 0 = λ n. JumpsBack (insn_at insns n) n in by_edge insns slot state (Back at) (f.1, subst P f.1 f.0.1)
-fault_shows insns slot state fits h (OutOfProgram at) f = let P : ℕ → Type 0 = λ n. LeavesProgram (insn_at insns n) n (length insns) in by_edge insns slot state (OutOfProgram at) (f.1, subst P f.1 f.0.1)
+fault_shows insns slot state fits h (Back at) f = let P : ℕ → Type 0 = λ n. JumpsBack (insn_at insns n) n in by_edge (insn_at insns slot) slot (length insns) state (Back at) (f.1, subst P f.1 f.0.1)
+fault_shows insns slot state fits h (OutOfProgram at) f = let P : ℕ → Type 0 = λ n. LeavesProgram (insn_at insns n) n (length insns) in by_edge (insn_at insns slot) slot (length insns) state (OutOfProgram at) (f.1, subst P f.1 f.0.1)
 fault_shows insns slot state fits h (NoValue at reg) f =
     let P : ℕ → Type 0 = λ n. ReadsNoValue insns n reg in
     let here : ReadsNoValue insns slot reg = subst P f.1 f.0.1 in

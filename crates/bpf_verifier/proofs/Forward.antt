@@ -1,18 +1,16 @@
 -- The pass, one slot further.
-use Rattle.std.proofs.Common.{◌≡◌, ◌≢◌, ◌⊎◌, inl, inr, ℕ, zero, suc, pos, ◌+◌, ◌<◌, ◌≤◌, List, [], ◌∷◌, length, Option, Some, None, true, refl, sym, ap, ◌∙◌, subst, arith}
+use Rattle.std.proofs.Common.{◌≡◌, inl, inr, ℕ, zero, suc, pos, ◌+◌, ◌<◌, ◌≤◌, List, [], ◌∷◌, length, Option, Some, None, refl, sym, ap, ◌∙◌, subst, arith}
 use Rattle.std.proofs.lemmas.Bool.{cases_lt}
 use Rattle.bpf_isa.specs.declared.insn.Insn.{Insn}
 use Rattle.bpf_isa.specs.Flow.{insn_at}
-use Rattle.bpf_isa.specs.Operands.{reads}
 use Rattle.bpf_isa.specs.WellFormed.{HasFields}
 use Rattle.bpf_verifier.specs.declared.kind.Kind.{Kind}
-use Rattle.bpf_verifier.specs.declared.kind.Kind.TheVariants.{Absent, Number, Context}
 use Rattle.bpf_verifier.specs.declared.refusal.Refusal.{Refusal}
 use Rattle.bpf_verifier.specs.declared.refusal.Refusal.TheVariants.{Back, OutOfProgram, NoValue, PointerUse, BadLoad, NoMemory}
 use Rattle.bpf_verifier.specs.Kinds.{kind_at, kinds_at_start, kinds_after}
 use Rattle.bpf_verifier.specs.Paths.{Leads, Edge, IsPath, kinds_along}
 use Rattle.bpf_verifier.specs.Faults.{HasFault, slot_of, ComesBefore, IsFirst}
-use Rattle.bpf_verifier.specs.Pass.{SlotFault, Visits, HandsOn, state_at}
+use Rattle.bpf_verifier.specs.Pass.{SlotFault, HandsAllOn, state_at}
 use Rattle.bpf_verifier.proofs.Summary.{SumsUp, IsState, in_other_words, Either, joined}
 use Rattle.bpf_verifier.proofs.Results.{sums_up_after}
 use Rattle.bpf_verifier.proofs.Arriving.{Arrives, ArrivesFromBelow, BeginsBelow, HandedOn, arrives_long, from_below, arrives, from_more, by_last_step, arrives_from}
@@ -60,15 +58,15 @@ unchanged insns slot to old new e none h =
 edge_of : (insns : List Insn) (slot to : ℕ) (state : Option (List Kind)) → Faultless insns slot state → Leads (insn_at insns slot) slot to → Edge insns slot to
 edge_of insns slot to state faultless leads =
     let stays = edge_stays (insn_at insns slot) slot (length insns)
-    (λ back. faultless (Back slot) (by_edge insns slot state (Back slot) (refl, back)))
-    (λ leaves. faultless (OutOfProgram slot) (by_edge insns slot state (OutOfProgram slot) (refl, leaves))) (pos to) leads in
+    (λ back. faultless (Back slot) (by_edge (insn_at insns slot) slot (length insns) state (Back slot) (refl, back)))
+    (λ leaves. faultless (OutOfProgram slot) (by_edge (insn_at insns slot) slot (length insns) state (OutOfProgram slot) (refl, leaves))) (pos to) leads in
     let is = stays.1 in
     let same : to ≡ stays.0 = cc in
     record { leads = leads; forward = omega (arith, same, stays.2); inside = omega (arith, same, stays.3) }
 
 -- the states when a slot without a fault has been visited
 pub advances : (insns : List Insn) (slot to : ℕ) (state : Option (List Kind)) (old new : List (Option (List Kind))) → HasFields (insn_at insns slot) → IsState (Arrives insns slot) state → Faultless insns slot state
-    → Visits (insn_at insns slot) slot state old new → IsState (ArrivesFromBelow insns slot to) (state_at old to) → IsState (ArrivesFromBelow insns (slot + 1) to) (state_at new to)
+    → HandsAllOn (insn_at insns slot) slot state old new → IsState (ArrivesFromBelow insns slot to) (state_at old to) → IsState (ArrivesFromBelow insns (slot + 1) to) (state_at new to)
 advances insns slot to None old new fits h faultless visits so_far = unchanged insns slot to (state_at old to) (state_at new to) (visits to) (λ kinds edge handed. h handed.0 handed.1) so_far
 advances insns slot to (Some sum) old new fits h faultless visits so_far =
     let insn = insn_at insns slot in

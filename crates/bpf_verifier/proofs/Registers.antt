@@ -1,6 +1,6 @@
 -- The registers that an instruction reads are among the ten.
-use Rattle.std.proofs.Common.{◌≡◌, ◌≢◌, ◌⊎◌, inl, inr, ℕ, ◌+◌, ◌<◌, ◌≤◌, Bool, true, false, cond, not, ◌&&◌, ◌||◌, eqb, refl, sym, arith}
-use Rattle.std.proofs.lemmas.Bool.Decides.{eqb_tells, nat_tests}
+use Rattle.std.proofs.Common.{◌≡◌, ◌⊎◌, inl, inr, ℕ, ◌<◌, ◌≤◌, Bool, true, false, cond, ◌||◌, eqb, refl, arith}
+use Rattle.std.proofs.lemmas.Bool.Decides.{nat_tests}
 use Rattle.bpf_isa.specs.declared.insn.Operand.{Operand}
 use Rattle.bpf_isa.specs.declared.insn.Operand.TheVariants.{Reg, Imm}
 use Rattle.bpf_isa.specs.declared.insn.AluOp.TheVariants.{Mov}
@@ -8,7 +8,6 @@ use Rattle.bpf_isa.specs.declared.insn.Insn.{Insn}
 use Rattle.bpf_isa.specs.declared.insn.Insn.TheVariants.{Alu, Neg, Load, Wide, Half, Goto, GotoLong, Jump, Exit, LoadSigned, MovSigned, Swap}
 use Rattle.bpf_isa.specs.WellFormed.{HasOperand, HasFields}
 use Rattle.bpf_isa.specs.Operands.{operand_is, reads}
-use Rattle.bpf_verifier.specs.Kinds.{is_move}
 
 one : (reg r : ℕ) → r ≤ 9 → eqb r reg ≡ true → reg < 10
 one reg r lt e = grind (arith, nat_tests)

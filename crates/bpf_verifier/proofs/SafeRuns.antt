@@ -1,17 +1,17 @@
 -- Accepted programs run safely.
-use Rattle.std.proofs.Common.{◌≡◌, ◌≢◌, ◌⊎◌, inl, inr, ℕ, ℤ, pos, zero, suc, ◌+◌, ◌<◌, ◌≤◌, List, [], ◌∷◌, length, Bool, true, false, Option, Some, None, Contains, refl, sym, ap, ◌∙◌, subst, arith}
+use Rattle.std.proofs.Common.{◌≡◌, ◌≢◌, inl, inr, ℕ, ℤ, pos, ◌+◌, ◌<◌, List, [], ◌∷◌, length, Bool, true, false, Some, Contains, refl, sym, ap, ◌∙◌, subst, arith}
 use Rattle.bpf_isa.specs.declared.insn.Insn.{Insn}
 use Rattle.bpf_isa.specs.declared.insn.Insn.TheVariants.{Alu, Neg, Load, Wide, Half, Goto, GotoLong, Jump, Exit, LoadSigned, MovSigned, Swap}
-use Rattle.bpf_isa.specs.Flow.{insn_at, is_half, is_wide, jump_offset, target, edges}
+use Rattle.bpf_isa.specs.Flow.{insn_at, is_half, is_wide, edges}
 use Rattle.bpf_isa.specs.Operands.{reads}
 use Rattle.bpf_isa.specs.WellFormed.{IsWellFormed}
 use Rattle.bpf_verifier.specs.declared.kind.Kind.{Kind}
 use Rattle.bpf_verifier.specs.declared.kind.Kind.TheVariants.{Absent, Number, Context}
 use Rattle.bpf_verifier.specs.declared.refusal.Refusal.TheVariants.{Back, OutOfProgram, NoValue, PointerUse, BadLoad}
-use Rattle.bpf_verifier.specs.Kinds.{kind_at, takes_pointer, base_of, loads_outside}
-use Rattle.bpf_verifier.specs.Paths.{Leads, Edge, IsPath, kinds_along, HasKind}
+use Rattle.bpf_verifier.specs.Kinds.{kind_at, loads_outside}
+use Rattle.bpf_verifier.specs.Paths.{Leads, IsPath, kinds_along, HasKind}
 use Rattle.bpf_verifier.specs.Acceptance.{IsAccepted}
-use Rattle.bpf_verifier.specs.Safety.{IsWay, IsSafe, RunsSafely}
+use Rattle.bpf_verifier.specs.Safety.{IsWay, RunsSafely}
 use Rattle.bpf_verifier.specs.Pass.{next_of}
 use Rattle.bpf_verifier.proofs.Leading.{edge_cases, edge_stays}
 use Rattle.bpf_verifier.proofs.Faulty.{base_read}

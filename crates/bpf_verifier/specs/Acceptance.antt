@@ -3,7 +3,7 @@ use Rattle.std.specs.Prelude.{List}
 use Rattle.bpf_isa.specs.declared.insn.Insn.{Insn}
 use Rattle.bpf_isa.specs.WellFormed.{IsWellFormed}
 use Rattle.bpf_verifier.specs.declared.refusal.Refusal.{Refusal}
-use Rattle.bpf_verifier.specs.declared.refusal.Refusal.TheVariants.{Back, OutOfProgram, NoValue, PointerUse, BadLoad, NoMemory}
+use Rattle.bpf_verifier.specs.declared.refusal.Refusal.TheVariants.{NoMemory}
 use Rattle.bpf_verifier.specs.Faults.{HasFault, HasNone, IsFirst}
 
 -- no fault at all

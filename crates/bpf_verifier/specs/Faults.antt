@@ -35,7 +35,7 @@ pub record UsesPointer (insns : List Insn) (slot reg : ℕ) : Type 0 where
 pub record LoadsBadly (insns : List Insn) (slot : ℕ) : Type 0 where
   pub reached : IsReached insns slot
   pub bad : ((base : ℕ) × (base_of (insn_at insns slot) ≡ Some base) × HasKind insns slot base Number)
-    ⊎ (loads_outside (insn_at insns slot) ≡ true)
+      ⊎ (loads_outside (insn_at insns slot) ≡ true)
 
 -- the program has this fault; those of edges are faults in slots that nothing reaches too
 abbrev pub HasFault : List Insn → Refusal → Type 0

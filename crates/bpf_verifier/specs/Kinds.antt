@@ -1,12 +1,11 @@
 -- What the registers hold, as far as a verifier tells it apart, and what an instruction makes of it.
-use Rattle.std.specs.Prelude.{◌≡◌, ℕ, ℤ, pos, negsuc, ◌+◌, ◌%◌, List, [], ◌∷◌, Bool, true, false, not, ◌&&◌, ◌||◌, ◌==◌, nat_le, Option, Some, None, slice_index_or, slice_set, if◌then◌else◌}
+use Rattle.std.specs.Prelude.{ℕ, ℤ, pos, negsuc, ◌+◌, ◌%◌, List, [], ◌∷◌, Bool, true, false, not, ◌&&◌, ◌==◌, nat_le, Option, Some, None, slice_index_or, slice_set, if◌then◌else◌}
 use Rattle.bpf_isa.specs.declared.insn.Width.{Width}
 use Rattle.bpf_isa.specs.declared.insn.Width.TheVariants.{W32, W64}
 use Rattle.bpf_isa.specs.declared.insn.Size.{Size}
 use Rattle.bpf_isa.specs.declared.insn.AluOp.{AluOp}
 use Rattle.bpf_isa.specs.declared.insn.AluOp.TheVariants.{Mov}
-use Rattle.bpf_isa.specs.declared.insn.Operand.{Operand}
-use Rattle.bpf_isa.specs.declared.insn.Operand.TheVariants.{Reg, Imm}
+use Rattle.bpf_isa.specs.declared.insn.Operand.TheVariants.{Reg}
 use Rattle.bpf_isa.specs.Operands.{written, byte_count}
 use Rattle.bpf_isa.specs.declared.insn.Insn.{Insn}
 use Rattle.bpf_isa.specs.declared.insn.Insn.TheVariants.{Alu, Load, LoadSigned}

@@ -5,7 +5,7 @@ use Rattle.bpf_verifier.specs.declared.kind.TheConstants.{REGISTERS}
 use Rattle.bpf_verifier.specs.declared.kind.Kind.{Kind}
 use Rattle.bpf_verifier.specs.declared.kind.Kind.TheVariants.{Absent, Number, Context}
 use Rattle.bpf_verifier.specs.declared.refusal.Refusal.{Refusal}
-use Rattle.bpf_verifier.specs.declared.refusal.Refusal.TheVariants.{Back, OutOfProgram, NoValue, PointerUse, BadLoad, NoMemory}
+use Rattle.bpf_verifier.specs.declared.refusal.Refusal.TheVariants.{Back, OutOfProgram, NoValue, PointerUse, BadLoad}
 use Rattle.bpf_isa.specs.declared.insn.Insn.TheVariants.{Alu, Neg, Load, Wide, Half, Goto, GotoLong, Jump, Exit, LoadSigned, MovSigned, Swap}
 use Rattle.bpf_isa.specs.Flow.{jump_offset, target}
 use Rattle.bpf_isa.specs.Operands.{reads}
@@ -86,10 +86,17 @@ abbrev pub SlotFault : Insn → ℕ → ℕ → Option (List Kind) → Refusal �
 SlotFault insn slot count None fault = EdgeFault insn slot count fault
 SlotFault insn slot count (Some kinds) fault = EdgeFault insn slot count fault ⊎ KindFault insn slot kinds fault
 
--- the states when the kinds behind a slot were handed on
-abbrev pub Visits : Insn → ℕ → Option (List Kind) → List (Option (List Kind)) → List (Option (List Kind)) → Type 0
-Visits insn slot None old new = (to : ℕ) → state_at new to ≡ state_at old to
-Visits insn slot (Some kinds) old new = (to : ℕ) → HandsOn insn slot (kinds_after insn kinds) to (state_at old to) (state_at new to)
+-- the same, among the states of all slots
+abbrev pub FaultIn : Insn → ℕ → List (Option (List Kind)) → Refusal → Type 0
+FaultIn insn slot states fault = SlotFault insn slot (length states) (state_at states slot) fault
+
+-- the states when the kinds behind a slot in this state were handed on
+abbrev pub HandsAllOn : Insn → ℕ → Option (List Kind) → List (Option (List Kind)) → List (Option (List Kind)) → Type 0
+HandsAllOn insn slot None old new = (to : ℕ) → state_at new to ≡ state_at old to
+HandsAllOn insn slot (Some kinds) old new = (to : ℕ) → HandsOn insn slot (kinds_after insn kinds) to (state_at old to) (state_at new to)
+
+abbrev pub Visits : Insn → ℕ → List (Option (List Kind)) → List (Option (List Kind)) → Type 0
+Visits insn slot old new = HandsAllOn insn slot (state_at old slot) old new
 
 -- the lowest register of this kind that the instruction reads
 pub record IsLowestRead (insn : Insn) (kinds : List Kind) (kind : Kind) (reg : ℕ) : Type 0 where

@@ -5,7 +5,7 @@ ghost use Rattle.bpf_isa.specs.WellFormed.{HasFields, IsWellFormed};
 ghost use Rattle.bpf_verifier.specs.Kinds.{kinds_at_start};
 ghost use Rattle.bpf_verifier.specs.Faults.{HasFault, HasNone, IsFirst};
 ghost use Rattle.bpf_verifier.specs.Acceptance.{IsAccepted};
-ghost use Rattle.bpf_verifier.specs.Pass.{SlotFault, Visits, state_at};
+ghost use Rattle.bpf_verifier.specs.Pass.{SlotFault, FaultIn, Visits, state_at};
 
 use crate::edges::edge_fault;
 use crate::effects::run_kinds;
@@ -14,33 +14,42 @@ use crate::refusal::Refusal;
 use crate::states::{State, hand_on};
 use bpf_isa::Insn;
 
+/// The first fault of a slot, by its state.
+fn slot_fault(insn: Insn, slot: usize, count: usize, state: State) -> Option<Refusal>
+    requires fields { HasFields insn }
+    requires slot { slot < 512 }
+    ensures none { IfNone result (HasNone (SlotFault insn slot count state)) }
+    ensures first { IfSome result (IsFirst (SlotFault insn slot count state)) }
+{
+    let edge = edge_fault(insn, slot, count);
+    if edge.is_some() {
+        return edge;
+    }
+    match state {
+        Some(kinds) => kind_fault(insn, slot, &kinds),
+        None => None,
+    }
+}
+
 /// The first fault of a slot, or else its kinds are handed on.
 fn visit(insn: Insn, slot: usize, states: &mut [State]) -> Option<Refusal>
-    requires registers { HasFields insn }
+    requires fields { HasFields insn }
     requires slot { slot < 512 }
     requires inside { slot < length states.old }
     ensures length { length states.new ≡ length states.old }
-    ensures first {
-        IfSome result (IsFirst (SlotFault insn slot (length states.old) (state_at states.old slot)))
-    }
-    ensures faultless {
-        IfNone result (HasNone (SlotFault insn slot (length states.old) (state_at states.old slot)))
-    }
-    ensures visits { IfNone result (Visits insn slot (state_at states.old slot) states.old states.new) }
+    ensures none { IfNone result (HasNone (FaultIn insn slot states.old)) }
+    ensures first { IfSome result (IsFirst (FaultIn insn slot states.old)) }
+    ensures visits { IfNone result (Visits insn slot states.old states.new) }
 {
-    let fault = edge_fault(insn, slot, states.len());
+    let state = states[slot];
+    let fault = slot_fault(insn, slot, states.len(), state);
     if fault.is_some() {
         return fault;
     }
-    let Some(mut kinds) = states[slot] else {
-        return None;
-    };
-    let fault = kind_fault(insn, slot, &kinds);
-    if fault.is_some() {
-        return fault;
+    if let Some(mut kinds) = state {
+        run_kinds(insn, &mut kinds);
+        hand_on(insn, slot, states, &kinds);
     }
-    run_kinds(insn, &mut kinds);
-    hand_on(insn, slot, states, &kinds);
     None
 }
 

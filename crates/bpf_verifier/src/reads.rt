@@ -24,9 +24,8 @@ fn is_kind(a: Kind, b: Kind) -> bool
 /// The lowest register of this kind that the instruction reads.
 fn lowest_read(insn: Insn, kinds: &[Kind; REGISTERS], kind: Kind) -> Option<u8>
     requires { HasFields insn }
-    ensures none {
-        IfNone result ((reg : ℕ) → reads insn reg ≡ true → kind_at kinds.now reg ≢ kind)
-    }
+    ensures none { IfNone result (
+        (reg : ℕ) → reads insn reg ≡ true → kind_at kinds.now reg ≢ kind) }
     ensures lowest { IfSome result (IsLowestRead insn kinds.now kind) }
 {
     for reg in 0..REGISTERS as u8 {
@@ -50,7 +49,7 @@ fn is_bad_load(insn: Insn, kinds: &[Kind; REGISTERS]) -> bool
 /// The first fault that the kinds show.
 pub fn kind_fault(insn: Insn, slot: usize, kinds: &[Kind; REGISTERS]) -> Option<Refusal>
     requires slot { slot < 512 }
-    requires registers { HasFields insn }
+    requires fields { HasFields insn }
     ensures none { IfNone result (HasNone (KindFault insn slot kinds.now)) }
     ensures first { IfSome result (IsFirst (KindFault insn slot kinds.now)) }
 {

@@ -29,9 +29,18 @@ impl fmt::Display for Refusal {
         match *self {
             Refusal::Back { slot } => write!(f, "the jump in slot {slot} doesn't lead forward"),
             Refusal::OutOfProgram { slot } => write!(f, "slot {slot} leads out of the program"),
-            Refusal::NoValue { slot, reg } => write!(f, "slot {slot} reads register {reg}, which has no value"),
-            Refusal::PointerUse { slot, reg } => write!(f, "slot {slot} reads the pointer in register {reg} as a number"),
-            Refusal::BadLoad { slot } => write!(f, "the load in slot {slot} doesn't read the context"),
+            Refusal::NoValue { slot, reg } => write!(
+                f,
+                "slot {slot} reads register {reg}, which has no value"
+            ),
+            Refusal::PointerUse { slot, reg } => write!(
+                f,
+                "slot {slot} reads the pointer in register {reg} as a number"
+            ),
+            Refusal::BadLoad { slot } => write!(
+                f,
+                "the load in slot {slot} doesn't read the context"
+            ),
             Refusal::NoMemory => f.write_str("out of memory"),
         }
     }

@@ -33,9 +33,7 @@ fn join(states: &mut [State], slot: usize, kinds: &[Kind; REGISTERS])
     requires { slot < length states.old }
     ensures length { length states.new ≡ length states.old }
     ensures here { Joins (state_at states.old slot) kinds.now (state_at states.new slot) }
-    ensures others {
-        (other : ℕ) → other ≢ slot → state_at states.new other ≡ state_at states.old other
-    }
+    ensures others { (at : ℕ) → at ≢ slot → state_at states.new at ≡ state_at states.old at }
 {
     match states[slot] {
         None => states[slot] = Some(*kinds),
@@ -50,9 +48,8 @@ fn join(states: &mut [State], slot: usize, kinds: &[Kind; REGISTERS])
 fn join_at(states: &mut [State], to: Option<usize>, kinds: &[Kind; REGISTERS])
     requires { IfSome to (λ slot. slot < length states.old) }
     ensures length { length states.new ≡ length states.old }
-    ensures each {
-        (slot : ℕ) → JoinsAt to kinds.now slot (state_at states.old slot) (state_at states.new slot)
-    }
+    ensures each { (slot : ℕ) →
+        JoinsAt to kinds.now slot (state_at states.old slot) (state_at states.new slot) }
 {
     if let Some(slot) = to {
         join(states, slot, kinds);
@@ -65,9 +62,8 @@ pub fn hand_on(insn: Insn, slot: usize, states: &mut [State], kinds: &[Kind; REG
     requires forward { JumpsBack insn slot → ⊥ }
     requires inside { LeavesProgram insn slot (length states.old) → ⊥ }
     ensures length { length states.new ≡ length states.old }
-    ensures each {
-        (to : ℕ) → HandsOn insn slot kinds.now to (state_at states.old to) (state_at states.new to)
-    }
+    ensures each { (to : ℕ) →
+        HandsOn insn slot kinds.now to (state_at states.old to) (state_at states.new to) }
 {
     let next = next_slot(insn, slot);
     let target = forward_target(insn, slot);

@@ -1,2 +1,13 @@
 pub mod Chain
 pub mod Marks
+pub mod Behind
+pub mod Holders
+pub mod Pigeons
+pub mod OfPasses
+pub mod Room
+pub mod Decided
+pub mod Batches
+pub mod Kept
+pub mod KeptLine
+pub mod KeptBatch
+pub mod EachStep

@@ -8,7 +8,7 @@ use Rattle.shfl_line.specs.declared.events.LineEvent.{LineEvent}
 use Rattle.shfl_line.specs.declared.events.LineEvent.TheVariants.{Steal, Join, Grab, Leave, Release, Begin, Rest, Pick, Place, Keep, Give, Nothing}
 use Rattle.shfl_line.specs.Words.{link_word}
 use Rattle.shfl_line.specs.Passes.{times, first, last, without, put_behind, follower, behind, last_marked}
-use Rattle.shfl_line.specs.Line.{Line, mark_of, active_shuffler, idle_shuffler, holds, writer_count, reader_count}
+use Rattle.shfl_line.specs.Line.{Line, mark_of, active_shuffler, idle_shuffler, holds, writer_count, reader_count, IsOfPasses}
 
 -- a writer may come where nobody holds, a reader where no writer does
 abbrev pub IsFreeFor : Mode → List (ℕ × Mode) → Type 0
@@ -106,3 +106,8 @@ NamesBelow passes (Place p) = p < passes
 NamesBelow passes (Keep p) = p < passes
 NamesBelow passes (Give p) = p < passes
 NamesBelow passes Nothing = Unit {0}
+
+-- each admitted event on a state of so many passes keeps the fact
+abbrev pub EachStepKeeps : (ℕ → ℕ → Line → Type 0) → Type 0
+EachStepKeeps Fact = (limit passes : ℕ) (s : Line) (e : LineEvent)
+    → 0 < limit → IsOfPasses passes s → NamesBelow passes e → Admits limit s e → Fact limit passes s → Fact limit passes (after s e)

@@ -1,5 +1,5 @@
 -- Where an event is admitted, as a test; it agrees with `Admits`.
-use Rattle.std.specs.Prelude.{ℕ, suc, List, Bool, true, false, ◌==◌, ◌&&◌, ◌||◌, not, nat_lt}
+use Rattle.std.specs.Prelude.{◌≡◌, ◌↔◌, ℕ, suc, List, Bool, true, false, ◌==◌, ◌&&◌, ◌||◌, not, nat_lt}
 use Rattle.shfl_line.specs.declared.events.Mode.{Mode}
 use Rattle.shfl_line.specs.declared.events.Mode.TheVariants.{Write, Read}
 use Rattle.shfl_line.specs.declared.events.Role.{Role}
@@ -9,7 +9,7 @@ use Rattle.shfl_line.specs.declared.events.LineEvent.TheVariants.{Steal, Join, G
 use Rattle.shfl_line.specs.Words.{link_word}
 use Rattle.shfl_line.specs.Passes.{times, first, last, follower, behind, last_marked}
 use Rattle.shfl_line.specs.Line.{Line, mark_of, active_shuffler, idle_shuffler, holds, writer_count, reader_count}
-use Rattle.shfl_line.specs.Steps.{begun_mark, batch_end}
+use Rattle.shfl_line.specs.Steps.{Admits, begun_mark, batch_end}
 
 abbrev pub is_free_for : Mode → List (ℕ × Mode) → Bool
 is_free_for Write hold = (writer_count hold == 0) && (reader_count hold == 0)
@@ -42,12 +42,20 @@ abbrev pub may_detach : List ℕ → ℕ → ℕ → Bool
 may_detach line l who =
     not (times who (behind l line) == 0) && not (follower l line == suc who) && not (last line == suc who)
 
+-- the pass may take the lock past the line
+abbrev pub may_steal : Line → ℕ → Mode → Bool
+may_steal s p mode = is_free_for mode s.hold && (holds p s.hold == 0) && is_away s p
+
+-- the pass may take the lock as the line's first
+abbrev pub may_grab : Line → ℕ → Mode → Bool
+may_grab s p mode =
+    (first s.line == suc p) && not (active_shuffler s.role == suc p) && (holds p s.hold == 0) && is_free_for mode s.hold
+
 -- the event may happen
 abbrev pub admits : ℕ → Line → LineEvent → Bool
-admits limit s (Steal p mode) = is_free_for mode s.hold && (holds p s.hold == 0) && is_away s p
+admits limit s (Steal p mode) = may_steal s p mode
 admits limit s (Join p) = is_away s p && (holds p s.hold == 0)
-admits limit s (Grab p mode) =
-    (first s.line == suc p) && not (active_shuffler s.role == suc p) && (holds p s.hold == 0) && is_free_for mode s.hold
+admits limit s (Grab p mode) = may_grab s p mode
 admits limit s (Leave p) = (first s.line == suc p) && not (holds p s.hold == 0)
 admits limit s (Release p) = not (holds p s.hold == 0) && (times p s.line == 0)
 admits limit s (Begin p) = may_begin s p && nat_lt (begun_mark (mark_of s p)) limit
@@ -57,3 +65,7 @@ admits limit s (Place p) = is_in_round s p && not (link_word s.hand == 0)
 admits limit s (Keep p) = is_in_line_round s p && has_room limit s && not (follower (batch_end s) s.line == 0)
 admits limit s (Give p) = is_in_line_round s p
 admits limit s Nothing = true
+
+-- the test says of every event, in every state, whether it is admitted
+abbrev pub TestsAgree : Type 0
+TestsAgree = (limit : ℕ) (s : Line) (e : LineEvent) → (admits limit s e ≡ true) ↔ Admits limit s e

@@ -2,6 +2,11 @@
 ghost use Rattle.std.specs.Prelude.{◌≡◌, ◌≢◌, ℕ, ◌<◌, ◌≤◌, List, IfOk, length};
 ghost use Rattle.shfl_line.specs.Line.{Line, empty};
 
+mod asking;
+mod filling;
+mod scans;
+mod stepping;
+
 use crate::NoMemory;
 use crate::events::{Mode, Role};
 use std::alloc::Global;

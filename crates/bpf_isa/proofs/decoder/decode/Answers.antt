@@ -1,7 +1,6 @@
-use Rattle.std.proofs.Common.{◌≡◌, ◌<◌, ℕ, List, Result, Ok, Err, IfOk, get_or, arith}
+use Rattle.std.proofs.Common.{◌≡◌, ℕ, List, Result, Ok, Err, IfOk, arith}
 use Rattle.bpf_isa.specs.declared.error.IsaError.{IsaError}
 use Rattle.bpf_isa.specs.declared.insn.Insn.{Insn}
-use Rattle.bpf_isa.specs.Decoding.{decoding, HasSlots}
 use Rattle.bpf_isa.specs.Faults.{Gives}
 use Rattle.bpf_isa.proofs.Decoded.{decoded}
 use Rattle.bpf_isa.proofs.RoundTrip.{encoding-decoding, decoding_is_well_formed, decoding_is_of}
@@ -33,5 +32,5 @@ returns-clause-of_profile c =
 pub returns-clause-slots : goal.returns-clause-slots
 returns-clause-slots c =
     if_given _ c.decode_exactly.result _ _ c.decode_exactly.ensures (λ v e.
-        let d = decoded c.args.profile c.args.bytes.now v.items e in
-        record { whole = d.whole; each = d.each })
+    let d = decoded c.args.profile c.args.bytes.now v.items e in
+    record { whole = d.whole; each = d.each })

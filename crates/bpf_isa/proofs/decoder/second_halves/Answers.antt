@@ -1,4 +1,4 @@
-use Rattle.std.proofs.Common.{◌≡◌, ◌<◌, ℕ, length, not, ◌&&◌, ◌==◌, get_or, sym, ◌∙◌, ap, arith}
+use Rattle.std.proofs.Common.{sym, arith}
 use Rattle.std.proofs.lemmas.Grind.{common_steps}
 use Rattle.bpf_isa.proofs.Halves.{half-step, half-zero}
 use Rattle.bpf_isa.proofs.decoder.second_halves.Goals as goal

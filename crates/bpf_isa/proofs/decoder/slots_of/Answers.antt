@@ -1,6 +1,4 @@
-use Rattle.std.proofs.Common.{◌≡◌, Ok, Err, length, arith, ℕ, Result}
-use Rattle.bpf_isa.specs.Faults.{Fails, fault_at}
-use Rattle.bpf_isa.specs.Decoding.{slot_in, slots_from}
+use Rattle.std.proofs.Common.{length}
 use Rattle.bpf_isa.proofs.SlotLoop.{goes_on, ends, is_done, fails_at}
 use Rattle.bpf_isa.proofs.decoder.slots_of.Goals as goal
 

@@ -1,5 +1,4 @@
-use Rattle.std.proofs.Common.{◌≡◌, List, ℕ, Ok, Err, Result, IfOk, sym, ap, ◌∙◌}
-use Rattle.bpf_isa.specs.declared.error.NoMemory.{NoMemory}
+use Rattle.std.proofs.Common.{◌≡◌, List, ℕ, Ok, Err, Result, IfOk, ap, ◌∙◌}
 use Rattle.bpf_isa.specs.declared.insn.Insn.{Insn}
 use Rattle.bpf_isa.specs.declared.insn.Profile.{Profile}
 use Rattle.bpf_isa.specs.Decoding.{decoding}

@@ -1,10 +1,9 @@
-use Rattle.std.proofs.Common.{◌≡◌, ◌+◌, ◌≤◌, ℕ, length, drop, get_or, subst, ap, sym, ◌∙◌, arith}
+use Rattle.std.proofs.Common.{◌≡◌, ◌+◌, drop, subst, ap, sym, ◌∙◌, arith}
 use Rattle.std.proofs.lemmas.List.{get_or_default}
 use Rattle.bpf_isa.specs.declared.insn.Insn.{Insn}
 use Rattle.bpf_isa.specs.WellFormed.{HasFields}
-use Rattle.bpf_run.specs.Meaning.{Outcome, at_start}
+use Rattle.bpf_run.specs.Meaning.{Outcome, at_start, outcome}
 use Rattle.bpf_run.specs.Instructions.{running}
-use Rattle.bpf_run.specs.Programs.{outcome}
 use Rattle.bpf_run.proofs.Going.{running-out, running-end, running-on}
 use Rattle.bpf_run.proofs.Raws.{outcome-running}
 use Rattle.bpf_run.proofs.running.run_insns.Goals as goal

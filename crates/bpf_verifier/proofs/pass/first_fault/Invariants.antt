@@ -1,4 +1,4 @@
-use Rattle.std.proofs.Common.{◌≡◌, ◌<◌, ℕ, length}
+use Rattle.std.proofs.Common.{◌≡◌, ℕ, length}
 use Rattle.bpf_verifier.specs.Pass.{state_at}
 use Rattle.bpf_verifier.proofs.Summary.{IsState}
 use Rattle.bpf_verifier.proofs.Arriving.{ArrivesFromBelow}

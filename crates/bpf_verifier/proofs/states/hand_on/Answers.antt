@@ -1,8 +1,7 @@
-use Rattle.std.proofs.Common.{◌≡◌, ◌<◌, ℕ, Option, Some, None, length, Bool, true, false, not, eqb, refl, sym, ap, ◌∙◌, arith}
+use Rattle.std.proofs.Common.{◌≡◌, ℕ, Option, Some, None, length, true, not, eqb, sym, ◌∙◌, arith}
 use Rattle.std.proofs.lemmas.Bool.Decides.{nat_tests}
 use Rattle.std.specs.Option.{option_eq}
-use Rattle.bpf_verifier.specs.Pass.{state_at}
-use Rattle.bpf_verifier.proofs.Leading.{next_inside, target_inside, hands_on_once, hands_on_twice}
+use Rattle.bpf_verifier.proofs.Leading.{next_inside, target_inside, hands_on_twice}
 use Rattle.bpf_verifier.proofs.states.hand_on.Goals as goal
 
 unequal : (m n : ℕ) → true ≡ not (eqb m n) → m ≡ n → ⊥

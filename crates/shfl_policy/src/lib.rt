@@ -1,0 +1,18 @@
+//! Policies in bytecode: their context, how they are loaded, and how they answer.
+#![tactic(auto)]
+
+mod asked;
+mod error;
+mod loading;
+mod policy;
+mod running;
+mod same;
+
+pub use asked::context;
+pub use error::{Hook, LoadError, ProgramFault};
+pub use loading::load;
+pub use policy::{Policy, PolicySource};
+pub use running::Running;
+
+#[cfg(test)]
+mod tests;
