@@ -1,11 +1,11 @@
 -- Calls whose names are parts of a document, seen as what they say.
-use Rattle.std.specs.Prelude.{◌≡◌, ℕ, List, [], ◌∷◌, true, Option, Some, None, option_map}
+use Rattle.std.specs.Prelude.{◌≡◌, ◌<◌, ℕ, List, [], ◌∷◌, true, Option, Some, None, option_map}
 use Rattle.std.specs.List.{flat_map}
 use Rattle.trace_text.specs.declared.spelled.SpelledAct.{SpelledAct}
 use Rattle.trace_text.specs.declared.spelled.SpelledAct.TheVariants as spelled
 use Rattle.trace_text.specs.declared.spelled.SpelledCall.{SpelledCall}
 use Rattle.trace_text.specs.Document.{Act, make, drop_name, rename, find, count, next, attach, CallLine, PolicyLine}
-use Rattle.trace_text.specs.Lines.{may_do}
+use Rattle.trace_text.specs.Lines.{is_in_range, may_do}
 
 abbrev pub act_said : SpelledAct → Act
 act_said (spelled.Make dir name) = make dir name.now
@@ -19,9 +19,11 @@ act_said (spelled.Attach name) = attach name.now
 abbrev pub call_said : SpelledCall → CallLine
 call_said c = record { worker = c.worker; act = act_said c.act }
 
--- the call is one that the worker may make
-abbrev pub MayBe : List PolicyLine → SpelledCall → Type 0
-MayBe policies c = may_do policies c.worker (act_said c.act) ≡ true
+-- a call of a worker that there is, within the ranges, and one that the worker may make
+pub record MayBe (workers : ℕ) (policies : List PolicyLine) (c : SpelledCall) : Type 0 where
+  pub known : c.worker < workers
+  pub ranged : is_in_range (act_said c.act) ≡ true
+  pub may : may_do policies c.worker (act_said c.act) ≡ true
 
 -- the names of the directory in a call
 abbrev pub act_names : Act → List (List ℕ)

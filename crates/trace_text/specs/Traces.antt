@@ -1,6 +1,8 @@
 -- A trace in memory, seen as what its text says.
-use Rattle.std.specs.Prelude.{ℕ, Bool, true, false, List, [], map, Option, Some, None, slice_index_or}
+use Rattle.std.specs.Prelude.{◌≡◌, ◌<◌, ◌≤◌, length, ℕ, Bool, true, false, List, [], map, Option, Some, None, slice_index_or}
 use Rattle.std.specs.Option.{option_map}
+use Rattle.std.specs.List.{AllByRecursion}
+use Rattle.dir_table.specs.Meanings.{IsAdmitted}
 use Rattle.dir_table.specs.declared.calls.DirCall.{DirCall}
 use Rattle.dir_table.specs.declared.calls.DirCall.TheVariants as call
 use Rattle.trace_text.specs.declared.trace.TraceAct.{TraceAct}
@@ -53,3 +55,20 @@ document_of t = record {
 abbrev pub is_attachment : TraceAct → Bool
 is_attachment (does.Dir c) = false
 is_attachment (does.Attach k) = true
+
+-- the act names what there is; only worker 0 attaches
+abbrev pub IsActOf : ℕ → ℕ → ℕ → TraceAct → Type 0
+IsActOf names policies worker (does.Dir c) = IsAdmitted names c
+IsActOf names policies worker (does.Attach k) = (k < policies) × (worker ≡ 0)
+
+-- so does the call, of so many workers, names and policies
+pub record IsCallOf (workers names policies : ℕ) (c : TraceCall) : Type 0 where
+  pub worker : c.worker < workers
+  pub act : IsActOf names policies c.worker c.act
+
+-- a trace within the limits, whose calls name what it has
+pub record IsWithin (t : Trace) : Type 0 where
+  pub workers : (0 < length t.workers.items) × (length t.workers.items ≤ 16)
+  pub policies : (0 < length t.policies.items) × (length t.policies.items ≤ 64)
+  pub few : length t.calls.items ≤ 65536
+  pub calls : AllByRecursion (IsCallOf (length t.workers.items) (length t.names.items) (length t.policies.items)) t.calls.items

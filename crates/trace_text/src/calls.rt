@@ -85,7 +85,7 @@ fn call_says<'a>(
     ensures exact { Gives call_said result
         (call_says workers (map policy_of policies.now) (map call_said before.now) line text.now) }
     ensures room { OnOk result (length before.now < 65536) }
-    ensures declared { IfOk result (MayBe (map policy_of policies.now)) }
+    ensures declared { IfOk result (MayBe workers (map policy_of policies.now)) }
 {
     let Some(call) = shape_of(text) else {
         return Err(Fault { line, what: 10 });
@@ -115,7 +115,7 @@ pub fn calls_of<'a>(
     first: u32,
 ) -> Result<Vec<SpelledCall<'a>>, TraceError>
     requires { first < 100 }
-    ensures declared { IfOk result (λ v. AllByRecursion (MayBe (map policy_of policies.now)) v.items) }
+    ensures declared { IfOk result (λ v. AllByRecursion (MayBe workers (map policy_of policies.now)) v.items) }
     ensures few { IfOk result (λ v. length v.items ≤ 65536) }
     ensures exact { GivesOrWants fault_of (λ v. map call_said v.items) result
         (calls_in workers (map policy_of policies.now) first (pieces bytes.now)) }
@@ -132,7 +132,7 @@ fn call_lines<'a>(
     first: u32,
 ) -> Result<Vec<SpelledCall<'a>>, TraceError>
     requires { first < 101 }
-    ensures declared { IfOk result (λ v. AllByRecursion (MayBe (map policy_of policies.now)) v.items) }
+    ensures declared { IfOk result (λ v. AllByRecursion (MayBe workers (map policy_of policies.now)) v.items) }
     ensures few { IfOk result (λ v. length v.items ≤ 65536) }
     ensures exact { GivesOrWants fault_of (λ v. map call_said v.items) result
         (lines_from (call_says workers (map policy_of policies.now)) [] first (pieces bytes.now)) }

@@ -1,9 +1,10 @@
-ghost use Rattle.std.specs.Prelude.{◌≡◌, ◌<◌, ◌≤◌, ◌+◌, ◌*◌, ◌++◌, ◌^◌, ℕ, [], List, length, map, true, IfOk, OnOk, MatchOption, Contains};
+ghost use Rattle.std.specs.Prelude.{◌≡◌, ◌<◌, ◌≤◌, ◌+◌, ◌*◌, ◌++◌, ◌^◌, ℕ, [], List, length, map, true, IfOk, OnOk, MatchOption, IfSome, Contains};
 ghost use Rattle.std.specs.List.{AllByRecursion};
 ghost use Rattle.trace_text.specs.Names.{AreRisingBy, SameMembers};
-ghost use Rattle.trace_text.specs.Lines.{is_declared, may_do, is_attach};
+ghost use Rattle.trace_text.specs.Lines.{is_declared, is_in_range, may_do, is_attach};
 ghost use Rattle.trace_text.specs.Spelled.{act_said, call_said, MayBe, act_names, call_names};
-ghost use Rattle.trace_text.specs.Traces.{policy_of, name_at, dir_act, act_of, call_of};
+ghost use Rattle.trace_text.specs.Traces.{policy_of, name_at, dir_act, act_of, call_of, IsActOf, IsCallOf};
+ghost use Rattle.dir_table.specs.Meanings.{IsAdmitted};
 
 use crate::error::NoMemory;
 use crate::names::place_of;
@@ -83,9 +84,11 @@ fn dir_call(names: &[Vec<u8>], act: &SpelledAct) -> Option<DirCall>
     requires rising { AreRisingBy (λ n. n.items) names.now }
     requires known { AllByRecursion (Contains (map (λ n. n.items) names.now)) (act_names (act_said act.now)) }
     requires few { length names.now < 2 ^ 32 }
-    ensures { MatchOption result
+    requires ranged { is_in_range (act_said act.now) ≡ true }
+    ensures said { MatchOption result
         (is_attach (act_said act.now) ≡ true)
-        (λ c. (dir_act (map (λ n. n.items) names.now) c ≡ act_said act.now)) }
+        (λ c. dir_act (map (λ n. n.items) names.now) c ≡ act_said act.now) }
+    ensures admitted { IfSome result (IsAdmitted (length names.now)) }
 {
     match act {
         SpelledAct::Make { dir, name } => Some(DirCall::Make {
@@ -139,7 +142,10 @@ fn numbered_act(
     requires few { length names.now < 2 ^ 32 }
     requires declared { may_do (map policy_of policies.now) worker (act_said act.now) ≡ true }
     requires few_policies { length policies.now ≤ 64 }
-    ensures { act_of (map (λ n. n.items) names.now) (map (λ p. p.name.items) policies.now) result ≡ act_said act.now }
+    requires ranged { is_in_range (act_said act.now) ≡ true }
+    ensures said { act_of (map (λ n. n.items) names.now) (map (λ p. p.name.items) policies.now) result
+        ≡ act_said act.now }
+    ensures named { IsActOf (length names.now) (length policies.now) worker result }
 {
     match act {
         SpelledAct::Attach { name } => TraceAct::Attach(policy_place(policies, name)),
@@ -153,6 +159,7 @@ fn numbered_act(
 /// The calls by the places of their names and policies.
 pub fn numbered(
     alloc: Global,
+    workers: usize,
     names: &[Vec<u8>],
     policies: &[NamedSource],
     calls: &[SpelledCall],
@@ -160,12 +167,15 @@ pub fn numbered(
     requires rising { AreRisingBy (λ n. n.items) names.now }
     requires known { AllByRecursion (Contains (map (λ n. n.items) names.now)) (call_names (map call_said calls.now)) }
     requires few { length names.now < 2 ^ 32 }
-    requires declared { AllByRecursion (MayBe (map policy_of policies.now)) calls.now }
+    requires declared { AllByRecursion (MayBe workers (map policy_of policies.now)) calls.now }
     requires few_policies { length policies.now ≤ 64 }
-    ensures { IfOk result (λ v.
+    ensures said { IfOk result (λ v.
         map (call_of (map (λ n. n.items) names.now) (map (λ p. p.name.items) policies.now)) v.items
         ≡ map call_said calls.now) }
+    ensures named { IfOk result (λ v.
+        AllByRecursion (IsCallOf workers (length names.now) (length policies.now)) v.items) }
 {
+    let _ = workers;
     let mut numbered: Vec<TraceCall> = Vec::new(alloc);
     for call in calls {
         let act = numbered_act(names, policies, call.worker, &call.act);

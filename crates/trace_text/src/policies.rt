@@ -1,4 +1,4 @@
-ghost use Rattle.std.specs.Prelude.{◌≡◌, ◌<◌, ◌≤◌, ◌+◌, ◌^◌, [], length, map, IfOk, OnSome, option_map};
+ghost use Rattle.std.specs.Prelude.{◌≡◌, ◌<◌, ◌≤◌, ◌+◌, ◌^◌, [], length, map, IfOk, OnSome, IfNone, option_map};
 ghost use Rattle.doc_text.specs.Text.{pieces};
 ghost use Rattle.doc_text.specs.Words.{words};
 ghost use Rattle.doc_text.specs.Faults.{GivesOrWants};
@@ -82,6 +82,7 @@ fn policy_says(
     ensures exact { GivesOrWants fault_of (option_map policy_of) result
         (policy_says (map policy_of before.now) line text.now) }
     ensures room { IfOk result (λ o. OnSome o (length before.now < 64)) }
+    ensures some { IfOk result (λ o. IfNone o (0 < length before.now)) }
 {
     if is_same(text, b"calls") {
         return if before.is_empty() {
@@ -121,6 +122,7 @@ pub fn policies_of(
     ensures exact { Allows (λ x. (map policy_of x.0.items, pieces x.1.now)) result
         (ReadsPolicies profile [] first (pieces bytes.now)) }
     ensures few { IfOk result (λ x. length x.0.items ≤ 64) }
+    ensures some { IfOk result (λ x. 0 < length x.0.items) }
 {
     let mut policies: Vec<NamedSource> = Vec::new(alloc);
     let mut rest = bytes;

@@ -4,7 +4,7 @@ ghost use Rattle.trace_text.specs.Errors.{fault_of, Allows};
 ghost use Rattle.trace_text.specs.Grammar.{front_in, ReadsTrace};
 ghost use Rattle.trace_text.specs.Names.{AreRisingBy, SameMembers};
 ghost use Rattle.trace_text.specs.Spelled.{call_names};
-ghost use Rattle.trace_text.specs.Traces.{document_of, names_of};
+ghost use Rattle.trace_text.specs.Traces.{document_of, names_of, IsWithin};
 
 use crate::calls::calls_of;
 use crate::error::TraceError;
@@ -21,6 +21,7 @@ use std::alloc::Global;
 pub fn read_trace(alloc: Global, bytes: &[u8]) -> Result<Trace, TraceError>
     ensures exact { Allows document_of result (ReadsTrace bytes.now) }
     ensures rising { IfOk result (λ t. AreRisingBy (λ n. n.items) t.names.items) }
+    ensures within { IfOk result IsWithin }
     ensures named { IfOk result (λ t. SameMembers (call_names (document_of t).calls) (names_of t)) }
 {
     let (version, profile, rest) = heading_of(bytes)?;
@@ -33,6 +34,7 @@ pub fn read_trace(alloc: Global, bytes: &[u8]) -> Result<Trace, TraceError>
     let names = distinct(alloc, names_in(alloc, calls.as_slice())?)?;
     let calls = numbered(
         alloc,
+        workers.len(),
         names.as_slice(),
         policies.as_slice(),
         calls.as_slice(),

@@ -4,7 +4,7 @@ use dir_table::{Dir, DirCall, DirReply};
 use hist_log::Entry;
 use std::test::Fail;
 
-const SERIAL: &[u8; 165] =
+const SERIAL: &[u8; 172] =
     b"syncord-trace 1\nworker 0 0 0 0\npolicy none - -\ncalls\n0 make 0 a\n0 make 0 a\n0 rename 0 a 0 a\n0 make 1 b\n0 rename 0 a 1 b\n0 find 1 b\n0 find 0 a\n0 count 1\n0 next 1\n0 next 1 b\n";
 
 fn fault(rt: &HostRuntime, bytes: &[u8]) -> Option<(u32, u8)> {

@@ -1,4 +1,4 @@
-ghost use Rattle.std.specs.Prelude.{◌≡◌, ◌<◌, ◌≤◌, ◌+◌, ◌^◌, [], length, IfOk, IsSome, OnSome};
+ghost use Rattle.std.specs.Prelude.{◌≡◌, ◌<◌, ◌≤◌, ◌+◌, ◌^◌, [], length, IfOk, OnSome, IfNone};
 ghost use Rattle.doc_text.specs.Text.{pieces};
 ghost use Rattle.doc_text.specs.Words.{words};
 ghost use Rattle.doc_text.specs.Faults.{GivesOrWants};
@@ -34,6 +34,7 @@ fn attr_of(text: &[u8]) -> Option<Attr>
 fn worker_says(before: &[Attr], line: u32, text: &[u8]) -> Result<Option<Attr>, Fault>
     ensures exact { result ≡ worker_says before.now line text.now }
     ensures room { IfOk result (λ o. OnSome o (length before.now < 16)) }
+    ensures some { IfOk result (λ o. IfNone o (0 < length before.now)) }
 {
     let (first, _rest) = word_at(text);
     if is_same(first, b"worker") {
@@ -65,6 +66,7 @@ pub fn workers_of(alloc: Global, bytes: &[u8], first: u32) -> Result<(Vec<Attr>,
     ensures exact { GivesOrWants fault_of (λ x. (x.0.items, pieces x.1.now)) result
         (workers_in first (pieces bytes.now)) }
     ensures few { IfOk result (λ x. length x.0.items ≤ 16) }
+    ensures some { IfOk result (λ x. 0 < length x.0.items) }
 {
     let mut workers = Vec::new(alloc);
     let mut rest = bytes;

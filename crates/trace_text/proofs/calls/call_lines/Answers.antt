@@ -34,7 +34,7 @@ loop-rest-preserved c =
     record {
       read = rw (c.in_ok-push.ensures.items, map-append) more;
       attaches = rw (c.one_more_attach-attaches.ensures, c.in_ok-push.ensures.items) (counted-more c.loop-rest.calls.items c.in_ok-call.call c.loop-rest.attaches c.loop-rest.invariant.attaches);
-      declared = rw c.in_ok-push.ensures.items (all-push (MayBe (map policy_of c.args.policies.now)) c.loop-rest.calls.items c.in_ok-call.call c.loop-rest.invariant.declared c.in_ok-call.ensures.declared);
+      declared = rw c.in_ok-push.ensures.items (all-push (MayBe c.args.workers (map policy_of c.args.policies.now)) c.loop-rest.calls.items c.in_ok-call.call c.loop-rest.invariant.declared c.in_ok-call.ensures.declared);
       counted = omega (arith, c.one_more_attach-attaches.ensures, small (is_attach (act_said c.in_ok-call.call.act)), c.in_ok-push.ensures.len);
       line = omega (arith, c.in_ok-push.ensures.len);
       few = omega (arith, c.in_ok-push.ensures.len, c.in_ok-call.ensures.room, c.as_slice.ensures.len);

@@ -12,7 +12,7 @@ abbrev pub invariant-loop-rest : goal.invariant-loop-rest
 invariant-loop-rest l = record {
   read : lines_from (call_says l.workers (map policy_of l.policies)) (map call_said l.calls.items) l.line (pieces l.rest) ≡ lines_from (call_says l.workers (map policy_of l.policies)) [] l.first (pieces l.bytes);
   attaches : l.attaches ≡ attach_count (map call_said l.calls.items);
-  declared : AllByRecursion (MayBe (map policy_of l.policies)) l.calls.items;
+  declared : AllByRecursion (MayBe l.workers (map policy_of l.policies)) l.calls.items;
   counted : l.attaches ≤ vec_len l.calls;
   line : l.line ≡ l.first + vec_len l.calls;
   few : vec_len l.calls ≤ 65536;

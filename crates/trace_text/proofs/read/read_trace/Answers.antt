@@ -15,6 +15,6 @@ pub returns-clause-named : goal.returns-clause-named
 returns-clause-named c =
     let names = map (λ n. n.items) c.in_ok-names.names.items in
     let policies = map (λ p. p.name.items) c.in_ok-policies.policies.items in
-    let said : map (call_of names policies) c.in_ok-calls-2.calls.items ≡ map call_said c.in_ok-calls.calls.items = rw (c.as_slice-3.ensures.value, c.as_slice-4.ensures.value, c.as_slice-5.ensures.value) at c.in_ok-calls-2.ensures in
+    let said : map (call_of names policies) c.in_ok-calls-2.calls.items ≡ map call_said c.in_ok-calls.calls.items = rw (c.as_slice-3.ensures.value, c.as_slice-4.ensures.value, c.as_slice-5.ensures.value) at c.in_ok-calls-2.ensures.said in
     let same : SameMembers (call_names (map call_said c.in_ok-calls.calls.items)) names = rw (c.in_ok-names_in.ensures.names, c.as_slice-2.ensures.value) at c.in_ok-names.ensures.same in
     subst (λ (cs : List CallLine). SameMembers (call_names cs) names) (sym said) same
