@@ -53,10 +53,10 @@ pub mod Flagged
 pub mod GiveRow
 pub mod GiveLaw
 pub mod OwedCall
-pub mod LookRow
 pub mod MarkBits
 pub mod MarkOrder
 pub mod MarkLaw
+pub mod LookRow
 pub mod BeginBits
 pub mod OwedBatch
 pub mod BeginRow
