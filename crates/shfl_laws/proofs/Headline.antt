@@ -61,7 +61,7 @@ link-is f h = grind arith
 pub fore-queued : (q : PassState) → is_fore q ≡ true → is_queued q ≡ true
 fore-queued q h = grind arith
 
-hand-round : (f : Phase) → has_hand f ≡ true → is_round f ≡ true
+pub hand-round : (f : Phase) → has_hand f ≡ true → is_round f ≡ true
 hand-round f h = grind arith
 
 module _ (t : Terms) (w : World) (ok : Lawful t w) where
