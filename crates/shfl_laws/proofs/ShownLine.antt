@@ -159,7 +159,7 @@ module _ (t : Terms) (w : World) (ok : Lawful t w) (full : length w.passes ≡ c
       by (Rest p) e = let u = ok.agrees.grouping.rester p (ap idle_shuffler e) in
           let a : least rounds n ≡ 0 = least-zero rounds n (λ q g. (let z = ok.agrees.grouping.walks q g in let y = ap active_shuffler e in omega arith)) in
           let b : least flags n ≡ suc p = least-is flags n p (queued-there p u.0) (both (is_queued (pass p)) (shuffler_of (look w.words (State p))) u.0 u.1)
-              (λ q g. (let v = is-both (is_queued (pass q)) (shuffler_of (look w.words (State q))) g in let z = ok.agrees.grouping.flagged q v.0 v.1 in let y = ap idle_shuffler e in omega arith)) in
+          (λ q g. (let v = is-both (is_queued (pass q)) (shuffler_of (look w.words (State q))) g in let z = ok.agrees.grouping.flagged q v.0 v.1 in let y = ap idle_shuffler e in omega arith)) in
           e ∙ sym (λ j. role_of (a j) (b j))
 
   abbrev number : ℕ → ℕ
