@@ -4,7 +4,9 @@ use Rattle.std.specs.Prelude.{Option, Some, None, ◌&&◌, not}
 use Rattle.std.proofs.lemmas.Bool.Decides.{nat_tests}
 use Rattle.shfl_line.specs.declared.events.Mode.{Mode}
 use Rattle.shfl_line.specs.declared.events.Mode.TheVariants.{Write, Read}
-use Rattle.shfl_line.specs.Line.{Line, mark_of, active_shuffler, is_write, writer_count, reader_count}
+use Rattle.shfl_line.specs.declared.events.Role.{Role}
+use Rattle.shfl_line.specs.declared.events.Role.TheVariants.{Nobody, Walk, Rest}
+use Rattle.shfl_line.specs.Line.{idle_shuffler, Line, mark_of, active_shuffler, is_write, writer_count, reader_count}
 use Rattle.shfl_line.specs.Words.{link_word}
 use Rattle.shfl_line.specs.Passes.{times, first, EachPair, MarkedFirst, end, follower_after}
 use Rattle.shfl_line.proofs.Chain
@@ -18,7 +20,7 @@ use Rattle.shfl_core.specs.Order.{Order as Ordered, Follows, Walks, awake}
 use Rattle.shfl_core.specs.Grouping.{Grouping}
 use Rattle.shfl_core.specs.Holding.{write_of, read_of}
 use Rattle.shfl_core.specs.Lawful.{Terms, Lawful}
-use Rattle.shfl_laws.specs.Headline.{Holds, HoldsAs, Holders, OneWriter, ReadersAlone, Nobody, IsSuccessor, HasNoSuccessor, IsHead, Named, Active, Called, IsWaitLine, IsQueued, StandsOnce, Shuffles, batch, Headline}
+use Rattle.shfl_laws.specs.Headline.{Holds, HoldsAs, Holders, OneWriter, ReadersAlone, Nobody as NobodyHolds, IsSuccessor, HasNoSuccessor, IsHead, Named, Active, Called, IsWaitLine, IsQueued, StandsOnce, Shuffles, batch, Headline}
 use Rattle.shfl_laws.proofs.Order
 use Rattle.shfl_laws.proofs.Leave
 use Rattle.shfl_laws.proofs.Counts.{write-in, read-in}
@@ -61,8 +63,13 @@ link-is f h = grind arith
 pub fore-queued : (q : PassState) → is_fore q ≡ true → is_queued q ≡ true
 fore-queued q h = grind arith
 
-hand-round : (f : Phase) → has_hand f ≡ true → is_round f ≡ true
+pub hand-round : (f : Phase) → has_hand f ≡ true → is_round f ≡ true
 hand-round f h = grind arith
+
+roles-apart : (r : Role) (p q : ℕ) → active_shuffler r ≡ suc p → idle_shuffler r ≡ suc q → ⊥
+roles-apart Nobody p q a b = omega arith
+roles-apart (Walk x) p q a b = omega arith
+roles-apart (Rest x) p q a b = omega arith
 
 module _ (t : Terms) (w : World) (ok : Lawful t w) where
   abbrev s : Line
@@ -118,7 +125,7 @@ module _ (t : Terms) (w : World) (ok : Lawful t w) where
           (λ q h. ⊎_elim (λ b. one q p.0 (omega arith) a b) (λ b. absurd (let c = reads-once q b in let d = read-in q s.hold in let z = ok.agrees.holding.alone (omega arith) in omega arith)) (holds-as q h))
       by zero (suc m) e f = let p = some-reader s.hold (omega arith) in ReadersAlone p.0 (as-reader p.0 p.1)
           (λ q h. ⊎_elim (λ b. absurd (none e q b)) (λ b. b) (holds-as q h))
-      by zero zero e f = Nobody (λ q h. ⊎_elim (λ b. none e q b) (λ b. (let c = reads-once q b in let d = read-in q s.hold in omega arith)) (holds-as q h))
+      by zero zero e f = NobodyHolds (λ q h. ⊎_elim (λ b. none e q b) (λ b. (let c = reads-once q b in let d = read-in q s.hold in omega arith)) (holds-as q h))
 
   o : Ordered (view w) s ok.giver
   o = ok.agrees.order
@@ -235,6 +242,8 @@ module _ (t : Terms) (w : World) (ok : Lawful t w) where
     each = each;
     others = others;
     one_shuffler = λ p q a b. Order.alone t.rules.limit (view w) s q p k b a;
+    one_flag = λ p q a b. (let x = k.flagged p a.queued a.flag in let y = k.flagged q b.queued b.flag in omega arith);
+    no_flag = λ p q a b. roles-apart s.role p q (k.walks p a) (k.flagged q b.queued b.flag);
     detaches = detaches;
     detached_by = detached-by;
     prefix = prefix-line s.line (λ q m. Order.queued-in (view w) s q o.stands m) k.prefix;

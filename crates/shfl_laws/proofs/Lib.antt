@@ -1,3 +1,6 @@
+pub mod Leasts
+pub mod HoldersBelow
+pub mod ShownLine
 pub mod ReadyLaw
 pub mod RingRow
 pub mod Facts

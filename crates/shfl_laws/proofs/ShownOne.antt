@@ -96,7 +96,7 @@ abbrev num : Mode → ℕ
 num m = cond (is_write m) 1 0
 
 -- a rising hold is told by who stands in it, and how
-holds-one : (least n : ℕ) (a b : List (ℕ × Mode)) → Rises least n a → Rises least n b → ((q : ℕ) → write_of q a ≡ write_of q b) → ((q : ℕ) → read_of q a ≡ read_of q b) → a ≡ b
+pub holds-one : (least n : ℕ) (a b : List (ℕ × Mode)) → Rises least n a → Rises least n b → ((q : ℕ) → write_of q a ≡ write_of q b) → ((q : ℕ) → read_of q a ≡ read_of q b) → a ≡ b
 holds-one least n [] [] r u f g = refl
 holds-one least n [] (y ∷ ys) r u f g = absurd (let t = first-in y ys in let s = in-some y.1 (write_of y.0 (y ∷ ys)) (read_of y.0 (y ∷ ys)) (write_of y.0 ys) (read_of y.0 ys) t.0 t.1 in let c = f y.0 in let d = g y.0 in omega arith)
 holds-one least n (x ∷ xs) [] r u f g = absurd (let t = first-in x xs in let s = in-some x.1 (write_of x.0 (x ∷ xs)) (read_of x.0 (x ∷ xs)) (write_of x.0 xs) (read_of x.0 xs) t.0 t.1 in let c = f x.0 in let d = g x.0 in omega arith)
@@ -131,7 +131,7 @@ holds-one least n (x ∷ xs) (y ∷ ys) r u f g = λ j. (same j, modes j) ∷ ta
         (λ q. (let c : read_here q x + read_of q xs ≡ read_here q y + read_of q ys = g q in let d : read_here q x ≡ read_here q y = (λ j. read_here q (same j, modes j)) in omega arith))
 
 -- a list of numbers is told by its numbers
-numbers-one : (a b : List ℕ) → length a ≡ length b → ((q : ℕ) → slice_index a q ≡ slice_index b q) → a ≡ b
+pub numbers-one : (a b : List ℕ) → length a ≡ length b → ((q : ℕ) → slice_index a q ≡ slice_index b q) → a ≡ b
 numbers-one [] [] e f = refl
 numbers-one [] (y ∷ ys) e f = absurd (omega arith)
 numbers-one (x ∷ xs) [] e f = absurd (omega arith)

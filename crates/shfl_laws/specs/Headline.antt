@@ -2,7 +2,7 @@
 use Rattle.std.specs.Prelude.{◌≡◌, ◌≢◌, ◌⊎◌, ℕ, suc, ◌≤◌, List, [], ◌∷◌, Option, Some, true, false}
 use Rattle.shfl_line.specs.declared.events.Mode.{Mode}
 use Rattle.shfl_line.specs.declared.events.Mode.TheVariants.{Write, Read}
-use Rattle.shfl_line.specs.Words.{ready_of, batch_of}
+use Rattle.shfl_line.specs.Words.{ready_of, shuffler_of, batch_of}
 use Rattle.shfl_line.specs.Passes.{times, Chain, EachPair, MarkedFirst, end}
 use Rattle.shfl_core.specs.declared.phase.Phase.TheVariants.{Link, Ready}
 use Rattle.shfl_core.specs.declared.words.Word.TheVariants.{Tail, Next, State}
@@ -66,6 +66,11 @@ StandsOnce line detached p = ((times p line ≡ 1) × (detached ≢ Some p)) ⊎
 abbrev pub Shuffles : World → ℕ → Type 0
 Shuffles w p = is_round (known w.passes p).phase ≡ true
 
+-- the pass is queued, and its state word has the shuffler's flag
+pub record HasFlag (w : World) (p : ℕ) : Type 0 where
+  pub queued : IsQueued w p
+  pub flag : shuffler_of (look w.words (State p)) ≡ true
+
 -- the batch number that a pass's state word gives
 abbrev pub batch : World → ℕ → ℕ
 batch w p = batch_of (look w.words (State p))
@@ -77,8 +82,10 @@ pub record Headline (limit : ℕ) (w : World) (line : List ℕ) (detached : Opti
   -- every queued pass stands once in the line or is the one detached, and nobody else does
   pub each : (p : ℕ) → IsQueued w p → StandsOnce line detached p
   pub others : (p : ℕ) → ¬ (IsQueued w p) → (times p line ≡ 0) × (detached ≢ Some p)
-  -- one pass at most shuffles, and only it has a waiter detached: its candidate, between two stores
+  -- one pass at most shuffles; else one at most has the flag; and only who shuffles has a waiter detached, its candidate
   pub one_shuffler : (p q : ℕ) → Shuffles w p → Shuffles w q → p ≡ q
+  pub one_flag : (p q : ℕ) → HasFlag w p → HasFlag w q → p ≡ q
+  pub no_flag : (p q : ℕ) → Shuffles w p → ¬ (HasFlag w q)
   pub detaches : (p : ℕ) → has_hand (known w.passes p).phase ≡ true → detached ≡ Some (known w.passes p).reg.cand
   pub detached_by : (c : ℕ) → detached ≡ Some c → (p : ℕ) × Shuffles w p × (has_hand (known w.passes p).phase ≡ true)
   -- the passes with a batch number are a prefix of the line, and no number is above the limit

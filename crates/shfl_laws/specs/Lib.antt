@@ -6,3 +6,4 @@ pub mod Seen
 pub mod Facts
 pub mod RoundMeasure
 pub mod Rounds
+pub mod ShownLine

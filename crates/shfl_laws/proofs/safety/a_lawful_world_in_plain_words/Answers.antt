@@ -1,6 +1,7 @@
 use Rattle.shfl_core.specs.View.{view}
 use Rattle.shfl_laws.proofs.Facts.{facts}
 use Rattle.shfl_laws.proofs.Headline.{headline}
+use Rattle.shfl_laws.proofs.ShownLine.{shown-line-law}
 use Rattle.shfl_laws.proofs.ShownOne.{shows-one}
 use Rattle.shfl_laws.proofs.WellFormed.{agrees-well-formed}
 use Rattle.shfl_laws.proofs.safety.a_lawful_world_in_plain_words.Goals as goal
@@ -16,3 +17,6 @@ returns-clause-one c = shows-one
 
 pub returns-clause-facts : goal.returns-clause-facts
 returns-clause-facts c = facts
+
+pub returns-clause-shown : goal.returns-clause-shown
+returns-clause-shown c = shown-line-law
