@@ -12,3 +12,4 @@ pub mod LinesAgain
 pub mod ListingAgain
 pub mod SlotsAgain
 pub mod Spelled
+pub mod OnlyListing

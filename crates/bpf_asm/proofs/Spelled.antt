@@ -1,14 +1,9 @@
 -- What is read of a word is spelled so.
-use Rattle.std.proofs.Common.{◌≡◌, ℕ, ℤ, pos, negsuc, neg_ℤ, ◌+◌, ◌-◌, ◌*◌, ◌^◌, ◌<◌, ◌≤◌, zero, suc, List, [], ◌∷◌, ◌++◌, length, take, drop, Bool, true, false, not, ◌&&◌, ◌==◌, nat_le, nat_lt, Option, Some, None, Result, Ok, Err, refl, sym, ap, ◌∙◌, subst, arith, codes}
+use Rattle.std.proofs.Common.{◌≡◌, ℕ, ℤ, pos, neg_ℤ, ◌-◌, ◌^◌, ◌<◌, zero, suc, List, [], ◌∷◌, ◌++◌, length, take, drop, true, ◌==◌, nat_le, nat_lt, Option, Some, None, Result, Ok, Err, refl, sym, ap, ◌∙◌, arith, codes}
 use Rattle.std.specs.Fmt.{decimal, signed_decimal}
 use Rattle.std.proofs.lemmas.Bool.{cond_both, leb-true, eqb-true, eqb-false}
 use Rattle.std.proofs.lemmas.List.{take-append-drop}
 use Rattle.std.proofs.lemmas.Slice.Eq.{bytes_eq-Decides}
-use Rattle.bpf_isa.specs.declared.insn.AluOp.{AluOp}
-use Rattle.bpf_isa.specs.declared.insn.AluOp.TheVariants as alu
-use Rattle.bpf_isa.specs.declared.insn.Cond.{Cond}
-use Rattle.bpf_isa.specs.declared.insn.Cond.TheVariants as condition
-use Rattle.bpf_isa.specs.declared.insn.Operand.{Operand}
 use Rattle.bpf_isa.specs.declared.insn.Operand.TheVariants as operand
 use Rattle.bpf_isa.specs.declared.insn.Profile.{Profile}
 use Rattle.bpf_isa.specs.declared.insn.Profile.TheVariants as profile
@@ -20,7 +15,6 @@ use Rattle.doc_text.proofs.Counting.{decimal-value}
 use Rattle.bpf_asm.specs.declared.form.Form.{Form}
 use Rattle.bpf_asm.specs.declared.form.Form.TheVariants as form
 use Rattle.bpf_asm.specs.Disassembly.{operation_name, condition_name, width_name, load_name, signed_load_name, swap_name, register_text, source_text}
-use Rattle.bpf_asm.specs.Faults.{◌>>=◌}
 use Rattle.bpf_asm.specs.Forms.{form_of, plain_form, further_form, with_width, sized_form, operation_named, condition_named, neg_form, extension_form, width_named, or_else, in_profile_two}
 use Rattle.bpf_asm.specs.Operands.{magnitude_in, below_zero, signed_in, short_in, long_in, wide_in, register_number, register_in, source_in, is_name, Place, place_in}
 use Rattle.bpf_asm.specs.Statements.{extension_named, swap_named}

@@ -1,5 +1,5 @@
 -- Texts without names.
-use Rattle.std.specs.Prelude.{ℕ, List, Result, Ok, Err}
+use Rattle.std.specs.Prelude.{ℕ, List, Ok, Err}
 use Rattle.std.specs.List.{AllByRecursion}
 use Rattle.bpf_isa.specs.declared.insn.Profile.{Profile}
 use Rattle.bpf_asm.specs.Assembly.{Line, lines_in}
