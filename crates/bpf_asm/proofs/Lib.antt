@@ -11,3 +11,5 @@ pub mod WordsAgain
 pub mod LinesAgain
 pub mod ListingAgain
 pub mod SlotsAgain
+pub mod Spelled
+pub mod OnlyListing

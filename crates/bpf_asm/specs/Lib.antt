@@ -6,3 +6,4 @@ pub mod Statements
 pub mod Assembly
 pub mod Marks
 pub mod Disassembly
+pub mod Plain

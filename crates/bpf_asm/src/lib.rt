@@ -5,8 +5,10 @@ mod assembler;
 mod error;
 mod form;
 mod listing;
+mod mnemonics;
 mod names;
 mod operand;
+mod rows;
 mod statement;
 mod survey;
 

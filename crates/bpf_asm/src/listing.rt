@@ -1,95 +1,20 @@
 //! Instructions as text, one a line, without names.
-ghost use Rattle.std.specs.Prelude.{◌≡◌, ◌++◌, ◌∷◌, [], ◌+◌, ◌<◌, ◌≤◌, codes, IfOk, OnOk, Ok, decimal};
+ghost use Rattle.std.specs.Prelude.{◌≡◌, ◌++◌, ◌∷◌, [], ◌+◌, ◌<◌, ◌≤◌, codes, IfOk, OnOk, Ok, decimal, ℕ, List};
 ghost use Rattle.std.specs.Fmt.{signed_decimal};
 ghost use Rattle.bpf_isa.specs.declared.insn.Insn.TheVariants as insn;
+ghost use Rattle.bpf_isa.specs.declared.insn.Profile.{Profile};
 ghost use Rattle.bpf_isa.specs.declared.insn.Profile.TheVariants as profile;
 ghost use Rattle.bpf_isa.specs.WellFormed.{IsWellFormed};
 ghost use Rattle.bpf_asm.specs.Assembly.{assembly};
-ghost use Rattle.bpf_asm.specs.Disassembly.{operation_name, condition_name, width_name, load_name, signed_load_name, swap_name, register_text, source_text, wide_number, line_text, disassembly};
+ghost use Rattle.bpf_asm.specs.Disassembly.{operation_name, condition_name, width_name, swap_name, register_text, source_text, wide_number, line_text, disassembly};
+ghost use Rattle.bpf_asm.specs.Plain.{HasNoNames};
 ghost use Rattle.doc_text.specs.Text.{ended};
 ghost use Rattle.doc_text.specs.Words.{spaced};
 
-use bpf_isa::{AluOp, Cond, Insn, NoMemory, Operand, Order, Size, Width};
+use crate::mnemonics::{condition, load, operation, signed_load, swap, width_digits};
+use bpf_isa::{AluOp, Cond, Insn, NoMemory, Operand, Order, Width};
 use doc_text::push_decimal;
 use std::alloc::{AllocError, Global};
-
-fn operation(op: AluOp) -> &'static [u8]
-    ensures { result.now ≡ operation_name op }
-{
-    match op {
-        AluOp::Add => b"add",
-        AluOp::Sub => b"sub",
-        AluOp::Mul => b"mul",
-        AluOp::Div => b"div",
-        AluOp::Or => b"or",
-        AluOp::And => b"and",
-        AluOp::Lsh => b"lsh",
-        AluOp::Rsh => b"rsh",
-        AluOp::Mod => b"mod",
-        AluOp::Xor => b"xor",
-        AluOp::Mov => b"mov",
-        AluOp::Arsh => b"arsh",
-    }
-}
-
-fn condition(cond: Cond) -> &'static [u8]
-    ensures { result.now ≡ condition_name cond }
-{
-    match cond {
-        Cond::Eq => b"jeq",
-        Cond::Gt => b"jgt",
-        Cond::Ge => b"jge",
-        Cond::Set => b"jset",
-        Cond::Ne => b"jne",
-        Cond::Sgt => b"jsgt",
-        Cond::Sge => b"jsge",
-        Cond::Lt => b"jlt",
-        Cond::Le => b"jle",
-        Cond::Slt => b"jslt",
-        Cond::Sle => b"jsle",
-    }
-}
-
-fn width_digits(width: Width) -> &'static [u8]
-    ensures { result.now ≡ width_name width }
-{
-    match width {
-        Width::W32 => b"32",
-        Width::W64 => b"64",
-    }
-}
-
-fn load(size: Size) -> &'static [u8]
-    ensures { result.now ≡ load_name size }
-{
-    match size {
-        Size::B => b"ldb",
-        Size::H => b"ldh",
-        Size::W => b"ldw",
-        Size::DW => b"lddw",
-    }
-}
-
-fn signed_load(size: Size) -> &'static [u8]
-    ensures { result.now ≡ signed_load_name size }
-{
-    match size {
-        Size::B => b"ldsb",
-        Size::H => b"ldsh",
-        Size::W => b"ldsw",
-        Size::DW => b"ldsdw",
-    }
-}
-
-fn swap(order: Order) -> &'static [u8]
-    ensures { result.now ≡ swap_name order }
-{
-    match order {
-        Order::Little => b"le",
-        Order::Big => b"be",
-        Order::Swap => b"swap",
-    }
-}
 
 fn push_sized(out: &mut Vec<u8>, name: &[u8], width: Width) -> Result<(), AllocError>
     ensures { OnOk result (out.new.items ≡ out.old.items ++ (name.now ++ width_name width)) }
@@ -312,6 +237,8 @@ pub fn disassemble(alloc: Global, insns: &[Insn]) -> Result<Vec<u8>, NoMemory>
     requires { IsWellFormed insns.now }
     ensures text { IfOk result (λ v. v.items ≡ disassembly insns.now) }
     ensures assembles { IfOk result (λ v. assembly profile.Two v.items ≡ Ok insns.now) }
+    ensures only { IfOk result (λ v. (p : Profile) (text : List ℕ) → HasNoNames p text
+        → assembly p text ≡ Ok insns.now → text ≡ v.items) }
 {
     list_exactly(alloc, insns)
 }

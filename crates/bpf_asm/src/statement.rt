@@ -7,11 +7,14 @@ ghost use Rattle.doc_text.specs.Words.{words, one, two, three};
 
 use crate::form::{Form, form_named};
 use crate::operand::{
-    NO_FORM, Place, ShortPlace, both, is_name, long_place, register, short, short_place, source,
-    wide,
+    NO_FORM, Place, ShortPlace, both, is_name, long_place, register, short_place, source, wide,
 };
-use bpf_isa::{AluOp, Cond, Insn, Order, Profile, Size, Width};
-use doc_text::{is_same, one_word, text_of, three_words, two_words, word_at};
+use crate::rows::{
+    alu, exit, is_alone, load, mov_signed, neg, one_operand, signed_load, swap, three_operands,
+    two_operands,
+};
+use bpf_isa::{Cond, Insn, Profile, Width};
+use doc_text::{text_of, word_at};
 
 /// A line of no text with a line feed.
 const UNFINISHED: u8 = 1;
@@ -26,172 +29,6 @@ pub enum Statement<'a> {
     Wide { dst: u8, low: i32, high: i32 },
     /// A jump whose offset is still 0, and the name that it leads to.
     JumpTo(Insn, &'a [u8]),
-}
-
-fn registers(dst: &[u8], src: &[u8]) -> Result<(u8, u8), u8>
-    ensures { result ≡ registers_in dst.now src.now }
-{
-    both(register(dst), register(src))
-}
-
-fn extension_bits(width: Width, word: &[u8]) -> Option<u8>
-    ensures { result ≡ extension_named width word.now }
-{
-    if is_same(word, b"8") {
-        return Some(8);
-    }
-    if is_same(word, b"16") {
-        return Some(16);
-    }
-    match width {
-        Width::W32 => None,
-        Width::W64 => { if is_same(word, b"32") { Some(32) } else { None } }
-    }
-}
-
-fn swap_bits(word: &[u8]) -> Option<u8>
-    ensures { result ≡ swap_named word.now }
-{
-    if is_same(word, b"16") {
-        Some(16)
-    } else if is_same(word, b"32") {
-        Some(32)
-    } else if is_same(word, b"64") {
-        Some(64)
-    } else {
-        None
-    }
-}
-
-fn one_operand(rest: Option<&[u8]>) -> Option<&[u8]>
-    ensures { MatchOption result
-        (one (words_behind rest.entry) ≡ None)
-        (λ w. one (words_behind rest.entry) ≡ Some w.now) }
-{
-    one_word(rest?)
-}
-
-fn two_operands(rest: Option<&[u8]>) -> Option<(&[u8], &[u8])>
-    ensures { MatchOption result
-        (two (words_behind rest.entry) ≡ None)
-        (λ w. two (words_behind rest.entry) ≡ Some (w.0.now, w.1.now)) }
-{
-    two_words(rest?)
-}
-
-fn three_operands(rest: Option<&[u8]>) -> Option<(&[u8], &[u8], &[u8])>
-    ensures { MatchOption result
-        (three (words_behind rest.entry) ≡ None)
-        (λ w. three (words_behind rest.entry) ≡ Some (w.0.now, w.1.now, w.2.now)) }
-{
-    three_words(rest?)
-}
-
-fn alu(width: Width, op: AluOp, rest: Option<&[u8]>) -> Result<Insn, u8>
-    ensures { result ≡ alu_in width op (words_behind rest.entry) }
-{
-    let Some((dst, src)) = two_operands(rest) else {
-        return Err(NO_FORM);
-    };
-    let (dst, src) = both(register(dst), source(src))?;
-    Ok(Insn::Alu {
-        width,
-        op,
-        dst,
-        src,
-    })
-}
-
-fn neg(width: Width, rest: Option<&[u8]>) -> Result<Insn, u8>
-    ensures { result ≡ neg_in width (words_behind rest.entry) }
-{
-    let Some(dst) = one_operand(rest) else {
-        return Err(NO_FORM);
-    };
-    let dst = register(dst)?;
-    Ok(Insn::Neg { width, dst })
-}
-
-fn load(size: Size, rest: Option<&[u8]>) -> Result<Insn, u8>
-    ensures { result ≡ load_in size (words_behind rest.entry) }
-{
-    let Some((dst, src, off)) = three_operands(rest) else {
-        return Err(NO_FORM);
-    };
-    let ((dst, src), off) = both(registers(dst, src), short(off))?;
-    Ok(Insn::Load {
-        size,
-        dst,
-        src,
-        off,
-    })
-}
-
-fn signed_load(size: Size, rest: Option<&[u8]>) -> Result<Insn, u8>
-    ensures { result ≡ signed_load_in size (words_behind rest.entry) }
-{
-    let Some((dst, src, off)) = three_operands(rest) else {
-        return Err(NO_FORM);
-    };
-    let ((dst, src), off) = both(registers(dst, src), short(off))?;
-    Ok(Insn::LoadSigned {
-        size,
-        dst,
-        src,
-        off,
-    })
-}
-
-fn mov_signed(width: Width, rest: Option<&[u8]>) -> Result<Insn, u8>
-    ensures { result ≡ mov_signed_in width (words_behind rest.entry) }
-{
-    let Some((bits, dst, src)) = three_operands(rest) else {
-        return Err(NO_FORM);
-    };
-    let Some(bits) = extension_bits(width, bits) else {
-        return Err(NO_FORM);
-    };
-    let (dst, src) = registers(dst, src)?;
-    Ok(Insn::MovSigned {
-        width,
-        bits,
-        dst,
-        src,
-    })
-}
-
-fn swap(order: Order, rest: Option<&[u8]>) -> Result<Insn, u8>
-    ensures { result ≡ swap_in order (words_behind rest.entry) }
-{
-    let Some((bits, dst)) = two_operands(rest) else {
-        return Err(NO_FORM);
-    };
-    let Some(bits) = swap_bits(bits) else {
-        return Err(NO_FORM);
-    };
-    let dst = register(dst)?;
-    Ok(Insn::Swap { order, bits, dst })
-}
-
-/// Whether no word stands behind the first one.
-#[tactic(auto, using(crate::proofs::Behind::some_words))]
-fn is_alone(rest: Option<&[u8]>) -> bool
-    ensures { result ≡ no_words (words_behind rest.entry) }
-{
-    match rest {
-        None => true,
-        Some(_) => false,
-    }
-}
-
-fn exit(rest: Option<&[u8]>) -> Result<Insn, u8>
-    ensures { result ≡ exit_in (words_behind rest.entry) }
-{
-    if is_alone(rest) {
-        Ok(Insn::Exit)
-    } else {
-        Err(NO_FORM)
-    }
 }
 
 fn wide_load(rest: Option<&[u8]>) -> Result<Statement<'_>, u8>
