@@ -1,5 +1,5 @@
 -- What an index into a list reads.
-use Rattle.std.proofs.Common.{◌≡◌, ◌⊎◌, ℕ, zero, suc, ◌+◌, ◌*◌, ◌/◌, ◌%◌, ◌<◌, List, [], ◌∷◌, ◌++◌, map, inl, inr, ⊎_elim, subst, length-append, length, get_or, sym, refl, ap, ◌∙◌, arith, slice_get, Some, None, Option, IsSomeAnd, All}
+use Rattle.std.proofs.Common.{◌≡◌, ◌⊎◌, ℕ, zero, suc, ◌+◌, ◌<◌, List, [], ◌∷◌, ◌++◌, map, inl, inr, ⊎_elim, subst, length-append, length, get_or, sym, refl, ap, ◌∙◌, arith, slice_get, Some, None, Option, IsSomeAnd, All}
 use native.Mathlib.Decide.{dec_lt}
 use Rattle.policy_versions.specs.Rule.{IsAmong, version_of, which_of, word_of}
 use Rattle.policy_versions.specs.Places.{RegistryId}

@@ -1,4 +1,4 @@
-use Rattle.std.proofs.Common.{◌≡◌, sym, ◌∙◌}
+use Rattle.std.proofs.Common.{sym, ◌∙◌}
 use Rattle.policy_versions.proofs.Indexed.{fresh_closed, closed_last}
 use Rattle.policy_versions.proofs.tests.a_place_in_use_is_not_filled.Goals as goal
 

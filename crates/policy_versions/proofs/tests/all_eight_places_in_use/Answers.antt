@@ -1,4 +1,4 @@
-use Rattle.std.proofs.Common.{◌≡◌, sym, ◌∙◌}
+use Rattle.std.proofs.Common.{sym, ◌∙◌}
 use Rattle.policy_versions.proofs.Indexed.{fresh_closed}
 use Rattle.policy_versions.proofs.tests.all_eight_places_in_use.Goals as goal
 

@@ -1,4 +1,4 @@
-use Rattle.std.proofs.Common.{◌≡◌, List, All, subst, sym, ◌∙◌}
+use Rattle.std.proofs.Common.{List, All, subst, sym, ◌∙◌}
 use Rattle.policy_versions.specs.Models.{PassModel, IsClosed}
 use Rattle.policy_versions.proofs.Indexed.{fresh_closed}
 use Rattle.policy_versions.proofs.tests.versions_never_fall.Goals as goal
