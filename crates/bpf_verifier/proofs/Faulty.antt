@@ -1,6 +1,6 @@
 -- The faults that a slot's state shows are exactly those that the slot has.
-use Rattle.std.proofs.Common.{◌≡◌, ◌≢◌, ◌⊎◌, inl, inr, ℕ, ◌<◌, List, ◌∷◌, length, Option, Some, None, true, eqb, refl, sym, ap, ◌∙◌, subst, arith}
-use Rattle.std.proofs.lemmas.Bool.Decides.{nat_tests}
+use Rattle.std.proofs.Common.{◌≡◌, ◌≢◌, ◌⊎◌, inl, inr, ℕ, ◌<◌, List, ◌∷◌, length, Option, Some, None, true, refl, sym, ap, ◌∙◌, subst}
+use Rattle.std.proofs.lemmas.Bool.{eq-eqb}
 use Rattle.bpf_isa.specs.declared.insn.Insn.{Insn}
 use Rattle.bpf_isa.specs.declared.insn.Insn.TheVariants.{Alu, Neg, Load, Wide, Half, Goto, GotoLong, Jump, Exit, LoadSigned, MovSigned, Swap}
 use Rattle.bpf_isa.specs.Flow.{insn_at}
@@ -45,13 +45,10 @@ none_in_sum insns slot reg sum h lt no_number no_context = by_kind (kind_at sum 
 reached : (insns : List Insn) (slot : ℕ) (sum : List Kind) → SumsUp (Arrives insns slot) sum → IsReached insns slot
 reached insns slot sum h = (h.some.1.0, h.some.1.1)
 
-itself : (n : ℕ) → eqb n n ≡ true
-itself n = grind (arith, nat_tests)
-
 -- a load reads its base
 pub base_read : (insn : Insn) (base : ℕ) → base_of insn ≡ Some base → reads insn base ≡ true
-base_read (Load size dst src off) base e = let P : ℕ → Type 0 = λ n. eqb src n ≡ true in subst P (let same : src ≡ base = cc in same) (itself src)
-base_read (LoadSigned size dst src off) base e = let P : ℕ → Type 0 = λ n. eqb src n ≡ true in subst P (let same : src ≡ base = cc in same) (itself src)
+base_read (Load size dst src off) base e = eq-eqb src base (let same : src ≡ base = cc in same)
+base_read (LoadSigned size dst src off) base e = eq-eqb src base (let same : src ≡ base = cc in same)
 base_read (Alu width op dst src) base e = cc
 base_read (Neg width dst) base e = cc
 base_read (Swap order bits dst) base e = cc

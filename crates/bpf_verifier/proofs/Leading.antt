@@ -112,14 +112,6 @@ pub target_inside : (insn : Insn) (slot count : ℕ) (jump : Option ℕ) → IsT
 target_inside insn slot count None is stays = tt
 target_inside insn slot count (Some to) is stays = inside_or to count (λ le. stays (to, target_leads insn slot (Some to) to is refl, le))
 
--- kinds were handed to the next slot, where the jump leads there too or nowhere else
-pub hands_on_once : (insn : Insn) (slot : ℕ) (kinds : List Kind) (next jump : Option ℕ) (to : ℕ) (old new : Option (List Kind)) → next ≡ next_of insn slot → IsTarget insn slot jump → jump ≡ next
-    → JoinsAt next kinds to old new → HandsOn insn slot kinds to old new
-hands_on_once insn slot kinds next jump to old new e is same joins = record {
-  here = λ leads. joins.here (elim (leads_cases insn slot jump to is leads) [ inl a ↦ e ∙ a | inr a ↦ sym same ∙ a ]);
-  others = λ other. joins.others (λ a. other (next_leads insn slot to (sym e ∙ a)));
-}
-
 -- kinds were handed to the next slot and to the target
 pub hands_on_twice : (insn : Insn) (slot : ℕ) (kinds : List Kind) (next jump : Option ℕ) (to : ℕ) (old mid new : Option (List Kind)) → next ≡ next_of insn slot → IsTarget insn slot jump → (jump ≡ next → ⊥)
     → JoinsAt next kinds to old mid → JoinsAt jump kinds to mid new → HandsOn insn slot kinds to old new

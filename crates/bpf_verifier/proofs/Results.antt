@@ -1,7 +1,8 @@
 -- What an instruction makes of a set of lists of kinds, it makes of their sum.
-use Rattle.std.proofs.Common.{◌≡◌, ◌≢◌, inl, inr, ℕ, ◌<◌, List, length, set, Option, Some, None, true, eqb, refl, sym, ap, ◌∙◌, subst, arith, get_or-set_same, get_or-set_other}
+use Rattle.std.proofs.Common.{◌≡◌, ◌≢◌, inl, inr, ℕ, ◌<◌, List, length, set, Option, Some, None, true, refl, sym, ap, ◌∙◌, subst, arith, get_or-set_same, get_or-set_other}
 use Rattle.std.proofs.Math.ListN.{length-set}
-use Rattle.std.proofs.lemmas.Bool.Decides.{eqb_tells, nat_tests}
+use Rattle.std.proofs.lemmas.Bool.{eq-eqb}
+use Rattle.std.proofs.lemmas.Bool.Decides.{eqb_tells}
 use Rattle.bpf_isa.specs.declared.insn.Width.TheVariants.{W32, W64}
 use Rattle.bpf_isa.specs.declared.insn.AluOp.TheVariants.{Mov}
 use Rattle.bpf_isa.specs.declared.insn.Operand.TheVariants.{Reg, Imm}
@@ -102,12 +103,9 @@ result_given Half kinds = number_given
 result_given (Goto off) kinds = number_given
 result_given (GotoLong off) kinds = number_given
 
-itself : (n : ℕ) → eqb n n ≡ true
-itself n = grind (arith, nat_tests)
-
 -- the kind of a result depends on the registers that are read
 result_by_reads : (insn : Insn) (a b : List Kind) → ((reg : ℕ) → reads insn reg ≡ true → kind_at a reg ≡ kind_at b reg) → result_kind insn a ≡ result_kind insn b
-result_by_reads (Alu W64 Mov dst (Reg src)) a b same = ap copied (same src (itself src))
+result_by_reads (Alu W64 Mov dst (Reg src)) a b same = ap copied (same src (eq-eqb src src refl))
 result_by_reads (Alu W64 op dst (Reg src)) a b same = refl
 result_by_reads (Alu W32 op dst (Reg src)) a b same = refl
 result_by_reads (Alu width op dst (Imm value)) a b same = refl
