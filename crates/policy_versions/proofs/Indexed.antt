@@ -1,8 +1,9 @@
 -- What an index into a list reads.
-use Rattle.std.proofs.Common.{◌≡◌, ◌⊎◌, ℕ, zero, suc, ◌+◌, ◌*◌, ◌/◌, ◌%◌, ◌<◌, List, [], ◌∷◌, ◌++◌, map, inl, inr, ⊎_elim, subst, length-append, length, get_or, sym, refl, ap, ◌∙◌, arith, slice_get, Some, None, Option, IsSomeAnd}
+use Rattle.std.proofs.Common.{◌≡◌, ◌⊎◌, ℕ, zero, suc, ◌+◌, ◌<◌, List, [], ◌∷◌, ◌++◌, map, inl, inr, ⊎_elim, subst, length-append, length, get_or, sym, refl, ap, ◌∙◌, arith, slice_get, Some, None, Option, IsSomeAnd, All}
 use native.Mathlib.Decide.{dec_lt}
 use Rattle.policy_versions.specs.Rule.{IsAmong, version_of, which_of, word_of}
-use Rattle.policy_versions.specs.Models.{AreRows, words_of}
+use Rattle.policy_versions.specs.Places.{RegistryId}
+use Rattle.policy_versions.specs.Models.{AreRows, words_of, PassModel, fresh, AreFresh, IsClosed}
 
 module _ {A : Type 0} where
   pub some_same : (a b : A) → Some a ≡ Some b → a ≡ b
@@ -96,3 +97,18 @@ has_front k (x ∷ xs) ys h = ⊎_elim (λ e. inl e) (λ t. inr (has_front k xs 
 pub none_left : {A : Type 0} (xs : List A) → length xs ≡ 0 → xs ≡ []
 none_left [] h = refl
 none_left (x ∷ xs) h = absurd (omega arith)
+
+get_at : {A : Type 0} (xs : List A) (i : ℕ) (d x : A) → slice_get xs i ≡ Some x → get_or xs i d ≡ x
+get_at [] i d x e = absurd (cc)
+get_at (y ∷ ys) zero d x e = some_same y x e
+get_at (y ∷ ys) (suc i) d x e = get_at ys i d x e
+
+-- new passes have no use open
+pub fresh_closed : (registry : RegistryId) (users : ℕ) (passes : List PassModel) → AreFresh registry users passes → length passes ≡ users → All (IsClosed registry) passes
+fresh_closed registry users passes are long k d lt = subst (IsClosed registry) (sym (get_at passes k d (fresh registry k) (are k (omega arith)))) (refl, refl)
+
+-- the last of passes that have no use open
+pub closed_last : (registry : RegistryId) (xs ys : List PassModel) (p : PassModel) → All (IsClosed registry) xs → xs ≡ ys ++ p ∷ [] → IsClosed registry p
+closed_last registry xs ys p all is =
+    let lt : length ys < length xs = omega (arith, ap length is ∙ length-append ys (p ∷ [])) in
+    subst (IsClosed registry) (get_at xs (length ys) p p (get_mid xs ys [] p is)) (all (length ys) p lt)

@@ -1,14 +1,12 @@
 -- Each step keeps the rule.
-use Rattle.std.proofs.Common.{◌≡◌, ◌≢◌, ◌⊎◌, ℕ, zero, suc, ◌+◌, ◌*◌, ◌/◌, ◌%◌, ◌<◌, ◌≤◌, Bool, true, false, List, [], ◌∷◌, ◌++◌, length, get_or, get_or-set_same, set, sym, refl, ap, ◌∙◌, subst, inl, inr, ⊎_elim, arith, length-set, length-append, slice_index, slice_get, Some, None, Option}
-use mathlib.Core.Option.{none, some, some-injective, some-ne-none}
-use mathlib.Core.Logic.{dite}
-use native.Mathlib.Decide.{ℕ_discrete, dec_lt}
+use Rattle.std.proofs.Common.{◌≡◌, ◌≢◌, ◌⊎◌, ℕ, zero, suc, ◌+◌, ◌<◌, true, false, List, [], ◌∷◌, ◌++◌, length, get_or-set_same, set, sym, refl, ap, ◌∙◌, subst, inl, inr, ⊎_elim, arith, length-set, length-append, slice_index, slice_get, Some, None, Option}
+use mathlib.Core.Option.{some, some-injective, some-ne-none}
 use lib.ListN.{get_elem?}
-use Rattle.atomic_table.specs.Table.{State, Me, opening, step, keeps, stepped, Allows, Splits, Joins, Final, Seen}
-use Rattle.atomic_table.proofs.Lists.{at_set, set_again, set_here, set_else, at_longer}
+use Rattle.atomic_table.specs.Table.{opening, keeps, Allows, Splits, Joins, Final, Seen}
+use Rattle.atomic_table.proofs.Lists.{at_set, set_else}
 use Rattle.shfl_policy.specs.Policies.{PolicyModel}
 use Rattle.policy_versions.specs.declared.view.View.{View}
-use Rattle.policy_versions.specs.Rule.{version_of, which_of, word_of, IsAmong, IsPublished, AreNumbered, SeatTells, IsConsistent, first_view, user_view, given_back, see, raise, loaded, raised, spent}
+use Rattle.policy_versions.specs.Rule.{version_of, which_of, IsAmong, IsPublished, SeatTells, IsConsistent, first_view, user_view, given_back, see, raise, loaded, raised, spent}
 
 Some-injective : {A : Type 0} (d a b : A) → Some a ≡ Some b → a ≡ b
 Some-injective d a b e = let f : Option _ → _ = λ o. elim o [ Some x ↦ x | None ↦ d ] in ap f e

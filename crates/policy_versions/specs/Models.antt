@@ -1,8 +1,7 @@
 -- A registry and its parts, as contracts see them.
-use Rattle.std.specs.Prelude.{◌≡◌, ℕ, ◌+◌, ◌<◌, ◌≤◌, ◌%◌, Bool, true, false, List, [], ◌∷◌, ◌++◌, length, map, slice_get, Option, Some, None, IfSome}
+use Rattle.std.specs.Prelude.{◌≡◌, ℕ, ◌+◌, ◌<◌, ◌≤◌, Bool, false, List, [], ◌∷◌, ◌++◌, length, map, slice_get, Option, Some, IfSome}
 use Rattle.policy_versions.specs.declared.instance.Instance.{Instance}
 use Rattle.policy_versions.specs.declared.place.Place.{Place}
-use Rattle.policy_versions.specs.declared.place.PlaceId.{PlaceId}
 use Rattle.policy_versions.specs.Places.{RegistryId, registry_of}
 use Rattle.policy_versions.specs.Rule.{IsAmong, version_of, which_of, word_of}
 

@@ -1,5 +1,5 @@
 -- An instance that may stand in a place, and the places of a registry.
-use Rattle.std.specs.Prelude.{◌≡◌, ℕ, ◌<◌, List, slice_get, Some}
+use Rattle.std.specs.Prelude.{◌≡◌, List, slice_get, Some}
 use Rattle.atomic_table.specs.Seated.{TableId}
 use Rattle.shfl_policy.specs.Policies.{PolicyModel}
 use Rattle.policy_versions.specs.declared.instance.Instance.{Instance}

@@ -1,5 +1,5 @@
 -- What loading a policy from bytes gives: each program decoded and accepted, or the first fault of the first bad one.
-use Rattle.std.specs.Prelude.{◌≡◌, ◌≢◌, ◌<◌, ℕ, List, Option, Some, None, Result, Ok, Err}
+use Rattle.std.specs.Prelude.{◌≡◌, ◌≢◌, ℕ, List, Option, Some, None, Ok, Err}
 use Rattle.bpf_isa.specs.declared.error.IsaError.TheVariants as isa
 use Rattle.bpf_isa.specs.declared.insn.Insn.{Insn}
 use Rattle.bpf_isa.specs.declared.insn.Profile.{Profile}

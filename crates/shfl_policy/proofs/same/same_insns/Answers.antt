@@ -1,4 +1,4 @@
-use Rattle.std.proofs.Common.{◌≡◌, ◌<◌, ℕ, length, refl, arith}
+use Rattle.std.proofs.Common.{refl, arith}
 use Rattle.std.proofs.lemmas.List.{ext_get_or}
 use Rattle.bpf_isa.specs.declared.insn.Insn.TheVariants.{Half}
 use Rattle.shfl_policy.proofs.same.same_insns.Goals as goal

@@ -1,4 +1,4 @@
-use Rattle.std.proofs.Common.{◌≡◌, ◌<◌, ℕ, length, get_or}
+use Rattle.std.proofs.Common.{◌≡◌, ◌<◌, ℕ}
 use Rattle.bpf_isa.specs.Flow.{insn_at}
 use Rattle.shfl_policy.proofs.same.same_insns.Given as goal
 

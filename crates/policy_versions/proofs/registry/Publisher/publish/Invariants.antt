@@ -1,4 +1,4 @@
-use Rattle.std.proofs.Common.{◌≡◌, ℕ, ◌++◌, List, false}
+use Rattle.std.proofs.Common.{◌≡◌}
 use Rattle.policy_versions.proofs.registry.Publisher.publish.Given as goal
 
 abbrev pub invariant-loop : goal.invariant-loop

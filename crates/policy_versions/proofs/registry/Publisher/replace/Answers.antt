@@ -1,4 +1,4 @@
-use Rattle.std.proofs.Common.{rules, arith, ◌≡◌, ℕ, ◌+◌, ◌*◌, ◌<◌, ◌≤◌, ◌%◌, ◌/◌, ◌∷◌, ◌++◌, [], List, sym, refl, ap, ◌∙◌, subst, length, vec_len, slice_get, Some}
+use Rattle.std.proofs.Common.{arith, ◌≡◌, ℕ, ◌+◌, ◌<◌, ◌∷◌, ◌++◌, [], sym, ap, ◌∙◌, subst, length}
 use Rattle.policy_versions.specs.Rule.{version_of, which_of, word_of}
 use Rattle.policy_versions.specs.Places.{RegistryId}
 use Rattle.policy_versions.specs.Models.{words_of, AreRows}

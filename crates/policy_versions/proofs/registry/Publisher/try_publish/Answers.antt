@@ -1,5 +1,5 @@
-use Rattle.std.proofs.Common.{rules, arith, ◌≡◌, ℕ, ◌+◌, ◌%◌, sym, refl, ap, ◌∙◌, subst, length}
-use Rattle.policy_versions.specs.Places.{RegistryId, registry_of}
+use Rattle.std.proofs.Common.{arith, ◌≡◌, ◌+◌, ◌%◌, ap, ◌∙◌, length}
+use Rattle.policy_versions.specs.Places.{registry_of}
 use Rattle.policy_versions.specs.declared.place.Place.{Place}
 use Rattle.policy_versions.specs.declared.place.PlaceId.{PlaceId}
 use Rattle.policy_versions.proofs.Indexed.{at_place, some_and}

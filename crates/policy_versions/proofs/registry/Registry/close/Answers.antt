@@ -1,5 +1,5 @@
-use Rattle.std.proofs.Common.{rules, arith, ◌≡◌, ℕ, ◌+◌, sym, refl, ap, ◌∙◌, subst, List}
-use Rattle.policy_versions.specs.Rule.{IsAmong, IsPublished}
+use Rattle.std.proofs.Common.{ap, ◌∙◌, subst}
+use Rattle.policy_versions.specs.Rule.{IsPublished}
 use Rattle.policy_versions.specs.Models.{words_of}
 use Rattle.policy_versions.proofs.Steps.{close_tells}
 use Rattle.policy_versions.proofs.registry.Registry.close.Goals as goal

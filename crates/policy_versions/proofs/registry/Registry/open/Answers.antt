@@ -1,4 +1,4 @@
-use Rattle.std.proofs.Common.{rules, arith, ◌≡◌, ℕ, ◌+◌, sym, refl, ap, ◌∙◌, subst, List, length}
+use Rattle.std.proofs.Common.{arith, ap, length}
 use Rattle.policy_versions.proofs.Steps.{open_holds}
 use Rattle.policy_versions.proofs.registry.Registry.open.Goals as goal
 

@@ -1,5 +1,5 @@
-use Rattle.std.proofs.Common.{rules, arith, ◌≡◌, ℕ, ◌+◌, ◌≤◌, ◌∷◌, ◌++◌, List, sym, refl, ap, ◌∙◌, subst}
-use Rattle.policy_versions.specs.Rule.{IsAmong, version_of, which_of, word_of}
+use Rattle.std.proofs.Common.{◌≤◌, ◌∷◌, sym, ap, ◌∙◌, subst}
+use Rattle.policy_versions.specs.Rule.{IsAmong, version_of, word_of}
 use Rattle.policy_versions.proofs.Indexed.{has_longer, word_is}
 use Rattle.policy_versions.proofs.registry.VersionPass.enter.Goals as goal
 

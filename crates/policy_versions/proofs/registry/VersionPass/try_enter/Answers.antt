@@ -1,12 +1,9 @@
-use Rattle.std.proofs.Common.{rules, arith, ◌≡◌, ℕ, ◌+◌, ◌<◌, ◌%◌, ◌/◌, sym, refl, ap, ◌∙◌, subst, List, [], Some, slice_get, length}
-use Rattle.policy_versions.specs.Rule.{word_of, which_of}
-use Rattle.policy_versions.specs.Places.{registry_of, RegistryId}
+use Rattle.std.proofs.Common.{arith, ◌≡◌, ℕ, ◌%◌, sym, refl, ap, ◌∙◌, slice_get}
+use Rattle.policy_versions.specs.Places.{registry_of}
 use Rattle.policy_versions.specs.declared.place.PlaceId.{PlaceId}
 use Rattle.policy_versions.specs.declared.place.Place.{Place}
-use Rattle.shfl_policy.specs.Policies.{PolicyModel}
-use Rattle.policy_versions.specs.declared.instance.Instance.{Instance}
 use Rattle.policy_versions.proofs.Steps.{load_keeps}
-use Rattle.policy_versions.proofs.Indexed.{at_place, get_is}
+use Rattle.policy_versions.proofs.Indexed.{at_place}
 use Rattle.policy_versions.proofs.registry.VersionPass.try_enter.Goals as goal
 
 pub load-word-requires : goal.load-word-requires

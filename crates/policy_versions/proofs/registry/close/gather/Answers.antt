@@ -1,7 +1,5 @@
-use Rattle.std.proofs.Common.{rules, arith, ◌≡◌, ◌⊎◌, ℕ, ◌+◌, sym, refl, ap, ◌∙◌, subst, [], ◌∷◌, ◌++◌, List, append_assoc, append-nil, inl, inr, ⊎_elim, slice_get, Some, length}
+use Rattle.std.proofs.Common.{arith, ◌≡◌, sym, ap, ◌∙◌, subst, [], ◌∷◌, ◌++◌, append_assoc, append-nil, ⊎_elim, slice_get, Some, length}
 use Rattle.policy_versions.specs.Rule.{IsAmong}
-use Rattle.policy_versions.specs.Models.{PassModel}
-use Rattle.policy_versions.specs.declared.view.View.{View}
 use Rattle.policy_versions.proofs.Steps.{join_keeps}
 use Rattle.policy_versions.proofs.Indexed.{get_mid, snoc_either, has_longer, has_front, none_left}
 use Rattle.policy_versions.proofs.registry.close.gather.Goals as goal

@@ -1,7 +1,6 @@
-use Rattle.std.proofs.Common.{rules, arith, ◌≡◌, ℕ, ◌+◌, ◌<◌, sym, refl, ap, ◌∙◌, subst, length, vec_len, slice_get, Some, false}
+use Rattle.std.proofs.Common.{rules, arith, ◌≡◌, sym, ap, ◌∙◌, length, vec_len, Some, false}
 use Rattle.policy_versions.specs.Places.{RegistryId}
 use Rattle.policy_versions.specs.Models.{fresh, PassModel}
-use Rattle.policy_versions.specs.declared.view.View.{View}
 use Rattle.policy_versions.proofs.Steps.{split_keeps}
 use Rattle.policy_versions.proofs.Indexed.{each_snoc}
 use Rattle.policy_versions.proofs.registry.open.passes.Goals as goal

@@ -1,4 +1,4 @@
-use Rattle.std.proofs.Common.{rules, arith, ◌≡◌, ℕ, ◌+◌, ◌<◌, sym, refl, ap, ◌∙◌, subst, length, vec_len, slice_get, Some}
+use Rattle.std.proofs.Common.{rules, arith, ◌≡◌, sym, ap, ◌∙◌, vec_len}
 use Rattle.policy_versions.specs.Places.{registry_of, RegistryId}
 use Rattle.policy_versions.specs.declared.place.Place.{Place}
 use Rattle.policy_versions.specs.declared.place.PlaceId.{PlaceId}
