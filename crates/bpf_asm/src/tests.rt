@@ -1,5 +1,9 @@
+ghost use Rattle.std.specs.Prelude.{IfOk};
+ghost use Rattle.bpf_isa.specs.WellFormed.{IsWellFormed};
+
 use super::*;
 use bpf_isa::{AluOp, Cond, Insn, Operand, Profile, Size, Width, encode};
+use std::alloc::Global;
 use std::test::Fail;
 
 /// Answers yes where the sockets of anchor and waiter are equal.
@@ -19,9 +23,19 @@ const SAME_SOCKET_SLOTS: [u64; 6] = [
     0x9500000000000000,
 ];
 
+/// What a text that is short enough assembles to.
+fn read(alloc: Global, profile: Profile, text: &[u8]) -> Result<Vec<Insn>, AsmError>
+    ensures { IfOk result (λ v. IsWellFormed v.items) }
+{
+    if text.len() >= 0x8000_0000 {
+        return Err(AsmError::NoMemory);
+    }
+    assemble(alloc, profile, text)
+}
+
 #[test]
 fn a_policy_assembles_to_its_slots_and_is_listed_again(rt: HostRuntime) -> Result<(), Fail> {
-    let insns = assemble(rt.alloc(), Profile::One, SAME_SOCKET)?;
+    let insns = read(rt.alloc(), Profile::One, SAME_SOCKET)?;
     let mut bytes = Vec::new(rt.alloc());
     for slot in SAME_SOCKET_SLOTS {
         bytes.extend_from_slice(&slot.to_be_bytes())?;
@@ -33,8 +47,8 @@ fn a_policy_assembles_to_its_slots_and_is_listed_again(rt: HostRuntime) -> Resul
 
 #[test]
 fn a_name_stands_for_the_offset_to_its_slot(rt: HostRuntime) -> Result<(), Fail> {
-    let insns = assemble(rt.alloc(), Profile::One, SAME_SOCKET_NAMED)?;
-    assert_eq!(rt; insns, assemble(rt.alloc(), Profile::One, SAME_SOCKET)?);
+    let insns = read(rt.alloc(), Profile::One, SAME_SOCKET_NAMED)?;
+    assert_eq!(rt; insns, read(rt.alloc(), Profile::One, SAME_SOCKET)?);
     Ok(())
 }
 
@@ -42,7 +56,7 @@ fn a_name_stands_for_the_offset_to_its_slot(rt: HostRuntime) -> Result<(), Fail>
 fn each_form_is_read(rt: HostRuntime) -> Result<(), Fail> {
     let text =
         b"arsh32 r9 -1\nneg64 r0\nlddw r1 r2 -32768\nwide r3 18446744073709551615\njal -2147483648\njsle32 r4 -2147483648 32767\n";
-    let insns = assemble(rt.alloc(), Profile::One, text)?;
+    let insns = read(rt.alloc(), Profile::One, text)?;
     let src = Operand::Imm(-1);
     assert_eq!(rt;
         insns.get(0).copied(),
@@ -88,7 +102,7 @@ fn each_form_is_read(rt: HostRuntime) -> Result<(), Fail> {
     );
     let further: &[u8] =
         b"ldsh r0 r1 4\nmovsx64 32 r0 r1\nmovsx32 16 r0 r1\nle 16 r0\nbe 32 r0\nswap 64 r0\n";
-    let insns = assemble(rt.alloc(), Profile::Two, further)?;
+    let insns = read(rt.alloc(), Profile::Two, further)?;
     assert_eq!(rt; disassemble(rt.alloc(), &insns)?.as_slice(), further);
     Ok(())
 }
@@ -126,7 +140,7 @@ fn the_first_bad_line_is_named_with_its_lowest_fault(rt: HostRuntime) {
         (b"exit\nexit\nldx\n", 3, 2),
     ];
     for (text, line, what) in table {
-        let fault = assemble(rt.alloc(), Profile::One, text).err();
+        let fault = read(rt.alloc(), Profile::One, text).err();
         assert_eq!(rt; fault, Some(AsmError::Format { line, what }));
     }
 }
@@ -137,9 +151,9 @@ fn the_513th_slot_is_one_too_many(rt: HostRuntime) -> Result<(), Fail> {
     for _ in 0..512 {
         text.extend_from_slice(b"exit\n")?;
     }
-    assert_eq!(rt; assemble(rt.alloc(), Profile::One, &text)?.len(), 512);
+    assert_eq!(rt; read(rt.alloc(), Profile::One, &text)?.len(), 512);
     text.extend_from_slice(b":end\nexit\n")?;
-    let fault = assemble(rt.alloc(), Profile::One, &text).err();
+    let fault = read(rt.alloc(), Profile::One, &text).err();
     assert_eq!(rt; fault, Some(AsmError::Format { line: 514, what: 8 }));
     Ok(())
 }
@@ -152,7 +166,7 @@ fn a_name_too_far_away_goes_before_a_slot_too_many(rt: HostRuntime) -> Result<()
         text.extend_from_slice(b"exit\n")?;
     }
     text.extend_from_slice(b":far\n")?;
-    let fault = assemble(rt.alloc(), Profile::One, &text).err();
+    let fault = read(rt.alloc(), Profile::One, &text).err();
     assert_eq!(rt; fault, Some(AsmError::Format { line: 1, what: 6 }));
     Ok(())
 }
