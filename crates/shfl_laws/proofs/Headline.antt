@@ -1,61 +1,26 @@
 -- Every lawful world is what the plain words say.
-use Rattle.std.proofs.Common.{◌≡◌, ◌≢◌, ℕ, zero, suc, ◌+◌, ◌<◌, ◌≤◌, ◌⊎◌, List, [], ◌∷◌, Bool, true, false, cond, ◌==◌, ◌||◌, refl, sym, ap, ◌∙◌, inl, inr, ⊎_elim, subst, arith}
-use Rattle.std.specs.Prelude.{Option, Some, None, ◌&&◌, not}
+use Rattle.std.proofs.Common.{◌≡◌, ◌≢◌, ℕ, zero, suc, ◌+◌, ◌<◌, ◌≤◌, List, [], ◌∷◌, Bool, true, false, cond, ◌==◌, ◌||◌, refl, sym, ap, ◌∙◌, inl, inr, subst, arith}
+use Rattle.std.specs.Prelude.{Option, Some, None}
 use Rattle.std.proofs.lemmas.Bool.Decides.{nat_tests}
-use Rattle.shfl_line.specs.declared.events.Mode.{Mode}
-use Rattle.shfl_line.specs.declared.events.Mode.TheVariants.{Write, Read}
 use Rattle.shfl_line.specs.declared.events.Role.{Role}
 use Rattle.shfl_line.specs.declared.events.Role.TheVariants.{Nobody, Walk, Rest}
-use Rattle.shfl_line.specs.Line.{idle_shuffler, Line, mark_of, active_shuffler, is_write, writer_count, reader_count}
+use Rattle.shfl_line.specs.Line.{idle_shuffler, Line, mark_of, active_shuffler}
 use Rattle.shfl_line.specs.Words.{link_word}
 use Rattle.shfl_line.specs.Passes.{times, first, EachPair, MarkedFirst, end, follower_after}
 use Rattle.shfl_line.proofs.Chain
 use Rattle.shfl_core.specs.declared.phase.Phase.{Phase}
 use Rattle.shfl_core.specs.declared.phase.Phase.TheVariants.{Link, Ready}
 use Rattle.shfl_core.specs.declared.phase.PassState.{PassState}
-use Rattle.shfl_core.specs.Phases.{is_holding, is_queued, is_fore, is_round, is_linking, has_hand}
+use Rattle.shfl_core.specs.Phases.{is_queued, is_fore, is_round, is_linking, has_hand}
 use Rattle.shfl_core.specs.Worlds.{World, known}
 use Rattle.shfl_core.specs.View.{view}
 use Rattle.shfl_core.specs.Order.{Order as Ordered, Follows, Walks, awake}
 use Rattle.shfl_core.specs.Grouping.{Grouping}
-use Rattle.shfl_core.specs.Holding.{write_of, read_of}
 use Rattle.shfl_core.specs.Lawful.{Terms, Lawful}
-use Rattle.shfl_laws.specs.Headline.{Holds, HoldsAs, Holders, OneWriter, ReadersAlone, Nobody as NobodyHolds, IsSuccessor, HasNoSuccessor, IsHead, Named, Active, Called, IsWaitLine, IsQueued, StandsOnce, Shuffles, batch, Headline}
+use Rattle.shfl_laws.specs.Headline.{IsSuccessor, HasNoSuccessor, IsHead, Named, Active, Called, IsWaitLine, IsQueued, StandsOnce, Shuffles, batch, Headline}
 use Rattle.shfl_laws.proofs.Order
 use Rattle.shfl_laws.proofs.Leave
-use Rattle.shfl_laws.proofs.Counts.{write-in, read-in}
-
--- somebody who holds
-some-writer : (l : List (ℕ × Mode)) → 0 < writer_count l → (p : ℕ) × (0 < write_of p l)
-some-writer [] h = absurd (omega arith)
-some-writer (x ∷ xs) h = by (is_write x.1) refl (some-writer xs)
-  where
-    by : (b : Bool) → is_write x.1 ≡ b → (0 < writer_count xs → (p : ℕ) × (0 < write_of p xs)) → (p : ℕ) × (0 < write_of p (x ∷ xs))
-    by true e rec = (x.0, grind (arith, nat_tests, e))
-    by false e rec = let t = rec (grind (arith, h, e)) in (t.0, (let u = t.1 in omega arith))
-
-some-reader : (l : List (ℕ × Mode)) → 0 < reader_count l → (p : ℕ) × (0 < read_of p l)
-some-reader [] h = absurd (omega arith)
-some-reader (x ∷ xs) h = by (is_write x.1) refl (some-reader xs)
-  where
-    by : (b : Bool) → is_write x.1 ≡ b → (0 < reader_count xs → (p : ℕ) × (0 < read_of p xs)) → (p : ℕ) × (0 < read_of p (x ∷ xs))
-    by true e rec = let t = rec (grind (arith, h, e)) in (t.0, (let u = t.1 in omega arith))
-    by false e rec = (x.0, grind (arith, nat_tests, e))
-
--- two writers are two
-two-writers : (p q : ℕ) → p ≢ q → (l : List (ℕ × Mode)) → write_of p l + write_of q l ≤ writer_count l
-two-writers p q n [] = omega arith
-two-writers p q n (x ∷ xs) = let ih = two-writers p q n xs in by (x.0 == p) (x.0 == q) (is_write x.1) refl refl ih
-  where
-    by : (a b c : Bool) → (x.0 == p) ≡ a → (x.0 == q) ≡ b → write_of p xs + write_of q xs ≤ writer_count xs
-        → cond (a && c) 1 0 + write_of p xs + (cond (b && c) 1 0 + write_of q xs) ≤ cond c 1 0 + writer_count xs
-    by true true c e f ih = absurd (n (grind (arith, nat_tests, e, f)))
-    by true false true e f ih = omega arith
-    by true false false e f ih = omega arith
-    by false true true e f ih = omega arith
-    by false true false e f ih = omega arith
-    by false false true e f ih = omega arith
-    by false false false e f ih = omega arith
+use Rattle.shfl_laws.proofs.HoldersPlain.{holders, writer-in-word, word-has-writer, reader-in-word}
 
 link-is : (f : Phase) → is_linking f ≡ true → f ≡ Link
 link-is f h = grind arith
@@ -77,55 +42,6 @@ module _ (t : Terms) (w : World) (ok : Lawful t w) where
 
   abbrev pass : ℕ → PassState
   pass q = known w.passes q
-
-  holds-as : (q : ℕ) → Holds w q → HoldsAs w Write q ⊎ HoldsAs w Read q
-  holds-as q h = by (pass q).reg.mode refl
-    where
-      by : (m : Mode) → (pass q).reg.mode ≡ m → HoldsAs w Write q ⊎ HoldsAs w Read q
-      by Write e = inl (record { holds = h; mode = e })
-      by Read e = inr (record { holds = h; mode = e })
-
-  writes-once : (q : ℕ) → HoldsAs w Write q → write_of q s.hold ≡ 1
-  writes-once q h = ok.agrees.holding.writer q ∙ (λ j. cond (h.holds j && is_write (h.mode j)) 1 0)
-
-  reads-once : (q : ℕ) → HoldsAs w Read q → read_of q s.hold ≡ 1
-  reads-once q h = ok.agrees.holding.reader q ∙ (λ j. cond (h.holds j && not (is_write (h.mode j))) 1 0)
-
-  as-writer : (q : ℕ) → 0 < write_of q s.hold → HoldsAs w Write q
-  as-writer q h = by (is_holding (pass q).phase) (pass q).reg.mode refl refl (ok.agrees.holding.writer q)
-    where
-      by : (b : Bool) (m : Mode) → is_holding (pass q).phase ≡ b → (pass q).reg.mode ≡ m → write_of q s.hold ≡ cond (b && is_write m) 1 0 → HoldsAs w Write q
-      by true Write e f g = record { holds = e; mode = f }
-      by true Read e f g = absurd (omega arith)
-      by false m e f g = absurd (omega arith)
-
-  as-reader : (q : ℕ) → 0 < read_of q s.hold → HoldsAs w Read q
-  as-reader q h = by (is_holding (pass q).phase) (pass q).reg.mode refl refl (ok.agrees.holding.reader q)
-    where
-      by : (b : Bool) (m : Mode) → is_holding (pass q).phase ≡ b → (pass q).reg.mode ≡ m → read_of q s.hold ≡ cond (b && not (is_write m)) 1 0 → HoldsAs w Read q
-      by true Read e f g = record { holds = e; mode = f }
-      by true Write e f g = absurd (omega arith)
-      by false m e f g = absurd (omega arith)
-
-  holders : Holders w
-  holders = by (writer_count s.hold) (reader_count s.hold) refl refl
-    where
-      none : writer_count s.hold ≡ 0 → (q : ℕ) → ¬ (HoldsAs w Write q)
-      none z q h = let a = writes-once q h in let b = write-in q s.hold in omega arith
-
-      one : (q p : ℕ) → 0 < writer_count s.hold → HoldsAs w Write p → HoldsAs w Write q → q ≡ p
-      one q p z a b = Chain.by_eq q p (λ e. e) (λ n. absurd (let c = two-writers q p n s.hold in let d = writes-once p a in let e = writes-once q b in let f = ok.agrees.holding.word in few (view w).held f (omega arith)))
-        where
-          few : (b : Bool) → writer_count s.hold ≡ cond b 1 0 → 1 < writer_count s.hold → ⊥
-          few true e h = omega arith
-          few false e h = omega arith
-
-      by : (n m : ℕ) → writer_count s.hold ≡ n → reader_count s.hold ≡ m → Holders w
-      by (suc n) m e f = let p = some-writer s.hold (omega arith) in let a = as-writer p.0 p.1 in OneWriter p.0 a
-          (λ q h. ⊎_elim (λ b. one q p.0 (omega arith) a b) (λ b. absurd (let c = reads-once q b in let d = read-in q s.hold in let z = ok.agrees.holding.alone (omega arith) in omega arith)) (holds-as q h))
-      by zero (suc m) e f = let p = some-reader s.hold (omega arith) in ReadersAlone p.0 (as-reader p.0 p.1)
-          (λ q h. ⊎_elim (λ b. absurd (none e q b)) (λ b. b) (holds-as q h))
-      by zero zero e f = NobodyHolds (λ q h. ⊎_elim (λ b. none e q b) (λ b. (let c = reads-once q b in let d = read-in q s.hold in omega arith)) (holds-as q h))
 
   o : Ordered (view w) s ok.giver
   o = ok.agrees.order
@@ -237,7 +153,10 @@ module _ (t : Terms) (w : World) (ok : Lawful t w) where
 
   pub headline : Headline t.rules.limit w s.line s.hand
   headline = record {
-    holders = holders;
+    holders = holders t w ok;
+    writer_in_word = writer-in-word t w ok;
+    word_has_writer = word-has-writer t w ok;
+    reader_in_word = reader-in-word t w ok;
     queue = queue-line s.line refl;
     each = each;
     others = others;

@@ -1,3 +1,4 @@
+pub mod HoldersPlain
 pub mod Leasts
 pub mod HoldersBelow
 pub mod ShownLine

@@ -1,11 +1,11 @@
 -- What every lawful world is, in plain words: who holds, who waits and where, and who shuffles.
-use Rattle.std.specs.Prelude.{◌≡◌, ◌≢◌, ◌⊎◌, ℕ, suc, ◌≤◌, List, [], ◌∷◌, Option, Some, true, false}
+use Rattle.std.specs.Prelude.{◌≡◌, ◌≢◌, ◌⊎◌, ℕ, suc, ◌<◌, ◌≤◌, List, [], ◌∷◌, Option, Some, true, false}
 use Rattle.shfl_line.specs.declared.events.Mode.{Mode}
 use Rattle.shfl_line.specs.declared.events.Mode.TheVariants.{Write, Read}
-use Rattle.shfl_line.specs.Words.{ready_of, shuffler_of, batch_of}
+use Rattle.shfl_line.specs.Words.{held_of, readers_of, ready_of, shuffler_of, batch_of}
 use Rattle.shfl_line.specs.Passes.{times, Chain, EachPair, MarkedFirst, end}
 use Rattle.shfl_core.specs.declared.phase.Phase.TheVariants.{Link, Ready}
-use Rattle.shfl_core.specs.declared.words.Word.TheVariants.{Tail, Next, State}
+use Rattle.shfl_core.specs.declared.words.Word.TheVariants.{Lock, Tail, Next, State}
 use Rattle.shfl_core.specs.Words.{look}
 use Rattle.shfl_core.specs.Phases.{is_holding, is_queued, is_fore, is_round, has_hand}
 use Rattle.shfl_core.specs.Worlds.{World, known}
@@ -77,6 +77,10 @@ batch w p = batch_of (look w.words (State p))
 
 pub record Headline (limit : ℕ) (w : World) (line : List ℕ) (detached : Option ℕ) : Type 0 where
   pub holders : Holders w
+  -- the lock word says so: its held bit is set exactly where a writer holds, and it counts each reader that holds
+  pub writer_in_word : (p : ℕ) → HoldsAs w Write p → held_of (look w.words Lock) ≡ true
+  pub word_has_writer : held_of (look w.words Lock) ≡ true → (p : ℕ) × HoldsAs w Write p
+  pub reader_in_word : (p : ℕ) → HoldsAs w Read p → 0 < readers_of (look w.words Lock)
   -- the line is what the words and the passes say
   pub queue : IsWaitLine w line
   -- every queued pass stands once in the line or is the one detached, and nobody else does
