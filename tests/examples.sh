@@ -1,15 +1,35 @@
 #!/usr/bin/env bash
-# Compares what the built program writes for each examples/NAME.line with NAME.line.out.
+# Compares what the built program does with each example: NAME.line with `line`, NAME.hex with `verify`, NAME.hex2 with
+# `verify 2`. Beside NAME.SUFFIX stand what it writes (.out), what it says on standard error (.err) and its status
+# (.status); where one isn't there, nothing is written, nothing is said, and the status is 0.
 set -u
 top="$(cd "$(dirname "$(readlink -f "${BASH_SOURCE[0]}")")/.." && pwd)"
+got="$(mktemp -d)"
+trap 'rm -rf "$got"' EXIT
 failed=0
-for document in "$top"/examples/*.line; do
+
+compare() {
+    local document="$1" name status=0 part due
+    shift
     name="$(basename "$document")"
-    if "$top/bin/syncord" line <"$document" | cmp -s - "$document.out" && [ "${PIPESTATUS[0]}" = 0 ]; then
-        echo "examples/$name: as it must be"
-    else
-        echo "examples/$name: another output, or no success" >&2
-        failed=1
-    fi
-done
+    "$top/bin/syncord" "$@" <"$document" >"$got/out" 2>"$got/err" || status=$?
+    echo "$status" >"$got/status"
+    for part in out err status; do
+        due="$document.$part"
+        if [ ! -e "$due" ]; then
+            due="$got/none"
+            if [ "$part" = status ]; then echo 0 >"$due"; else : >"$due"; fi
+        fi
+        if ! cmp -s "$got/$part" "$due"; then
+            echo "examples/$name: another $part" >&2
+            failed=1
+            return
+        fi
+    done
+    echo "examples/$name: as it must be"
+}
+
+for document in "$top"/examples/*.line; do compare "$document" line; done
+for document in "$top"/examples/*.hex; do compare "$document" verify; done
+for document in "$top"/examples/*.hex2; do compare "$document" verify 2; done
 exit "$failed"

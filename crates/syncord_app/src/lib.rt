@@ -14,5 +14,7 @@ mod telling;
 mod tests;
 mod top;
 
+pub use bpf_isa::Profile;
 pub use line::run_line;
+pub use syncord_verify::run_verify;
 pub use top::syncord;

@@ -236,7 +236,16 @@ fn called<Rt: Threads + Wait + Sync>(
 fn other_words_are_refused_and_nothing_is_read(rt: HostRuntime) -> Result<(), Fail> {
     let alloc = rt.alloc();
     let mut src = SureSource::new(joined(alloc, HEADING, FOUR_EVENTS)?);
-    let refused: [&[&str]; 5] = [&["line", "x"], &["help"], &[], &["Line"], &["line "]];
+    let refused: [&[&str]; 8] = [
+        &["line", "x"],
+        &["help"],
+        &[],
+        &["Line"],
+        &["line "],
+        &["verify", "1"],
+        &["verify", "2", "2"],
+        &["2"],
+    ];
     for words in refused {
         let end = called(&rt, alloc, words, &mut src)?;
         assert_eq!(rt; end.status, 2);
@@ -249,5 +258,39 @@ fn other_words_are_refused_and_nothing_is_read(rt: HostRuntime) -> Result<(), Fa
         end.out.bytes(),
         joined(alloc, HEADER, FOUR_ROWS)?.as_slice()
     );
+    Ok(())
+}
+
+#[test]
+fn programs_are_verified_in_both_profiles(rt: HostRuntime) -> Result<(), Fail> {
+    let alloc = rt.alloc();
+    let exit = "9500000000000000\n";
+    let one: &[&str] = &["verify"];
+    let two: &[&str] = &["verify", "2"];
+    let cases = [
+        (one, "b700000001000000\n", 0u8, "accepted slots 2\n", ""),
+        (two, "b700000001000000\n", 0, "accepted slots 2\n", ""),
+        (
+            one,
+            "bf00080000000000\n",
+            6,
+            "",
+            "syncord: refused 6 at slot 0\n",
+        ),
+        (
+            two,
+            "bf00080000000000\n",
+            6,
+            "",
+            "syncord: refused 10 at slot 0 register 0\n",
+        ),
+    ];
+    for (words, front, status, report, message) in cases {
+        let mut src = SureSource::new(joined(alloc, front, exit)?);
+        let end = called(&rt, alloc, words, &mut src)?;
+        assert_eq!(rt; end.status, status);
+        assert_eq!(rt; end.out.bytes(), report.as_bytes());
+        assert_eq!(rt; end.err.bytes(), message.as_bytes());
+    }
     Ok(())
 }

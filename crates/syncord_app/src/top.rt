@@ -1,6 +1,9 @@
 //! The top call: words and bytes in, a status, a report and an error line out.
 ghost use Rattle.std.specs.Prelude.{◌≡◌, map, string_bytes, codes, Some, None};
-ghost use Rattle.syncord_app.specs.declared.commands.Command.TheVariants.{Line};
+ghost use Rattle.syncord_app.specs.declared.commands.Command.TheVariants.{Line, Verify};
+ghost use Rattle.bpf_isa.specs.declared.insn.Profile.{Profile as ProfileValue};
+ghost use Rattle.syncord_endings.specs.Traffic.{traffic as handled};
+ghost use Rattle.syncord_verify.specs.Verdicts.{Verifies};
 ghost use Rattle.syncord_app.specs.Commands.{command_in};
 ghost use Rattle.syncord_app.specs.Traffic.{traffic, Told};
 ghost use Rattle.syncord_app.specs.Ending.{AnswersLine, ReportsSchedules};
@@ -12,6 +15,7 @@ use std::alloc::Global;
 use std::sync::Wait;
 use std::thread::Threads;
 use syn_outer::{Gate, Sink, Source};
+use syncord_verify::run_verify;
 
 /// Does what the words behind the program's name say, and answers the status.
 pub fn syncord<Rt: Threads + Wait + Sync, R: Source, W: Sink, E: Sink, G: Gate + Sync>(
@@ -39,9 +43,17 @@ pub fn syncord<Rt: Threads + Wait + Sync, R: Source, W: Sink, E: Sink, G: Gate +
     ensures complete { command_in (map string_bytes words.now) ≡ Some Line → ReportsSchedules
         (traffic (R.left src.old) (R.left src.new) (R.faults src.old) (R.faults src.new))
         (traffic (W.held out.old) (W.held out.new) (W.faults out.old) (W.faults out.new)) result }
+
+    // `verify` accepts or refuses the program, or ends otherwise with its cause.
+    ensures verify { (profile : ProfileValue) →
+        command_in (map string_bytes words.now) ≡ Some (Verify profile) → Verifies profile
+        (handled (R.left src.old) (R.left src.new) (R.faults src.old) (R.faults src.new))
+        (handled (W.held out.old) (W.held out.new) (W.faults out.old) (W.faults out.new))
+        (handled (E.held err.old) (E.held err.new) (E.faults err.old) (E.faults err.new)) result }
 {
     match Command::of(words) {
         Some(Command::Line) => run_line(alloc, src, out, err),
+        Some(Command::Verify { profile }) => run_verify(alloc, profile, src, out, err),
         None => {
             tell(err, b"syncord: words\n");
             2

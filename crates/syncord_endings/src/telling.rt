@@ -78,15 +78,33 @@ fn tell_refusal<E: Sink>(err: &mut E, refusal: Refusal)
     match refusal {
         Refusal::Document => tell(err, b"syncord: document\n"),
         Refusal::Line { line, what } => {
-            tell_numbers(err, b"syncord: line ", u64::from(line), b": fault ", u64::from(what), b"\n")
+            tell_numbers(
+                err,
+                b"syncord: line ",
+                u64::from(line),
+                b": fault ",
+                u64::from(what),
+                b"\n",
+            )
         }
         Refusal::Program { number } => {
             tell_number(err, b"syncord: refused ", u64::from(number), b"\n")
         }
         Refusal::Slot { number, slot } => {
-            tell_numbers(err, b"syncord: refused ", u64::from(number), b" at slot ", u64::from(slot), b"\n")
+            tell_numbers(
+                err,
+                b"syncord: refused ",
+                u64::from(number),
+                b" at slot ",
+                u64::from(slot),
+                b"\n",
+            )
         }
-        Refusal::Register { number, slot, register } => tell_register(err, number, slot, register),
+        Refusal::Register {
+            number,
+            slot,
+            register,
+        } => tell_register(err, number, slot, register),
         Refusal::NoMemory => {}
     }
 }
@@ -102,7 +120,12 @@ pub fn tell_ending<E: Sink>(err: &mut E, ending: Ending)
         Ending::TooLarge => tell(err, b"syncord: input too large\n"),
         Ending::ReadFault => tell(err, b"syncord: read fault\n"),
         Ending::WriteFault(written) => {
-            tell_number(err, b"syncord: write fault after ", written as u64, b" bytes\n")
+            tell_number(
+                err,
+                b"syncord: write fault after ",
+                written as u64,
+                b" bytes\n",
+            )
         }
     }
 }

@@ -31,7 +31,9 @@ impl Work for Only {
 #[test]
 fn a_report_is_written(rt: HostRuntime) -> Result<(), Fail> {
     let alloc = rt.alloc();
-    let only = Only { refusal: Refusal::Document };
+    let only = Only {
+        refusal: Refusal::Document,
+    };
     let mut src = SureSource::new(Vec::from_slice(alloc, b"copy")?);
     let mut out = SureSink::open(alloc, 100).ok().ok_or("memory")?;
     let mut err = SureSink::open(alloc, 100).ok().ok_or("memory")?;
@@ -46,11 +48,26 @@ fn each_refusal_has_its_line(rt: HostRuntime) -> Result<(), Fail> {
     let alloc = rt.alloc();
     let cases = [
         (Refusal::Document, 1u8, "syncord: document\n"),
-        (Refusal::Line { line: 12, what: 3 }, 1, "syncord: line 12: fault 3\n"),
-        (Refusal::Program { number: 2 }, 6, "syncord: refused 2\n"),
-        (Refusal::Slot { number: 8, slot: 511 }, 6, "syncord: refused 8 at slot 511\n"),
         (
-            Refusal::Register { number: 10, slot: 0, register: 2 },
+            Refusal::Line { line: 12, what: 3 },
+            1,
+            "syncord: line 12: fault 3\n",
+        ),
+        (Refusal::Program { number: 2 }, 6, "syncord: refused 2\n"),
+        (
+            Refusal::Slot {
+                number: 8,
+                slot: 511,
+            },
+            6,
+            "syncord: refused 8 at slot 511\n",
+        ),
+        (
+            Refusal::Register {
+                number: 10,
+                slot: 0,
+                register: 2,
+            },
             6,
             "syncord: refused 10 at slot 0 register 2\n",
         ),
@@ -71,7 +88,9 @@ fn each_refusal_has_its_line(rt: HostRuntime) -> Result<(), Fail> {
 #[test]
 fn faults_of_source_and_sink_are_told(rt: HostRuntime) -> Result<(), Fail> {
     let alloc = rt.alloc();
-    let only = Only { refusal: Refusal::Document };
+    let only = Only {
+        refusal: Refusal::Document,
+    };
     let bytes = Vec::from_slice(alloc, b"copy")?;
     let mut src = MemSource::new(bytes, 16, vec![in alloc; 2u32]?);
     let mut out = SureSink::open(alloc, 100).ok().ok_or("memory")?;
@@ -85,6 +104,9 @@ fn faults_of_source_and_sink_are_told(rt: HostRuntime) -> Result<(), Fail> {
     let mut err = SureSink::open(alloc, 100).ok().ok_or("memory")?;
     assert_eq!(rt; perform(&only, alloc, &mut src, &mut out, &mut err), 4);
     assert_eq!(rt; out.bytes(), b"cop".as_slice());
-    assert_eq!(rt; err.bytes(), b"syncord: write fault after 3 bytes\n".as_slice());
+    assert_eq!(rt;
+        err.bytes(),
+        b"syncord: write fault after 3 bytes\n".as_slice()
+    );
     Ok(())
 }
