@@ -18,7 +18,7 @@ impl Work for Only {
     ghost refuses = { λ only bytes refusal. refusal ≡ only.refusal };
 
     fn report(&self, alloc: Global, bytes: &[u8]) -> Result<Vec<u8>, Refusal> {
-        if bytes != b"copy" {
+        if bytes != b"copy".as_slice() {
             return Err(self.refusal);
         }
         match Vec::from_slice(alloc, bytes) {
