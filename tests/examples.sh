@@ -8,6 +8,10 @@ got="$(mktemp -d)"
 trap 'rm -rf "$got"' EXIT
 failed=0
 
+# the program is built before, so that it says nothing of that below
+"$top/bin/syncord" </dev/null >/dev/null
+[ "$?" = 2 ] || exit 1
+
 compare() {
     local document="$1" name status=0 part due
     shift
@@ -30,6 +34,6 @@ compare() {
 }
 
 for document in "$top"/examples/*.line; do compare "$document" line; done
-for document in "$top"/examples/*.hex; do compare "$document" verify; done
+for document in "$top"/examples/*.hex "$top"/examples/policies/*.hex; do compare "$document" verify; done
 for document in "$top"/examples/*.hex2; do compare "$document" verify 2; done
 exit "$failed"
