@@ -1,0 +1,47 @@
+-- Reading policies one after the other, as a loop does.
+use Rattle.std.proofs.Common.{◌≡◌, ℕ, ◌+◌, List, [], ◌∷◌, ◌++◌, map, Option, Some, None, Result, Ok, Err, inl, inr, refl, sym, ap, ◌∙◌, subst}
+use Rattle.std.specs.Prelude.{MatchOption}
+use Rattle.bpf_isa.specs.declared.insn.Profile.{Profile}
+use Rattle.doc_text.specs.declared.fault.Fault.{Fault}
+use Rattle.doc_text.specs.Text.{text_in}
+use Rattle.doc_text.specs.Faults.{fault, ◌>>=◌, or_fault}
+use Rattle.trace_text.specs.Document.{PolicyLine}
+use Rattle.trace_text.specs.Accepted.{AcceptsPolicy}
+use Rattle.trace_text.specs.declared.error.TraceError.{TraceError}
+use Rattle.trace_text.specs.declared.error.TraceError.TheVariants as errors
+use Rattle.trace_text.specs.Errors.{fault_of}
+use Rattle.trace_text.specs.Grammar.{policy_says, ReadsPolicies}
+
+abbrev pub Policies : Type 0
+Policies = Result (List PolicyLine × List (List ℕ)) Fault
+
+module _ (profile : Profile) (before : List PolicyLine) (line : ℕ) (ps qs : List (List ℕ)) (p t : List ℕ) (e : ps ≡ p ∷ qs) where
+  pub reads-odd : text_in p ≡ None → ReadsPolicies profile before line ps (fault line 1)
+  unfolding ReadsPolicies
+  reads-odd f = rw (e, f) refl
+
+  pub reads-bad : (x : Fault) → text_in p ≡ Some t → policy_says before line t ≡ Err x → ReadsPolicies profile before line ps (Err x)
+  unfolding ReadsPolicies
+  reads-bad x f g = rw (e, f, g) refl
+
+  pub reads-end : text_in p ≡ Some t → policy_says before line t ≡ Ok None → ReadsPolicies profile before line ps (Ok (before, ps))
+  unfolding ReadsPolicies
+  reads-end f g = rw (e, f, g) refl
+
+  pub reads-refused : (policy : PolicyLine) → text_in p ≡ Some t → policy_says before line t ≡ Ok (Some policy) → ¬ (AcceptsPolicy profile policy) → ReadsPolicies profile before line ps (fault line 9)
+  unfolding ReadsPolicies
+  reads-refused policy f g refused = rw (e, f, g) (inr (refused, refl))
+
+  pub reads-more : (policy : PolicyLine) (read : Policies) → text_in p ≡ Some t → policy_says before line t ≡ Ok (Some policy) → AcceptsPolicy profile policy → ReadsPolicies profile (before ++ policy ∷ []) (line + 1) qs read → ReadsPolicies profile before line ps read
+  unfolding ReadsPolicies
+  reads-more policy read f g accepted more = rw (e, f, g) (inl (accepted, more))
+
+-- an error of a policy line is one of the whole, unless it tells want of memory
+pub reads-error : (profile : Profile) (before : List PolicyLine) (line : ℕ) (ps qs : List (List ℕ)) (p t : List ℕ) (e : ps ≡ p ∷ qs) (error : TraceError) (Whole : Policies → Type 0) → text_in p ≡ Some t
+    → MatchOption (fault_of error) (Unit {0}) (λ f. policy_says before line t ≡ Err f) → ((read : Policies) → ReadsPolicies profile before line ps read → Whole read) → MatchOption (fault_of error) (Unit {0}) (λ f. Whole (Err f))
+reads-error profile before line ps qs p t e (errors.Format at what) Whole f g through = through (fault at what) (reads-bad profile before line ps qs p t e (record { line = at; what = what }) f g)
+reads-error profile before line ps qs p t e errors.NoMemory Whole f g through = tt
+
+pub reads-none : (profile : Profile) (before : List PolicyLine) (line : ℕ) (ps : List (List ℕ)) → ps ≡ [] → ReadsPolicies profile before line ps (fault line 5)
+unfolding ReadsPolicies
+reads-none profile before line ps e = rw e refl

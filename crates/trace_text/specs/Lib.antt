@@ -1,0 +1,12 @@
+pub mod Document
+pub mod Accepted
+pub mod Lines
+pub mod Grammar
+pub mod Spelling
+pub mod Spelled
+pub mod Names
+pub mod Traces
+pub mod Errors
+pub mod Report
+pub mod Reported
+pub mod Generator

@@ -1,0 +1,30 @@
+//! Traces of calls on the directory: read, written, made, and reported.
+#![tactic(auto)]
+
+mod acceptance;
+mod calls;
+mod error;
+#[cfg(test)]
+mod generated_tests;
+mod generator;
+mod heading;
+mod names;
+mod numbering;
+mod policies;
+mod read;
+mod reports;
+mod shape;
+mod spelled;
+#[cfg(test)]
+mod tests;
+mod trace;
+mod words;
+mod workers;
+mod write;
+
+pub use error::{NoMemory, TraceError};
+pub use generator::generate;
+pub use read::read_trace;
+pub use reports::{render, summary};
+pub use trace::{NamedSource, Trace, TraceAct, TraceCall};
+pub use write::write_trace;

@@ -1,0 +1,50 @@
+ghost use Rattle.std.specs.Prelude.{◌≡◌, ◌≤◌, length, map, IfOk};
+ghost use Rattle.doc_text.specs.Text.{pieces};
+ghost use Rattle.trace_text.specs.Errors.{fault_of, Allows};
+ghost use Rattle.trace_text.specs.Grammar.{front_in, ReadsTrace};
+ghost use Rattle.trace_text.specs.Names.{AreRisingBy, SameMembers};
+ghost use Rattle.trace_text.specs.Spelled.{call_names};
+ghost use Rattle.trace_text.specs.Traces.{document_of, names_of, IsWithin};
+
+use crate::calls::calls_of;
+use crate::error::TraceError;
+use crate::heading::heading_of;
+use crate::names::distinct;
+use crate::numbering::{names_in, numbered};
+use crate::policies::policies_of;
+use crate::trace::Trace;
+use crate::workers::workers_of;
+use std::alloc::Global;
+
+/// Reads a trace, or names the first bad line and the lowest fault on it.
+#[tactic(auto, unfolding(crate::specs::Grammar::front_in, crate::specs::Grammar::document_in))]
+pub fn read_trace(alloc: Global, bytes: &[u8]) -> Result<Trace, TraceError>
+    ensures exact { Allows document_of result (ReadsTrace bytes.now) }
+    ensures rising { IfOk result (λ t. AreRisingBy (λ n. n.items) t.names.items) }
+    ensures within { IfOk result IsWithin }
+    ensures named { IfOk result (λ t. SameMembers (call_names (document_of t).calls) (names_of t)) }
+{
+    let (version, profile, rest) = heading_of(bytes)?;
+    let line = u32::from(version) + 1;
+    let (workers, rest) = workers_of(alloc, rest, line)?;
+    let line = line + workers.len() as u32;
+    let (policies, rest) = policies_of(alloc, profile, rest, line)?;
+    let line = line + policies.len() as u32;
+    let calls = calls_of(alloc, workers.len(), policies.as_slice(), rest, line)?;
+    let names = distinct(alloc, names_in(alloc, calls.as_slice())?)?;
+    let calls = numbered(
+        alloc,
+        workers.len(),
+        names.as_slice(),
+        policies.as_slice(),
+        calls.as_slice(),
+    )?;
+    Ok(Trace {
+        version,
+        profile,
+        workers,
+        policies,
+        names,
+        calls,
+    })
+}
