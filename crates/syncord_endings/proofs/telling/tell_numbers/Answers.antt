@@ -1,0 +1,13 @@
+use Rattle.std.proofs.Common.{[]}
+use Rattle.syncord_endings.proofs.Parts.{begins, told}
+use Rattle.syncord_endings.proofs.telling.tell_numbers.Goals as goal
+
+pub returns : goal.returns
+returns g c =
+    let held = g.E.Sink.held c.args.err.now in
+    let faults = g.E.Sink.faults c.args.err.now in
+    let one = c.say-first.ensures.told held faults [] (begins held faults) in
+    let two = c.say_number-second.ensures.told held faults _ one in
+    let three = c.say-third.ensures.told held faults _ two in
+    let four = c.say_number-fourth.ensures.told held faults _ three in
+    told _ _ _ _ _ _ (c.say-all.ensures.told held faults _ four)

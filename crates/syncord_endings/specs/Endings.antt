@@ -1,0 +1,87 @@
+-- How a command ends: its status, what it read and wrote, and the line on the error stream.
+use Rattle.std.specs.Prelude.{◌≡◌, ◌≢◌, ◌⊎◌, ◌<◌, ◌≤◌, ℕ, List, [], ◌++◌, length, take, Some, codes}
+use Rattle.std.specs.Fmt.{decimal}
+use Rattle.syn_outer.specs.Bytes.{ReadsWhole, ConsumesMoreThan}
+use Rattle.syncord_endings.specs.declared.ending.Ending.{Ending}
+use Rattle.syncord_endings.specs.declared.ending.Ending.TheVariants.{Done, NoReport, TooLarge, ReadFault, WriteFault}
+use Rattle.syncord_endings.specs.declared.ending.Refusal.{Refusal}
+use Rattle.syncord_endings.specs.declared.ending.Refusal.TheVariants.{Document, Line, Program, Slot, Register, NoMemory}
+use Rattle.syncord_endings.specs.Traffic.{Traffic, Failed, Takes, Told}
+
+abbrev pub status_of_refusal : Refusal → ℕ
+status_of_refusal Document = 1
+status_of_refusal (Line line what) = 1
+status_of_refusal (Program number) = 6
+status_of_refusal (Slot number slot) = 6
+status_of_refusal (Register number slot register) = 6
+status_of_refusal NoMemory = 5
+
+abbrev pub status_of : Ending → ℕ
+status_of Done = 0
+status_of (NoReport refusal) = status_of_refusal refusal
+status_of TooLarge = 1
+status_of ReadFault = 3
+status_of (WriteFault written) = 4
+
+abbrev pub refused : ℕ → List ℕ
+refused number = codes "syncord: refused " ++ decimal number
+
+abbrev pub at_slot : ℕ → List ℕ
+at_slot slot = codes " at slot " ++ decimal slot
+
+abbrev pub refusal_message : Refusal → List ℕ
+refusal_message Document = codes "syncord: document\n"
+refusal_message (Line line what) =
+    codes "syncord: line " ++ decimal line ++ codes ": fault " ++ decimal what ++ codes "\n"
+refusal_message (Program number) = refused number ++ codes "\n"
+refusal_message (Slot number slot) = refused number ++ at_slot slot ++ codes "\n"
+refusal_message (Register number slot register) =
+    refused number ++ at_slot slot ++ codes " register " ++ decimal register ++ codes "\n"
+refusal_message NoMemory = []
+
+-- the line on the error stream
+abbrev pub message_of : Ending → List ℕ
+message_of Done = []
+message_of (NoReport refusal) = refusal_message refusal
+message_of TooLarge = codes "syncord: input too large\n"
+message_of ReadFault = codes "syncord: read fault\n"
+message_of (WriteFault written) = codes "syncord: write fault after " ++ decimal written ++ codes " bytes\n"
+
+-- the largest input
+abbrev pub most_bytes : ℕ
+most_bytes = 16777216
+
+-- all that the source had left was read
+abbrev pub Reads : Traffic → List ℕ → Type 0
+Reads input bytes = ReadsWhole most_bytes input.before input.after bytes
+
+-- the refusal is one of these bytes; want of memory is free
+abbrev pub Due : (Refusal → Type 0) → Refusal → Type 0
+Due P NoMemory = Unit {0}
+Due P refusal = P refusal
+
+-- all was read and is refused so, or memory ran out
+abbrev pub EndsRefused : (List ℕ → Refusal → Type 0) → Traffic → Refusal → Type 0
+EndsRefused refuses input NoMemory = Unit {0}
+EndsRefused refuses input refusal = (bytes : List ℕ) × Reads input bytes × refuses bytes refusal
+
+-- at each ending of a command that reports and refuses so: what was read and written, and the fault that it needs
+abbrev pub Ends : (List ℕ → List ℕ → Type 0) → (List ℕ → Refusal → Type 0) → Traffic → Traffic → Ending → Type 0
+Ends reports refuses input output Done =
+    (bytes : List ℕ) × (text : List ℕ) × Reads input bytes × reports bytes text × Takes output text
+Ends reports refuses input output (NoReport refusal) = EndsRefused refuses input refusal × Takes output []
+Ends reports refuses input output TooLarge = ConsumesMoreThan most_bytes input.before input.after × Takes output []
+Ends reports refuses input output ReadFault = Failed input × Takes output []
+Ends reports refuses input output (WriteFault written) = (bytes : List ℕ) × (text : List ℕ) × Reads input bytes
+    × reports bytes text × Takes output (take written text) × (written < length text) × Failed output
+
+-- a status has an ending behind it, and the error stream was told that
+abbrev pub Answers : (List ℕ → List ℕ → Type 0) → (List ℕ → Refusal → Type 0) → Traffic → Traffic → Traffic → ℕ → Type 0
+Answers reports refuses input output error status =
+    (e : Ending) × (status ≡ status_of e) × Ends reports refuses input output e × Told error (message_of e)
+
+-- where nothing fails and there is no more than the limit, the bytes are reported or refused, or memory runs out
+abbrev pub Decides : (List ℕ → Refusal → Type 0) → Traffic → Traffic → ℕ → Type 0
+Decides refuses input output status = (bytes : List ℕ) → input.before ≡ Some bytes → length bytes ≤ most_bytes
+    → ¬ (Failed input) → ¬ (Failed output)
+    → (status ≡ 0) ⊎ (status ≡ 5) ⊎ ((r : Refusal) × (status ≡ status_of_refusal r) × refuses bytes r)

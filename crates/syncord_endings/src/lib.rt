@@ -1,0 +1,12 @@
+//! How a command of the program ends: reading, work, writing, the status, and the line on the error stream.
+#![tactic(auto)]
+
+mod ending;
+mod telling;
+#[cfg(test)]
+mod tests;
+mod work;
+
+pub use ending::{Ending, Refusal};
+pub use telling::tell;
+pub use work::{MOST_BYTES, Work, perform};

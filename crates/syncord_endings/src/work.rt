@@ -1,0 +1,71 @@
+//! A command that reads its input whole, makes a report of it, and writes that whole.
+ghost use Rattle.std.specs.Prelude.{◌≤◌, List, ℕ, length, IfOk, IfErr};
+ghost use Rattle.syncord_endings.specs.declared.ending.Refusal.{Refusal};
+ghost use Rattle.syncord_endings.specs.Traffic.{traffic};
+ghost use Rattle.syncord_endings.specs.Endings.{Due, Ends, Answers, Decides, most_bytes};
+
+use crate::ending::{Ending, Refusal};
+use crate::telling::tell_ending;
+use std::alloc::Global;
+use syn_outer::{ReadError, Sink, Source, read_all, write_all};
+
+/// The largest input, in bytes.
+pub const MOST_BYTES: usize = 16_777_216;
+
+/// What a command does between reading and writing.
+pub trait Work {
+    /// The bytes may have this report.
+    ghost reports: { Self → List ℕ → List ℕ → Type 0 };
+
+    /// The bytes are refused so.
+    ghost refuses: { Self → List ℕ → Refusal → Type 0 };
+
+    /// Makes the report of the bytes, or says why there is none.
+    fn report(&self, alloc: Global, bytes: &[u8]) -> Result<Vec<u8>, Refusal>
+        requires { length bytes.now ≤ most_bytes }
+        ensures report { IfOk result (λ text. reports self.now bytes.now text.items) }
+        ensures refusal { IfErr result (Due (refuses self.now bytes.now)) };
+}
+
+/// Reads, makes the report, and writes it.
+fn ending<K: Work, R: Source, W: Sink>(work: &K, alloc: Global, src: &mut R, out: &mut W) -> Ending
+    ensures { Ends (K.reports work.now) (K.refuses work.now)
+        (traffic (R.left src.old) (R.left src.new) (R.faults src.old) (R.faults src.new))
+        (traffic (W.held out.old) (W.held out.new) (W.faults out.old) (W.faults out.new)) result }
+{
+    let bytes = match read_all(alloc, src, MOST_BYTES) {
+        Ok(bytes) => bytes,
+        Err(ReadError::ReadFault) => return Ending::ReadFault,
+        Err(ReadError::TooLarge) => return Ending::TooLarge,
+        Err(ReadError::NoMemory) => return Ending::NoReport(Refusal::NoMemory),
+    };
+    let text = match work.report(alloc, &bytes) {
+        Ok(text) => text,
+        Err(refusal) => return Ending::NoReport(refusal),
+    };
+    match write_all(out, &text) {
+        Ok(()) => Ending::Done,
+        Err(fault) => Ending::WriteFault(fault.written),
+    }
+}
+
+/// Does all of a command that follows its words, and answers the status.
+pub fn perform<K: Work, R: Source, W: Sink, E: Sink>(
+    work: &K,
+    alloc: Global,
+    src: &mut R,
+    out: &mut W,
+    err: &mut E,
+) -> u8
+    ensures answer { Answers (K.reports work.now) (K.refuses work.now)
+        (traffic (R.left src.old) (R.left src.new) (R.faults src.old) (R.faults src.new))
+        (traffic (W.held out.old) (W.held out.new) (W.faults out.old) (W.faults out.new))
+        (traffic (E.held err.old) (E.held err.new) (E.faults err.old) (E.faults err.new)) result }
+    ensures complete { Decides (K.refuses work.now)
+        (traffic (R.left src.old) (R.left src.new) (R.faults src.old) (R.faults src.new))
+        (traffic (W.held out.old) (W.held out.new) (W.faults out.old) (W.faults out.new)) result }
+{
+    let ending = ending(work, alloc, src, out);
+    tell_ending(err, ending);
+    ending.status()
+}
