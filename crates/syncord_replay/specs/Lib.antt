@@ -1,0 +1,4 @@
+pub mod Histories
+pub mod Attachments
+pub mod Replays
+pub mod Serial
