@@ -5,3 +5,4 @@ pub mod PolicyLoop
 pub mod CallLoop
 pub mod Written
 pub mod Counts
+pub mod Generated

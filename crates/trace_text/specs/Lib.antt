@@ -9,3 +9,4 @@ pub mod Traces
 pub mod Errors
 pub mod Report
 pub mod Reported
+pub mod Generator

@@ -4,6 +4,9 @@
 mod acceptance;
 mod calls;
 mod error;
+#[cfg(test)]
+mod generated_tests;
+mod generator;
 mod heading;
 mod names;
 mod numbering;
@@ -20,6 +23,7 @@ mod workers;
 mod write;
 
 pub use error::{NoMemory, TraceError};
+pub use generator::generate;
 pub use read::read_trace;
 pub use reports::{render, summary};
 pub use trace::{NamedSource, Trace, TraceAct, TraceCall};
