@@ -1,20 +1,18 @@
 -- The calls of a trace may all be done, and what they lead to is a history of it.
-use Rattle.std.proofs.Common.{◌≡◌, ℕ, zero, suc, ◌<◌, List, [], ◌∷◌, map, length, get_or, refl, sym, ap, ◌∙◌, subst, arith}
+use Rattle.std.proofs.Common.{ℕ, zero, suc, ◌<◌, List, [], ◌∷◌, length, get_or, sym, ap, subst, arith}
 use Rattle.std.specs.Prelude.{slice_index}
 use Rattle.std.specs.List.{AllByRecursion}
-use Rattle.dir_table.specs.declared.calls.DirCall.{DirCall}
 use Rattle.dir_table.specs.Directory.{Directory}
-use Rattle.dir_table.specs.Numbers.{call_numbers, call_from, state_numbers}
-use Rattle.dir_table.specs.Meanings.{reply_at, state_after, Admits, IsAdmitted}
+use Rattle.dir_table.specs.Numbers.{call_numbers, state_numbers}
+use Rattle.dir_table.specs.Meanings.{Admits, IsAdmitted}
 use Rattle.dir_table.specs.ObjectLaws.{call_again}
-use Rattle.hist_log.specs.History.{IsLegal, state_left}
 use Rattle.trace_text.specs.declared.trace.TraceAct.{TraceAct}
 use Rattle.trace_text.specs.declared.trace.TraceAct.TheVariants as does
 use Rattle.trace_text.specs.declared.trace.TraceCall.{TraceCall}
 use Rattle.trace_text.specs.declared.trace.Trace.{Trace}
 use Rattle.trace_text.specs.Report.{Done}
 use Rattle.trace_text.specs.Traces.{IsActOf, IsCallOf}
-use Rattle.syncord_replay.specs.Histories.{Made, made_of, made_in, of_worker, operation_of, beginning, IsHistoryOf}
+use Rattle.syncord_replay.specs.Histories.{Made, of_worker, beginning, IsHistoryOf}
 use Rattle.syncord_replay.specs.Serial.{MayDo, Follows}
 
 -- what holds of all holds of each

@@ -2,3 +2,5 @@ pub mod Histories
 pub mod Attachments
 pub mod Replays
 pub mod Serial
+pub mod Sums
+pub mod Numbers

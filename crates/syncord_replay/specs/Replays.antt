@@ -1,5 +1,5 @@
 -- What `replay` and `bulk` write.
-use Rattle.std.specs.Prelude.{◌≡◌, ℕ, List, length, map, Ok, Err}
+use Rattle.std.specs.Prelude.{◌≡◌, ℕ, List, length, Ok, Err}
 use Rattle.std.specs.FinMap.{entries}
 use Rattle.doc_text.specs.declared.fault.Fault.{Fault}
 use Rattle.dir_table.specs.Directory.{Directory}

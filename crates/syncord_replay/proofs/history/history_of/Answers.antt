@@ -3,7 +3,7 @@ use Rattle.std.specs.List.{AllByRecursion}
 use Rattle.dir_table.specs.Numbers.{state_numbers}
 use Rattle.trace_text.specs.Report.{done_of}
 use Rattle.syncord_replay.specs.Histories.{beginning}
-use Rattle.syncord_replay.specs.Serial.{MayDo, Follows}
+use Rattle.syncord_replay.specs.Serial.{MayDo}
 use Rattle.syncord_replay.proofs.Within.{may_all, is_history}
 use Rattle.syncord_replay.proofs.history.history_of.Goals as goal
 
