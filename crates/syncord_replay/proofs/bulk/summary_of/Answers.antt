@@ -1,0 +1,19 @@
+use Rattle.std.proofs.Common.{map}
+use Rattle.trace_text.specs.Report.{done_of}
+use Rattle.syncord_replay.proofs.Unread.{map-map}
+use Rattle.syncord_replay.proofs.bulk.summary_of.Goals as goal
+
+pub returns : goal.returns
+returns c = record {
+  trace = c.in_ok-trace.trace;
+  is_trace = record {
+    says = c.in_ok-trace.ensures.exact;
+    within = c.in_ok-trace.ensures.within;
+    rising = c.in_ok-trace.ensures.rising;
+    named = c.in_ok-trace.ensures.named;
+  };
+  history = map done_of c.in_ok-history.history.items;
+  final = c.in_ok-history.dir;
+  is_history = c.in_ok-history.ensures;
+  told = rw (map-map (λ e. e.reply) done_of c.in_ok-history.history.items) (rw c.as_slice.ensures.value at c.in_ok-text.ensures);
+}

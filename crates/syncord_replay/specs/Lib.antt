@@ -1,0 +1,6 @@
+pub mod Histories
+pub mod Attachments
+pub mod Replays
+pub mod Serial
+pub mod Sums
+pub mod Numbers

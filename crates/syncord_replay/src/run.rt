@@ -1,0 +1,43 @@
+//! The commands as calls.
+ghost use Rattle.syncord_endings.specs.Traffic.{traffic};
+ghost use Rattle.syncord_endings.specs.Endings.{Answers, Decides};
+ghost use Rattle.syncord_replay.specs.Replays.{Reports, Refuses};
+
+use crate::replay::replay;
+use std::alloc::Global;
+use syn_outer::{Sink, Source};
+use syncord_endings::{Refusal, Work, perform};
+
+/// Replays a trace.
+#[derive(Drop)]
+struct Replay;
+
+impl Work for Replay {
+    ghost use Rattle.syncord_replay.specs.Replays.{Reports, Refuses};
+
+    ghost reports = { λ _ bytes text. Reports bytes text };
+
+    ghost refuses = { λ _ bytes refusal. Refuses bytes refusal };
+
+    fn report(&self, alloc: Global, bytes: &[u8]) -> Result<Vec<u8>, Refusal> {
+        replay(alloc, bytes)
+    }
+}
+
+/// Does all of the command `replay` that follows its words, and answers the status.
+pub fn run_replay<R: Source, W: Sink, E: Sink>(
+    alloc: Global,
+    src: &mut R,
+    out: &mut W,
+    err: &mut E,
+) -> u8
+    ensures answer { Answers Reports Refuses
+        (traffic (R.left src.old) (R.left src.new) (R.faults src.old) (R.faults src.new))
+        (traffic (W.held out.old) (W.held out.new) (W.faults out.old) (W.faults out.new))
+        (traffic (E.held err.old) (E.held err.new) (E.faults err.old) (E.faults err.new)) result }
+    ensures complete { Decides Refuses
+        (traffic (R.left src.old) (R.left src.new) (R.faults src.old) (R.faults src.new))
+        (traffic (W.held out.old) (W.held out.new) (W.faults out.old) (W.faults out.new)) result }
+{
+    perform(&Replay, alloc, src, out, err)
+}
