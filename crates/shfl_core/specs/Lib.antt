@@ -13,3 +13,4 @@ pub mod Holding
 pub mod Owed
 pub mod Events
 pub mod Lawful
+pub mod ShownLine

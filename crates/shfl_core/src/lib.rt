@@ -2,6 +2,7 @@
 #![tactic(auto)]
 
 pub mod asks;
+pub mod board;
 pub mod found;
 pub mod local;
 pub mod phase;
@@ -12,8 +13,9 @@ pub mod waiter;
 pub mod words;
 pub mod world;
 
+pub use board::Board;
 pub use local::Local;
 pub use phase::{Ask, Nap, PassState, Phase, Registers, Rules, Watch};
 pub use waiter::Waiter;
 pub use words::{Access, Word};
-pub use world::World;
+pub use world::PlainWorld;

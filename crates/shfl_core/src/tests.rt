@@ -4,7 +4,7 @@ ghost use Rattle.shfl_line.specs.declared.events.Form.TheVariants.{Spin};
 ghost use Rattle.shfl_core.specs.Runner.{opened};
 
 use crate::local::Local;
-use crate::world::World;
+use crate::world::PlainWorld;
 use shfl_line::{Attr, Mode, NoMemory};
 use std::alloc::Global;
 use std::test::Fail;
@@ -16,10 +16,10 @@ const PLAIN: Attr = Attr {
     kind: 0,
 };
 
-fn open(alloc: Global) -> Result<World<Local>, NoMemory>
+fn open(alloc: Global) -> Result<PlainWorld<Local>, NoMemory>
     ensures { IfOk result (λ lock. lock ≡ opened (record { limit = 1024; form = Spin }) (PLAIN ∷ [])) }
 {
-    World::open(alloc, &[PLAIN], 1024, Local::new)
+    PlainWorld::open(alloc, &[PLAIN], 1024, Local::new)
 }
 
 #[test]

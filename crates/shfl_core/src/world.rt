@@ -12,7 +12,7 @@ ghost use Rattle.shfl_core.specs.Words.{look, put, site, told};
 ghost use Rattle.shfl_core.specs.Words as words;
 ghost use Rattle.shfl_core.specs.Worlds.{node, Acquire, Release, Step, admitted, known};
 
-use crate::phase::{Ask, Nap};
+use crate::phase::{Ask, Nap, PassState};
 use crate::waiter::Waiter;
 use crate::words::{Access, Word, index};
 use shfl_line::{Attr, Mode, NoMemory};
@@ -91,14 +91,14 @@ fn push_node(list: &mut Vec<u64>, attr: u64)
     list.push_reserved(0);
 }
 
-/// A lock whose words are plain numbers, with all its passes.
+/// A lock whose words are plain numbers, with all its passes. That each move keeps it lawful is told by the laws above.
 #[derive(Drop)]
-pub struct World<W: Waiter> {
+pub struct PlainWorld<W: Waiter> {
     words: Vec<u64>,
     passes: Vec<W>,
 }
 
-impl<W: Waiter> Model for World<W> {
+impl<W: Waiter> Model for PlainWorld<W> {
     ghost use Rattle.shfl_core.specs.Runner.{Lock, IsLock, seen_lock};
 
     ghost Value = { Lock };
@@ -108,14 +108,14 @@ impl<W: Waiter> Model for World<W> {
     ghost invariant = { λ s. IsLock W.meaning s.words.items s.passes.items };
 }
 
-impl<W: Waiter> World<W> {
+impl<W: Waiter> PlainWorld<W> {
     /// A lock with a pass for each of these attributes; `make` makes the waiter of a pass.
     pub fn open<F: Fn(u32, Attr, u16) -> W>(
         alloc: Global,
         attrs: &[Attr],
         limit: u16,
         make: F,
-    ) -> Result<World<W>, NoMemory>
+    ) -> Result<PlainWorld<W>, NoMemory>
         ghost form: { Form }
         requires some { 0 < length attrs.now }
         requires few { length attrs.now ≤ 64 }
@@ -134,7 +134,7 @@ impl<W: Waiter> World<W> {
             passes.push_reserved(make(number, *attr, limit));
             number += 1;
         }
-        Ok(World { words, passes })
+        Ok(PlainWorld { words, passes })
     }
 
     /// The pass begins to take the lock; refused unless it is idle.
@@ -193,5 +193,33 @@ impl<W: Waiter> World<W> {
         ensures { result ≡ look self.now.world.words LockWord }
     {
         self.words[0]
+    }
+
+    /// How many passes there are.
+    pub fn count(&self) -> usize
+        ensures { result ≡ length self.now.world.passes }
+    {
+        self.passes.len()
+    }
+
+    /// What the word says.
+    pub fn look(&self, word: Word) -> u64
+        requires there { words.index word < length self.now.world.words }
+        ensures { result ≡ look self.now.world.words word }
+    {
+        self.words[index(word)]
+    }
+
+    /// Where the pass stands.
+    pub fn standing(&self, pass: u32) -> PassState
+        requires declared { pass < length self.now.world.passes }
+        ensures { result ≡ known self.now.world.passes pass }
+    {
+        let own = &self.passes[pass as usize];
+        PassState {
+            phase: own.phase(),
+            reg: own.registers(),
+            nap: own.nap(),
+        }
     }
 }

@@ -9,7 +9,7 @@ use Rattle.shfl_core.specs.declared.phase.PassState.{PassState}
 use Rattle.shfl_core.specs.Phases.{is_holding}
 use Rattle.shfl_core.specs.Holding.{write_of, read_of}
 use Rattle.shfl_core.proofs.Lists.{below-or}
-use Rattle.shfl_laws.specs.ShownLine.{holders}
+use Rattle.shfl_core.specs.ShownLine.{holders}
 use Rattle.shfl_laws.proofs.Losing.{holds-split}
 
 abbrev write_here : ℕ → ℕ × Mode → ℕ

@@ -3,7 +3,7 @@ use Rattle.std.proofs.Common.{◌≡◌, ◌≢◌, ℕ, zero, suc, ◌<◌, ◌
 use Rattle.std.specs.Prelude.{slice_index}
 use Rattle.std.proofs.lemmas.List.{length_push}
 use Rattle.shfl_line.proofs.Chain
-use Rattle.shfl_laws.specs.ShownLine.{least, each_below}
+use Rattle.shfl_core.specs.ShownLine.{least, each_below}
 
 -- nobody below n passes the test
 pub least-none : (test : ℕ → Bool) (n : ℕ) → least test n ≡ 0 → (p : ℕ) → p < n → test p ≡ false

@@ -20,7 +20,8 @@ use Rattle.shfl_core.specs.Lawful.{Terms, count, Lawful}
 use Rattle.shfl_core.proofs.Lists.{past, below-or}
 use Rattle.shfl_laws.specs.Headline.{IsLinkingTo, IsSuccessor, HasNoSuccessor, IsHead, Named, Active, Called, IsWaitLine, Headline}
 use Rattle.shfl_laws.specs.Facts.{Facts}
-use Rattle.shfl_laws.specs.ShownLine.{least, each_below, holders, is_ready, then, or_else, head_of, successor_of, walk, named, role_of, ShownLineLaw}
+use Rattle.shfl_core.specs.ShownLine.{least, each_below, holders, is_ready, then, or_else, head_of, successor_of, walk, named, role_of}
+use Rattle.shfl_laws.specs.Theorem.{ShownLineLaw}
 use Rattle.shfl_laws.proofs.Facts.{facts}
 use Rattle.shfl_laws.proofs.Headline.{headline}
 use Rattle.shfl_laws.proofs.HoldersBelow.{told}

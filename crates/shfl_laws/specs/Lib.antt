@@ -6,4 +6,3 @@ pub mod Seen
 pub mod Facts
 pub mod RoundMeasure
 pub mod Rounds
-pub mod ShownLine

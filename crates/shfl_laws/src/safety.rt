@@ -1,7 +1,6 @@
 //! What the laws say in plain words. The functions do nothing when they run: their contracts are the theorems.
-ghost use Rattle.shfl_laws.specs.Theorem.{HeadlineLaw, ShowsWellFormed, ShowsOne, RunHeadline};
+ghost use Rattle.shfl_laws.specs.Theorem.{HeadlineLaw, ShowsWellFormed, ShowsOne, ShownLineLaw, RunHeadline};
 ghost use Rattle.shfl_laws.specs.Facts.{FactsLaw};
-ghost use Rattle.shfl_laws.specs.ShownLine.{ShownLineLaw};
 
 /// In every lawful world one writer holds the lock, or readers alone, or nobody; every queued waiter stands once in the
 /// line or is the one detached, and nobody else does; one pass at most shuffles; the batch is a prefix within the limit.

@@ -5,7 +5,7 @@ ghost use Rattle.syncord_app.specs.Report.{version, form_part, sizes, header, de
 use crate::parts::{act_name, answer_name, form_name, push_hand, push_hold, push_queue, push_role};
 use crate::schedule::Event;
 use doc_text::push_decimal;
-use shfl_core::{Local, World};
+use shfl_core::{Local, PlainWorld};
 use shfl_line::{Form, LineState};
 use std::alloc::AllocError;
 
@@ -80,7 +80,7 @@ pub fn push_row(
     number: u32,
     event: Event,
     admitted: bool,
-    lock: &World<Local>,
+    lock: &PlainWorld<Local>,
     state: &LineState,
 ) -> Result<(), AllocError>
     ensures { OnOk result (out.new.items ≡ out.old.items ++ row number (record {

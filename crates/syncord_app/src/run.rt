@@ -8,7 +8,7 @@ ghost use Rattle.syncord_app.specs.Lone.{IsLone};
 
 use crate::report::{push_header, push_row, push_totals};
 use crate::schedule::{Act, Event, Schedule};
-use shfl_core::{Ask, Local, Waiter, World};
+use shfl_core::{Ask, Local, PlainWorld, Waiter};
 use shfl_line::{Attr, Form, LineState, Mode, NoMemory};
 use std::alloc::Global;
 
@@ -26,15 +26,15 @@ fn socket_answer(own: Attr, ask: Ask) -> bool
 }
 
 /// The lock at its opening.
-fn open(alloc: Global, own: Attr) -> Result<World<Local>, NoMemory>
+fn open(alloc: Global, own: Attr) -> Result<PlainWorld<Local>, NoMemory>
     ensures rules { IfOk result (λ lock. lock.rules ≡ rules) }
     ensures start { IfOk result (λ lock. lock.world ≡ start own) }
 {
-    World::open(alloc, &[own], BATCH_LIMIT, Local::new)
+    PlainWorld::open(alloc, &[own], BATCH_LIMIT, Local::new)
 }
 
 /// Makes an event's move, where it is admitted.
-fn make(lock: &mut World<Local>, own: Attr, event: Event) -> bool
+fn make(lock: &mut PlainWorld<Local>, own: Attr, event: Event) -> bool
     requires rules { lock.old.rules ≡ rules }
     requires lone { length lock.old.world.passes ≡ 1 }
     ensures answer { result ≡ admits_event own lock.old.world event }
@@ -56,7 +56,7 @@ fn make(lock: &mut World<Local>, own: Attr, event: Event) -> bool
 }
 
 /// Fills a state with what the lock of a lone pass shows.
-fn show(lock: &World<Local>, own: Attr, state: &mut LineState)
+fn show(lock: &PlainWorld<Local>, own: Attr, state: &mut LineState)
     requires reached { IsLone own lock.now.world }
     requires passes { length state.old.mark ≡ 1 }
     ensures shown { state.new ≡ shown_by lock.now.world }

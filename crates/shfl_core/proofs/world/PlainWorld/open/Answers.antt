@@ -6,7 +6,7 @@ use Rattle.shfl_core.specs.declared.phase.Rules.{Rules}
 use Rattle.shfl_core.specs.Waiting.{fresh}
 use Rattle.shfl_core.specs.Worlds.{node, opening_words}
 use Rattle.shfl_core.proofs.Opening.{AreMade, made-lock, made-seen, one-more-made, one-more-word}
-use Rattle.shfl_core.proofs.world.World.open.Goals as goal
+use Rattle.shfl_core.proofs.world.PlainWorld.open.Goals as goal
 
 pub loop-attr-preserved : goal.loop-attr-preserved
 loop-attr-preserved g c = let i = c.loop-attr.invariant in let h : c.loop-attr.attr-index < length c.args.attrs.now = c.loop-attr-test.true in

@@ -1,6 +1,6 @@
 use Rattle.std.proofs.Common.{◌∙◌}
 use Rattle.shfl_core.proofs.Standing.{read, asks}
-use Rattle.shfl_core.proofs.world.World.ask.Goals as goal
+use Rattle.shfl_core.proofs.world.PlainWorld.ask.Goals as goal
 
 pub returns : goal.returns
 returns g c = let i = c.self.inside in let f = g.W.Waiter.meaning in let o = c.index.result.now in

@@ -1,6 +1,6 @@
 use Rattle.std.proofs.Common.{sym, ◌∙◌}
 use Rattle.shfl_core.proofs.Standing.{read, room, step-lock, step-seen}
-use Rattle.shfl_core.proofs.world.World.step.Goals as goal
+use Rattle.shfl_core.proofs.world.PlainWorld.step.Goals as goal
 
 pub perform-found-requires : goal.perform-found-requires
 perform-found-requires g c = let i = c.self.inside in let f = g.W.Waiter.meaning in let o = c.index_mut-own.result.now in

@@ -1,5 +1,5 @@
 use Rattle.shfl_core.proofs.Standing.{read, acquire-lock, acquire-seen, may-use}
-use Rattle.shfl_core.proofs.world.World.acquire.Goals as goal
+use Rattle.shfl_core.proofs.world.PlainWorld.acquire.Goals as goal
 
 pub acquire-requires : goal.acquire-requires
 acquire-requires g c = let i = c.self.inside in let f = g.W.Waiter.meaning in let o = c.index_mut.result.now in

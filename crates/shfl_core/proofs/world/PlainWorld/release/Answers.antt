@@ -1,5 +1,5 @@
 use Rattle.shfl_core.proofs.Standing.{read, release-lock, release-seen}
-use Rattle.shfl_core.proofs.world.World.release.Goals as goal
+use Rattle.shfl_core.proofs.world.PlainWorld.release.Goals as goal
 
 pub invariant_of-self : goal.invariant_of-self
 invariant_of-self g c = let i = c.self.inside in let f = g.W.Waiter.meaning in let o = c.index_mut.result.now in

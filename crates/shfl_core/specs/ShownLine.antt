@@ -1,5 +1,5 @@
 -- The line state that a world shows, as a function of its words and passes.
-use Rattle.std.specs.Prelude.{◌≡◌, ℕ, zero, suc, List, [], ◌∷◌, ◌++◌, Option, None, Some, Bool, true, false, cond, ◌==◌, ◌&&◌, length}
+use Rattle.std.specs.Prelude.{ℕ, zero, suc, List, [], ◌∷◌, ◌++◌, Option, None, Some, Bool, true, false, cond, ◌==◌, ◌&&◌, length}
 use Rattle.shfl_line.specs.declared.events.Mode.{Mode}
 use Rattle.shfl_line.specs.declared.events.Role.{Role}
 use Rattle.shfl_line.specs.declared.events.Role.TheVariants.{Nobody, Rest, Walk}
@@ -12,7 +12,6 @@ use Rattle.shfl_core.specs.declared.words.Word.TheVariants.{Next, State}
 use Rattle.shfl_core.specs.Words.{look}
 use Rattle.shfl_core.specs.Phases.{is_holding, is_queued, is_fore, is_round, is_linking, has_hand}
 use Rattle.shfl_core.specs.Worlds.{World, known}
-use Rattle.shfl_core.specs.Lawful.{Terms, count, Lawful}
 
 -- the least number below n that passes the test plus 1, or 0
 abbrev pub least : (ℕ → Bool) → ℕ → ℕ
@@ -78,7 +77,3 @@ shown_line w = record {
       (least (λ p. is_queued (known w.passes p) && shuffler_of (look w.words (State p))) (length w.passes));
   mark = each_below (λ p. cond (is_queued (known w.passes p)) (batch_of (look w.words (State p))) 0) (length w.passes);
 }
-
--- a lawful world with all its seats filled shows just that
-abbrev pub ShownLineLaw : Type 0
-ShownLineLaw = (t : Terms) (w : World) (ok : Lawful t w) → length w.passes ≡ count t → ok.shown ≡ shown_line w

@@ -2,7 +2,7 @@ use Rattle.std.proofs.Common.{◌≡◌, ◌+◌, ◌*◌, ◌-◌, ◌≤◌, t
 use Rattle.std.specs.Prelude.{vec_capacity}
 use Rattle.shfl_core.specs.Worlds.{opening_words}
 use Rattle.shfl_core.proofs.Opening.{AreMade}
-use Rattle.shfl_core.proofs.world.World.open.Given as goal
+use Rattle.shfl_core.proofs.world.PlainWorld.open.Given as goal
 
 abbrev pub invariant-loop-attr : goal.invariant-loop-attr
 invariant-loop-attr g l = record {
