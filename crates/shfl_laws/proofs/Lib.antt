@@ -70,3 +70,9 @@ pub mod Stretch
 pub mod MeasureRows
 pub mod MeasureMoves
 pub mod MeasureRounds
+pub mod PlainOwed
+pub mod PlainHolding
+pub mod PlainOrder
+pub mod PlainGrouping
+pub mod PlainRound
+pub mod Plain
