@@ -40,8 +40,8 @@ stands-split m q x xs h = Chain.by_eq x.0 q
     (λ n. inr (miss m (let t : (x.0 == q) ≡ false = grind (arith, nat_tests) in t) h))
   where
     miss : (m : Mode) → (x.0 == q) ≡ false → 0 < stands m q (x ∷ xs) → 0 < stands m q xs
-    miss Write e h = subst (λ b. 0 < cond (b && is_write x.1) 1 0 + write_of q xs) e h
-    miss Read e h = subst (λ b. 0 < cond (b && not (is_write x.1)) 1 0 + read_of q xs) e h
+    miss Write e h = let c : 0 < cond (false && is_write x.1) 1 0 + write_of q xs = subst (λ b. 0 < cond (b && is_write x.1) 1 0 + write_of q xs) e h in omega arith
+    miss Read e h = let c : 0 < cond (false && not (is_write x.1)) 1 0 + read_of q xs = subst (λ b. 0 < cond (b && not (is_write x.1)) 1 0 + read_of q xs) e h in omega arith
 
     by : (m k : Mode) → x.1 ≡ k → (x.0 == q) ≡ true → 0 < stands m q (x ∷ xs) → ((x.0 ≡ q) × (x.1 ≡ m)) ⊎ (0 < stands m q xs)
     by Write Write e i h = inl (grind (arith, nat_tests), e)

@@ -106,42 +106,42 @@ module _ (t : Terms) (w : World) (ok : Lawful t w) (p : ℕ) (r : Shuffles w p) 
   }
 
 module _ (t : Terms) (w : World) (s : Line) (sh : ShowsPlainly (count t) w s) (good : IsWellFormed t.rules.limit s) (fa : PlainFacts t w s) (p : ℕ) (r : Shuffles w p) where
-  abbrev q : PassState
-  q = known w.passes p
+  abbrev walker : PassState
+  walker = known w.passes p
 
   once : (c : ℕ) → times c s.line ≤ 1
   once c = let a = good.waits_once c in omega arith
 
-  d : RoundWords w s q
-  d = fa.rounds p r
+  words : RoundWords w s walker
+  words = fa.rounds p r
 
-  last-is : last_marked (mark_of s) s.line ≡ suc q.reg.last
+  last-is : last_marked (mark_of s) s.line ≡ suc walker.reg.last
   last-is = sym (last-cong (batch w) (mark_of s) s.line (λ c h. sym (sh.mark c (in-queue t w s sh good fa c h)))) ∙ (fa.facts.round p r).last
 
-  hand-is : link_word s.hand ≡ cond (has_hand q.phase) (suc q.reg.cand) 0
-  hand-is = by (has_hand q.phase) refl
+  hand-is : link_word s.hand ≡ cond (has_hand walker.phase) (suc walker.reg.cand) 0
+  hand-is = by (has_hand walker.phase) refl
     where
-      none : has_hand q.phase ≡ false → (h : Option ℕ) → s.hand ≡ h → link_word s.hand ≡ 0
+      none : has_hand walker.phase ≡ false → (h : Option ℕ) → s.hand ≡ h → link_word s.hand ≡ 0
       none e None f = ap link_word f
       none e (Some c) f = absurd (let x = (sh.hand c).0 f in let a = (sh.active x.0).1 (hand-round (known w.passes x.0).phase x.1.takes) in let b = (sh.active p).1 r in
-          let i : x.0 ≡ p = (let e = ap active_shuffler (sym a ∙ b) in omega arith) in let z : has_hand q.phase ≡ true = subst (λ y. has_hand (known w.passes y).phase ≡ true) i x.1.takes in cc)
+          let i : x.0 ≡ p = (let e = ap active_shuffler (sym a ∙ b) in omega arith) in let z : has_hand walker.phase ≡ true = subst (λ y. has_hand (known w.passes y).phase ≡ true) i x.1.takes in cc)
 
-      by : (b : Bool) → has_hand q.phase ≡ b → link_word s.hand ≡ cond (has_hand q.phase) (suc q.reg.cand) 0
-      by true e = ap link_word ((sh.hand q.reg.cand).1 (p, record { takes = e; candidate = refl })) ∙ sym (ap (λ b. cond b (suc q.reg.cand) 0) e)
-      by false e = none e s.hand refl ∙ sym (ap (λ b. cond b (suc q.reg.cand) 0) e)
+      by : (b : Bool) → has_hand walker.phase ≡ b → link_word s.hand ≡ cond (has_hand walker.phase) (suc walker.reg.cand) 0
+      by true e = ap link_word ((sh.hand walker.reg.cand).1 (p, record { takes = e; candidate = refl })) ∙ sym (ap (λ b. cond b (suc walker.reg.cand) 0) e)
+      by false e = none e s.hand refl ∙ sym (ap (λ b. cond b (suc walker.reg.cand) 0) e)
 
-  pub round-plain : Round (view w).next (mark_of s) (view w).tail s.line (link_word s.hand) q
+  pub round-plain : Round (view w).next (mark_of s) (view w).tail s.line (link_word s.hand) walker
   round-plain = let place = fa.facts.round p r in record {
     prev_in = place.inside;
-    prev_free = ⊎_elim (λ e. inl e) (λ h. inr (behind-unmarked (mark_of s) q.reg.last q.reg.prev s.line once last-is h)) place.prev;
-    cand_next = d.cand_next;
-    cand_inner = λ f e. d.cand_inner f (sym (tail-line w s.line sh.queue) ∙ e);
-    first_next = d.first_next;
-    first_cand = d.first_cand;
-    apart = d.apart;
-    after_next = d.after_next;
-    gap = d.gap;
-    aimed = d.aimed;
+    prev_free = ⊎_elim (λ e. inl e) (λ h. inr (behind-unmarked (mark_of s) walker.reg.last walker.reg.prev s.line once last-is h)) place.prev;
+    cand_next = words.cand_next;
+    cand_inner = λ f e. words.cand_inner f (sym (tail-line w s.line sh.queue) ∙ e);
+    first_next = words.first_next;
+    first_cand = words.first_cand;
+    apart = words.apart;
+    after_next = words.after_next;
+    gap = words.gap;
+    aimed = words.aimed;
     hand_is = hand-is;
-    marking = λ f. (let a = d.marking f in (a.follows, a.unmarked, λ m. (a.moved m, λ e. not-behind-itself q.reg.cand s.line (once q.reg.cand) (subst (λ y. 0 < times y (behind q.reg.cand s.line)) e (a.rear m)))));
+    marking = λ f. (let a = words.marking f in (a.follows, a.unmarked, λ m. (a.moved m, λ e. not-behind-itself walker.reg.cand s.line (once walker.reg.cand) (subst (λ y. 0 < times y (behind walker.reg.cand s.line)) e (a.rear m)))));
   }
