@@ -76,3 +76,4 @@ pub mod PlainOrder
 pub mod PlainGrouping
 pub mod PlainRound
 pub mod Plain
+pub mod PlainMoves

@@ -1,5 +1,5 @@
 -- A lawful world in plain words is one of the invariant, and the other way round.
-use Rattle.std.proofs.Common.{◌≡◌, ℕ, zero, suc, ◌+◌, ◌<◌, ◌≤◌, ◌⊎◌, List, Bool, true, false, cond, refl, sym, ap, ◌∙◌, subst, ⊎_elim, inl, inr, length, arith}
+use Rattle.std.proofs.Common.{◌≡◌, ℕ, suc, ◌<◌, ◌⊎◌, Bool, true, false, cond, refl, sym, ap, ◌∙◌, ⊎_elim, inl, inr, arith}
 use Rattle.std.specs.Prelude.{Option, Some, None}
 use Rattle.shfl_line.specs.Line.{Line, mark_of, active_shuffler, idle_shuffler, IsOfPasses}
 use Rattle.shfl_line.specs.Words.{link_word}
@@ -12,15 +12,13 @@ use Rattle.shfl_core.specs.Order.{Order as Ordered}
 use Rattle.shfl_core.specs.Grouping.{Grouping}
 use Rattle.shfl_core.specs.Lawful.{Terms, count, Agrees, Lawful}
 use Rattle.shfl_laws.specs.Headline.{IsQueued, Headline, batch}
-use Rattle.shfl_laws.specs.Facts.{Facts}
 use Rattle.shfl_laws.specs.Shows.{ShowsPlainly}
 use Rattle.shfl_laws.specs.PlainFacts.{PlainFacts}
-use Rattle.shfl_laws.specs.Plain.{HasForm, PlainLawful, PlainLaw, LawfulLaw}
+use Rattle.shfl_laws.specs.Plain.{PlainLawful, PlainLaw, LawfulLaw}
 use Rattle.shfl_laws.proofs.Facts.{facts}
 use Rattle.shfl_laws.proofs.Headline.{headline, marks}
 use Rattle.shfl_laws.proofs.HoldersPlain.{writer-in-word, word-has-writer}
 use Rattle.shfl_laws.proofs.NextRows.{queued-below}
-use Rattle.shfl_laws.proofs.Order
 use Rattle.shfl_laws.proofs.PlainGrouping.{is-walk, is-rest, grouping-plain}
 use Rattle.shfl_laws.proofs.PlainHolding.{plain-hold, holding-plain}
 use Rattle.shfl_laws.proofs.PlainOrder as Plainly

@@ -1,5 +1,5 @@
 -- The batch and the shuffler that the plain words give are those of the invariant.
-use Rattle.std.proofs.Common.{◌≡◌, ◌≢◌, ℕ, zero, suc, ◌+◌, ◌<◌, ◌≤◌, ◌⊎◌, List, [], ◌∷◌, Bool, true, false, cond, ◌==◌, refl, sym, ap, ◌∙◌, subst, ⊎_elim, inl, inr, arith}
+use Rattle.std.proofs.Common.{◌≡◌, ℕ, zero, suc, ◌<◌, ◌≤◌, Bool, true, false, cond, refl, sym, ap, ◌∙◌, inl, arith}
 use Rattle.std.proofs.lemmas.Bool.Decides.{nat_tests}
 use Rattle.shfl_line.specs.declared.events.Role.{Role}
 use Rattle.shfl_line.specs.declared.events.Role.TheVariants.{Nobody, Walk, Rest}
@@ -7,9 +7,8 @@ use Rattle.shfl_line.specs.Line.{Line, mark_of, active_shuffler, idle_shuffler, 
 use Rattle.shfl_line.specs.Words.{link_word}
 use Rattle.shfl_line.specs.Passes.{times}
 use Rattle.shfl_line.proofs.Batches.{last-cong, is-last-marked}
-use Rattle.shfl_core.specs.declared.phase.Phase.TheVariants.{Begin}
 use Rattle.shfl_core.specs.declared.phase.PassState.{PassState}
-use Rattle.shfl_core.specs.Phases.{is_queued, is_round, knows}
+use Rattle.shfl_core.specs.Phases.{is_queued}
 use Rattle.shfl_core.specs.Worlds.{World, known}
 use Rattle.shfl_core.specs.View.{View, view}
 use Rattle.shfl_core.specs.Grouping.{Grouping}

@@ -1,10 +1,10 @@
 -- Who holds the lock in plain words, and as the invariant has it.
-use Rattle.std.proofs.Common.{◌≡◌, ◌≢◌, ℕ, zero, suc, ◌+◌, ◌<◌, ◌≤◌, ◌⊎◌, List, [], ◌∷◌, Bool, true, false, cond, ◌==◌, ◌&&◌, not, refl, sym, ap, ◌∙◌, subst, ⊎_elim, inl, inr, arith}
-use Rattle.std.specs.Prelude.{Contains, slice_index_or, length}
+use Rattle.std.proofs.Common.{◌≡◌, ℕ, zero, suc, ◌+◌, ◌<◌, ◌≤◌, ◌⊎◌, List, [], ◌∷◌, Bool, true, false, cond, ◌==◌, ◌&&◌, not, refl, sym, ◌∙◌, subst, ⊎_elim, inl, inr, arith}
+use Rattle.std.specs.Prelude.{Contains}
 use Rattle.std.proofs.lemmas.Bool.Decides.{nat_tests}
 use Rattle.shfl_line.specs.declared.events.Mode.{Mode}
 use Rattle.shfl_line.specs.declared.events.Mode.TheVariants.{Write, Read}
-use Rattle.shfl_line.specs.Line.{Line, is_write, holds, writer_count, reader_count, IsWellFormed}
+use Rattle.shfl_line.specs.Line.{Line, is_write, writer_count, reader_count, IsWellFormed}
 use Rattle.shfl_line.specs.Words.{held_of, readers_of}
 use Rattle.shfl_line.proofs.Chain
 use Rattle.shfl_core.specs.declared.phase.PassState.{PassState}
@@ -14,7 +14,7 @@ use Rattle.shfl_core.specs.Phases.{is_holding}
 use Rattle.shfl_core.specs.Worlds.{World, known}
 use Rattle.shfl_core.specs.Holding.{write_of, read_of, Holding}
 use Rattle.shfl_core.specs.Lawful.{Terms, Lawful}
-use Rattle.shfl_laws.specs.Headline.{Holds, HoldsAs}
+use Rattle.shfl_laws.specs.Headline.{HoldsAs}
 use Rattle.shfl_laws.specs.Shows.{ShowsPlainly}
 use Rattle.shfl_laws.proofs.Counts.{write-in}
 use Rattle.shfl_laws.proofs.Losing.{holds-split}

@@ -7,7 +7,7 @@ use Rattle.shfl_line.specs.Words.{link_word, ready_of, shuffler_of, batch_of}
 use Rattle.shfl_line.specs.Passes.{times, first, Chain, end, follower_after}
 use Rattle.shfl_line.proofs.Chain
 use Rattle.shfl_core.specs.declared.phase.Phase.{Phase}
-use Rattle.shfl_core.specs.declared.phase.Phase.TheVariants.{Link, Ready, Swap}
+use Rattle.shfl_core.specs.declared.phase.Phase.TheVariants.{Link, Ready}
 use Rattle.shfl_core.specs.declared.phase.PassState.{PassState}
 use Rattle.shfl_core.specs.declared.words.Word.TheVariants.{Next, State}
 use Rattle.shfl_core.specs.Words.{look}
@@ -21,8 +21,9 @@ use Rattle.shfl_core.proofs.Lists.{past, below-or}
 use Rattle.shfl_laws.specs.Headline.{IsLinkingTo, IsSuccessor, HasNoSuccessor, IsHead, Named, Active, Called, IsWaitLine, IsQueued}
 use Rattle.shfl_laws.specs.Facts.{WaitsUncalled, Facts}
 use Rattle.shfl_laws.specs.Shows.{ShowsPlainly}
-use Rattle.shfl_laws.proofs.Headline.{fore-queued}
+use Rattle.shfl_laws.proofs.Headline.{link-is}
 use Rattle.shfl_laws.proofs.Leasts.{least-none, least-some}
+use Rattle.shfl_laws.proofs.ShownLine.{ready-is}
 
 -- two passes with one follower are one
 one-before : (x : ℕ) (xs : List ℕ) (a c b : ℕ) → times b xs ≤ 1 → follower_after a x xs ≡ suc b → follower_after c x xs ≡ suc b → a ≡ c
@@ -49,12 +50,6 @@ module _ (limit n : ℕ) (w : World) (s : Line) (sh : ShowsPlainly n w s) (good 
   -- the pass at Ready plus 1, or 0
   abbrev pub giver : ℕ
   giver = least (λ p. is_ready (pass p).phase) (length w.passes)
-
-  ready-is : (f : Phase) → is_ready f ≡ true → f ≡ Ready
-  ready-is f h = grind arith
-
-  link-is : (f : Phase) → is_linking f ≡ true → f ≡ Link
-  link-is f h = grind arith
 
   link-to : (q : ℕ) → is_linking (pass q).phase ≡ true → IsLinkingTo w (pass q).reg.before q
   link-to q e = record { links = link-is (pass q).phase e; before = refl }

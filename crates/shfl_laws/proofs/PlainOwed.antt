@@ -1,21 +1,20 @@
 -- Parking in plain words is parking as the invariant has it.
-use Rattle.std.proofs.Common.{◌≡◌, ◌≢◌, ℕ, zero, suc, ◌+◌, ◌<◌, Bool, true, false, ◌||◌, refl, sym, ap, ◌∙◌, ◌⊎◌, inl, inr, ⊎_elim, subst, arith}
+use Rattle.std.proofs.Common.{◌≡◌, ℕ, ◌<◌, Bool, true, false, ◌||◌, refl, sym, ap, ◌∙◌, ◌⊎◌, inl, inr, subst, arith}
 use Rattle.shfl_line.specs.declared.events.Form.{Form}
-use Rattle.shfl_line.specs.Words.{ready_of, spin_of, parked_of}
+use Rattle.shfl_line.specs.Words.{spin_of, parked_of}
 use Rattle.shfl_core.specs.declared.phase.Phase.{Phase}
 use Rattle.shfl_core.specs.declared.phase.Phase.TheVariants.{Swap, Look, Held, Give, Next}
 use Rattle.shfl_core.specs.declared.phase.Nap.{Nap}
 use Rattle.shfl_core.specs.declared.phase.Nap.TheVariants.{Awake, Doze, Hear, Rouse, Ring}
 use Rattle.shfl_core.specs.declared.phase.PassState.{PassState}
-use Rattle.shfl_core.specs.declared.words.Word.TheVariants.{State, Bell}
+use Rattle.shfl_core.specs.declared.words.Word.TheVariants.{State}
 use Rattle.shfl_core.specs.Words.{look}
 use Rattle.shfl_core.specs.Plan.{parks}
-use Rattle.shfl_core.specs.Phases.{is_queued, is_fore}
 use Rattle.shfl_core.specs.Worlds.{World, known}
 use Rattle.shfl_core.specs.View.{View, view}
 use Rattle.shfl_core.specs.Owed.{called, announces, fits, IsCalledSleeper, Owed}
 use Rattle.shfl_laws.specs.Headline.{IsQueued, batch}
-use Rattle.shfl_laws.specs.PlainOwed.{IsToldOn, SleepsToldOn, Rings, IsOwedOnce, WakesAt, NeverParks, PlainOwed}
+use Rattle.shfl_laws.specs.PlainOwed.{IsToldOn, SleepsToldOn, WakesAt, PlainOwed}
 
 pub both-or : (a b : Bool) → (a || b) ≡ true → (a ≡ true) ⊎ (b ≡ true)
 both-or true b e = inl refl

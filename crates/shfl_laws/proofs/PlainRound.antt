@@ -1,5 +1,5 @@
 -- What the registers of a round say in plain words is what the invariant has them say.
-use Rattle.std.proofs.Common.{◌≡◌, ◌≢◌, ℕ, zero, suc, ◌+◌, ◌<◌, ◌≤◌, ◌⊎◌, List, [], ◌∷◌, Bool, true, false, cond, ◌==◌, refl, sym, ap, ◌∙◌, subst, ⊎_elim, inl, inr, arith}
+use Rattle.std.proofs.Common.{◌≡◌, ◌≢◌, ℕ, suc, ◌<◌, ◌≤◌, List, [], ◌∷◌, Bool, true, false, cond, refl, sym, ap, ◌∙◌, subst, ⊎_elim, inl, inr, arith}
 use Rattle.std.specs.Prelude.{Option, Some, None}
 use Rattle.std.proofs.lemmas.Bool.Decides.{nat_tests}
 use Rattle.shfl_line.specs.Line.{Line, mark_of, active_shuffler, IsWellFormed}
@@ -10,16 +10,16 @@ use Rattle.shfl_line.proofs.Behind.{behind-inside, follower_behind}
 use Rattle.shfl_line.proofs.Batches.{last-cong, behind-unmarked}
 use Rattle.shfl_core.specs.declared.phase.Phase.TheVariants.{Mark}
 use Rattle.shfl_core.specs.declared.phase.PassState.{PassState}
-use Rattle.shfl_core.specs.declared.words.Word.TheVariants.{Tail, Next}
+use Rattle.shfl_core.specs.declared.words.Word.TheVariants.{Tail}
 use Rattle.shfl_core.specs.Words.{look}
-use Rattle.shfl_core.specs.Phases.{is_round, has_hand}
+use Rattle.shfl_core.specs.Phases.{has_hand}
 use Rattle.shfl_core.specs.Worlds.{World, known}
 use Rattle.shfl_core.specs.View.{View, view}
 use Rattle.shfl_core.specs.Order.{Order as Ordered, Round, Walks}
 use Rattle.shfl_core.specs.Lawful.{Terms, count, Lawful}
 use Rattle.shfl_laws.specs.Headline.{IsWaitLine, Shuffles, batch}
-use Rattle.shfl_laws.specs.Shows.{ShowsPlainly, Detaches}
-use Rattle.shfl_laws.specs.PlainFacts.{MarksNext, RoundWords, PlainFacts}
+use Rattle.shfl_laws.specs.Shows.{ShowsPlainly}
+use Rattle.shfl_laws.specs.PlainFacts.{RoundWords, PlainFacts}
 use Rattle.shfl_laws.proofs.Order
 use Rattle.shfl_laws.proofs.Headline.{hand-round}
 use Rattle.shfl_laws.proofs.Facts.{facts}

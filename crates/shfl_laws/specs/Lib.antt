@@ -10,3 +10,4 @@ pub mod Shows
 pub mod PlainFacts
 pub mod PlainOwed
 pub mod Plain
+pub mod PlainMoves

@@ -8,7 +8,10 @@ pub mod seen;
 pub mod table;
 
 pub use measure::{a_round_is_short, what_is_left_of_a_round};
-pub use safety::{a_lawful_world_in_plain_words, every_run_is_safe, plain_words_are_the_invariant};
+pub use safety::{
+    a_lawful_world_in_plain_words, every_move_in_plain_words, every_run_is_safe,
+    plain_words_are_the_invariant,
+};
 pub use schedules::{a_seat_is_filled, every_move, every_run, openings};
 pub use seen::{passes_as_seen, planned_words};
 pub use table::{
