@@ -77,3 +77,4 @@ pub mod PlainGrouping
 pub mod PlainRound
 pub mod Plain
 pub mod PlainMoves
+pub mod SeenAlike

@@ -11,3 +11,4 @@ pub mod PlainFacts
 pub mod PlainOwed
 pub mod Plain
 pub mod PlainMoves
+pub mod SeenAlike

@@ -13,7 +13,7 @@ pub use safety::{
     plain_words_are_the_invariant,
 };
 pub use schedules::{a_seat_is_filled, every_move, every_run, openings};
-pub use seen::{passes_as_seen, planned_words};
+pub use seen::{lawful_as_seen, passes_as_seen, planned_words};
 pub use table::{
     laws_at_the_head, laws_of_attempts, laws_of_choosing, laws_of_joining, laws_of_leaving,
     laws_of_parking, laws_of_relinking, laws_outside_the_queue,
