@@ -1,0 +1,1 @@
+//! Worked schedules: what the lock shows.
