@@ -1,17 +1,18 @@
 //! How a lawful lock shows its line state: one scan of its passes, and one walk along its queue.
-ghost use Rattle.std.specs.Prelude.{◌≡◌, ◌<◌, ◌≤◌, length};
+ghost use Rattle.std.specs.Prelude.{◌≡◌, ℕ, ◌<◌, ◌≤◌, [], ◌∷◌, ◌++◌, cond, length};
 ghost use Rattle.shfl_core.specs.declared.words.Word.TheVariants.{State};
+ghost use Rattle.shfl_core.specs.Phases as phases;
 ghost use Rattle.shfl_core.specs.ShownLine.{shown_line, holders, head_of, successor_of, role_of};
 ghost use Rattle.shfl_core.specs.Words.{look};
 ghost use Rattle.shfl_core.specs.Worlds.{known};
-ghost use Rattle.shfl_line.specs.Line.{empty};
+ghost use Rattle.shfl_line.specs.Line.{empty, holds};
 ghost use Rattle.shfl_line.specs.Words.{state_of};
 ghost use Rattle.shfl_world.specs.LawfulLock.{IsLawfulLock};
 ghost use Rattle.shfl_world.specs.Showing.{Finds};
 
 use crate::glance::Glance;
 use crate::phases::is_holding;
-use shfl_core::{PlainWorld, Waiter, Word};
+use shfl_core::{PassState, PlainWorld, Waiter, Word};
 use shfl_line::{LineState, NodeState, Role};
 
 fn count_of<W: Waiter>(lock: &PlainWorld<W>) -> u32
@@ -31,6 +32,19 @@ fn node_of<W: Waiter>(lock: &PlainWorld<W>, pass: u32) -> NodeState
     NodeState::unpack(lock.look(Word::State(pass)))
 }
 
+// Shows a pass that holds.
+fn show_holder(out: &mut LineState, pass: u32, own: PassState)
+    requires named { pass < length out.old.mark }
+    requires above { (q : ℕ) → 0 < holds q out.old.hold → q < pass }
+    ensures { out.new ≡ record out.old {
+      hold = out.old.hold ++ cond (phases.is_holding own.phase) ((pass, own.reg.mode) ∷ []) [];
+    } }
+{
+    if is_holding(own.phase) {
+        out.add_hold(pass, own.reg.mode);
+    }
+}
+
 // Shows the holders, and finds by whom the rest is shown.
 fn scan<W: Waiter>(lock: &PlainWorld<W>, out: &mut LineState) -> Glance
     requires lawful { IsLawfulLock lock.now }
@@ -41,9 +55,7 @@ fn scan<W: Waiter>(lock: &PlainWorld<W>, out: &mut LineState) -> Glance
     let mut found = Glance::nobody();
     for pass in 0..count_of(lock) {
         let own = lock.standing(pass);
-        if is_holding(own.phase) {
-            out.add_hold(pass, own.reg.mode);
-        }
+        show_holder(out, pass, own);
         found.see(pass, own, node_of(lock, pass));
     }
     found
