@@ -118,8 +118,10 @@ impl<W: Waiter> PlainWorld<W> {
         requires some { 0 < length attrs.now }
         requires few { length attrs.now ≤ 64 }
         requires callable { F.IsAlwaysCallable make }
-        requires idle { (form : Form) × MakesIdle W.meaning (λ k a w. F.post make k a limit w) (rules limit form) }
-        ensures { (form : Form) → MakesIdle W.meaning (λ k a w. F.post make k a limit w) (rules limit form)
+        requires idle { (form : Form)
+            × MakesIdle W.meaning (λ k a w. F.post make k a limit w) (rules limit form) }
+        ensures { (form : Form)
+            → MakesIdle W.meaning (λ k a w. F.post make k a limit w) (rules limit form)
             → IfOk result (λ w. w ≡ opened (rules limit form) attrs.now) }
     {
         let count = attrs.len();
