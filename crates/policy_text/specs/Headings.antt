@@ -1,5 +1,5 @@
 -- The first line of a document, which names its version, and in version 2 the line that names the profile.
-use Rattle.std.specs.Prelude.{◌≡◌, ℕ, List, [], ◌∷◌, Option, Some, None, Result, Ok, Err, ◌==◌, if◌then◌else◌, codes}
+use Rattle.std.specs.Prelude.{ℕ, List, [], ◌∷◌, Option, Some, None, Result, Ok, ◌==◌, if◌then◌else◌, codes}
 use Rattle.bpf_isa.specs.declared.insn.Profile.{Profile}
 use Rattle.bpf_isa.specs.declared.insn.Profile.TheVariants as profile
 use Rattle.doc_text.specs.declared.fault.Fault.{Fault}
