@@ -1,8 +1,11 @@
 pub mod Shapes
 pub mod Sorting
-pub mod Verdicts
 pub mod PolicyLoop
 pub mod CallLoop
-pub mod Written
+pub mod Sections
+pub mod WorkerLines
+pub mod PolicyNames
+pub mod PolicyLines
+pub mod PolicyTexts
 pub mod Counts
 pub mod Generated

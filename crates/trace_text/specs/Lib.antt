@@ -1,8 +1,9 @@
 pub mod Document
-pub mod Accepted
 pub mod Lines
 pub mod Grammar
 pub mod Spelling
+pub mod Texts
+pub mod Limits
 pub mod Spelled
 pub mod Names
 pub mod Traces
