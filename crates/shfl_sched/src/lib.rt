@@ -4,6 +4,7 @@
 mod error;
 mod events;
 mod front;
+mod laws;
 mod passes;
 mod read;
 mod rule;
@@ -12,5 +13,6 @@ mod schedule;
 mod tests;
 
 pub use error::ScheduleError;
+pub use laws::laws_of_schedules;
 pub use read::read_schedule;
 pub use schedule::{Act, Event, Rule, Schedule};
