@@ -1,0 +1,11 @@
+pub mod Options
+pub mod Loading
+pub mod Once
+pub mod Wording
+pub mod Sections
+pub mod RuleLines
+pub mod Fronts
+pub mod Found
+pub mod Spelled
+pub mod RuleWords
+pub mod Whole
