@@ -1,0 +1,4 @@
+pub mod RunSteps
+pub mod RunRows
+pub mod RunMoments
+pub mod Parked
