@@ -4,14 +4,13 @@ use Rattle.std.specs.List.{AllByRecursion}
 use mathlib.Core.Option.{some, some-injective, some-ne-none}
 use lib.ListN.{get_elem?}
 use Rattle.shfl_line.specs.declared.events.Form.{Form}
-use Rattle.shfl_line.specs.declared.events.Form.TheVariants.{Spin, Rw, Park, RwPark}
 use Rattle.shfl_core.specs.declared.phase.Rules.{Rules}
 use Rattle.shfl_core.specs.Plan.{shares}
 use Rattle.shfl_core.specs.Worlds.{World, Move, opening, after_move, run}
 use Rattle.shfl_sched.specs.declared.schedule.Act.{Act}
 use Rattle.shfl_sched.specs.declared.schedule.Act.TheVariants.{Write, Read, Free, Step}
 use Rattle.shfl_sched.specs.declared.schedule.Event.{Event}
-use Rattle.shfl_sched.specs.Schedules.{ScheduleModel, has_readers, is_act_of, IsEventOf, IsWithin}
+use Rattle.shfl_sched.specs.Schedules.{ScheduleModel, is_act_of, IsEventOf, IsWithin}
 use Rattle.shfl_sched.specs.Run.{Setup, setup_of, rules_of, Moment, move_of, move_in, choice_at, after_event, moment_of, moments, moments_of}
 use Rattle.shfl_sched.specs.RunLaws.{MayMake, moves}
 
@@ -25,17 +24,15 @@ pub moments_are_run : (s : ScheduleModel) (k : ℕ) (m : Moment) → get_elem? (
     → m.after ≡ run (rules_of s) (opening s.passes) (moves (take (suc k) (moments_of s)))
 moments_are_run s k m e = moments-run (setup_of s) (opening s.passes) s.events k m e
 
--- a form in which reads may stand has readers
-shares-readers : (form : Form) → IsTrue (has_readers form) → shares form ≡ true
-shares-readers Spin is = absurd (is)
-shares-readers Rw is = refl
-shares-readers Park is = absurd (is)
-shares-readers RwPark is = refl
+-- no test is both
+not-both : (b : Bool) → IsTrue b → b ≡ false → ⊥
+not-both true is none = cc
+not-both false is none = cc
 
 -- the move of an act that the form allows
 pub move-allowed : (form : Form) (act : Act) (pass : ℕ) (choice : Bool) → IsTrue (is_act_of form act) → MayMake form (move_of act pass choice)
 move-allowed form Write pass choice is = λ _. refl
-move-allowed form Read pass choice is = λ none. absurd (let e : true ≡ false = sym (shares-readers form is) ∙ none in cc)
+move-allowed form Read pass choice is = λ none. absurd (not-both (shares form) is none)
 move-allowed form Free pass choice is = tt
 move-allowed form Step pass choice is = tt
 

@@ -1,7 +1,7 @@
 -- One event more of a run: the lock after it, and what its lock still has.
 use Rattle.std.proofs.Common.{◌≡◌, ℕ, zero, suc, ◌+◌, ◌<◌, Bool, true, false, cond, List, [], ◌∷◌, ◌++◌, length, get_or, take, set, length-set, length-append, refl, sym, ap, ◌∙◌, arith}
 use Rattle.std.proofs.lemmas.List.{take_more, take_all}
-use Rattle.shfl_line.specs.declared.words.Attr.{Attr}
+use Rattle.shfl_line.specs.Line.{Line}
 use Rattle.shfl_core.specs.declared.phase.Rules.{Rules}
 use Rattle.shfl_core.specs.Runner.{Lock, moved}
 use Rattle.shfl_core.specs.ShownLine.{each_below, shown_line}
@@ -38,7 +38,7 @@ events-append t w [] e = refl
 events-append t w (x ∷ rest) e = events-append t (after_event t w x) rest e
 
 -- the lock after one event more
-pub lock-moves : (s : ScheduleModel) (i : ℕ) (d : Event) → i < length s.events
+lock-moves : (s : ScheduleModel) (i : ℕ) (d : Event) → i < length s.events
     → lock_after s (i + 1) ≡ moved (lock_after s i) (move_in (setup_of s) (lock_after s i).world (get_or s.events i d))
 lock-moves s i d lt =
     let e = ap (after_events (setup_of s) (opening s.passes)) (take_more s.events i d lt) ∙ events-append (setup_of s) (opening s.passes) (take i s.events) (get_or s.events i d) in
@@ -46,8 +46,19 @@ lock-moves s i d lt =
 
 each-below-long : {A : Type 0} (f : ℕ → A) (n : ℕ) → length (each_below f n) ≡ n
 each-below-long f zero = refl
-each-below-long f (suc n) = simp (length-append, each-below-long) (omega arith)
+each-below-long f (suc n) = let e = each-below-long f n in length-append (each_below f n) (f n ∷ []) ∙ omega arith
 
 -- a lock shows a batch number for each pass
-pub shown-marks : (w : World) → length (shown_line w).mark ≡ length w.passes
+shown-marks : (w : World) → length (shown_line w).mark ≡ length w.passes
 shown-marks w = each-below-long _ (length w.passes)
+
+pub marks_of : (a : Line) (w : World) → a ≡ shown_line w → length a.mark ≡ length w.passes
+marks_of a w e = ap (λ (x : Line). length x.mark) e ∙ shown-marks w
+
+module _ (s : ScheduleModel) (i : ℕ) (a : Lock) (is : a ≡ lock_after s i) where
+  pub passes_of : length a.world.passes ≡ length s.passes
+  passes_of = ap (λ (x : Lock). length x.world.passes) is ∙ lock-passes s i
+
+  -- what an event's move made of the lock
+  pub goes_on : (d : Event) (b : Lock) → i < length s.events → b ≡ moved a (move_in (setup_of s) a.world (get_or s.events i d)) → b ≡ lock_after s (i + 1)
+  goes_on d b lt e = e ∙ ap (λ (x : Lock). moved x (move_in (setup_of s) x.world (get_or s.events i d))) is ∙ sym (lock-moves s i d lt)

@@ -1,7 +1,9 @@
 -- The bytes of a line report: a heading, a row for each event, and the counts.
-use Rattle.std.specs.Prelude.{ℕ, ◌+◌, ◌==◌, List, [], ◌∷◌, ◌++◌, Bool, not, codes, count_by, length, if◌then◌else◌}
+use Rattle.std.specs.Prelude.{ℕ, ◌+◌, List, [], ◌∷◌, ◌++◌, Bool, not, codes, count_by, length, if◌then◌else◌}
 use Rattle.std.specs.Fmt.{decimal}
 use Rattle.bpf_isa.specs.declared.insn.Profile.{Profile}
+use Rattle.policy_text.specs.Blanks.{blanked}
+use Rattle.policy_text.specs.Headings.{version_words}
 use Rattle.shfl_line.specs.declared.events.Form.{Form}
 use Rattle.shfl_line.specs.Line.{Line}
 use Rattle.shfl_core.specs.declared.words.Word.TheVariants.{Lock}
@@ -11,7 +13,7 @@ use Rattle.shfl_core.specs.Words.{look}
 use Rattle.shfl_core.specs.Worlds.{World}
 use Rattle.shfl_sched.specs.declared.schedule.Event.{Event}
 use Rattle.shfl_sched.specs.Schedules.{ScheduleModel}
-use Rattle.shfl_sched.specs.ReportParts.{profile_text, form_text, act_text, answer_text, hold_text, queue_text, hand_text, role_text, parked_text}
+use Rattle.shfl_sched.specs.ReportParts.{form_text, act_text, answer_text, hold_text, queue_text, hand_text, role_text, parked_text}
 use Rattle.shfl_sched.specs.Run.{Moment, moments_of}
 
 -- `K EVENT P yes|no`
@@ -38,13 +40,9 @@ abbrev pub rows_from : Form → ℕ → List Moment → List ℕ
 rows_from form k [] = []
 rows_from form k (m ∷ ms) = row form k m.event m.admitted m.after ++ rows_from form (k + 1) ms
 
-unfoldable pub document_name : List ℕ
-document_name = codes "shfl-line "
-
 -- `shfl-line 1`, or `shfl-line 2 profile P`
 unfoldable pub version_text : ℕ → Profile → List ℕ
-version_text version profile =
-    document_name ++ (if version == 1 then codes "1" else codes "2 profile " ++ profile_text profile)
+version_text version profile = codes "shfl-line" ++ blanked (version_words version profile)
 
 -- ` form F limit N passes P`
 unfoldable pub sizes_text : Form → ℕ → ℕ → List ℕ

@@ -2,8 +2,6 @@
 use Rattle.std.specs.Prelude.{ℕ, zero, suc, List, [], ◌∷◌, ◌++◌, Bool, true, false, cond, Option, Some, None, codes, map, slice_index, length}
 use Rattle.std.specs.List.{flat_map}
 use Rattle.std.specs.Fmt.{decimal}
-use Rattle.bpf_isa.specs.declared.insn.Profile.{Profile}
-use Rattle.bpf_isa.specs.declared.insn.Profile.TheVariants.{One, Two}
 use Rattle.shfl_line.specs.declared.events.Mode.{Mode}
 use Rattle.shfl_line.specs.declared.events.Mode.TheVariants.{Write as Alone, Read as Beside}
 use Rattle.shfl_line.specs.declared.events.Form.{Form}
@@ -15,10 +13,6 @@ use Rattle.shfl_core.specs.Runner.{is_parked}
 use Rattle.shfl_core.specs.Worlds.{World, known}
 use Rattle.shfl_sched.specs.declared.schedule.Act.{Act}
 use Rattle.shfl_sched.specs.declared.schedule.Act.TheVariants.{Write, Read, Free, Step}
-
-abbrev pub profile_text : Profile → List ℕ
-profile_text One = codes "1"
-profile_text Two = codes "2"
 
 abbrev pub form_text : Form → List ℕ
 form_text Spin = codes "spin"

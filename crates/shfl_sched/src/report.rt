@@ -1,28 +1,28 @@
 //! The lines of a line report, written behind what stands there.
-ghost use Rattle.std.specs.Prelude.{◌≡◌, ◌++◌, length, OnOk};
+ghost use Rattle.std.specs.Prelude.{◌≡◌, ◌≤◌, ◌++◌, length, OnOk};
+ghost use Rattle.shfl_core.specs.ShownLine.{shown_line};
 ghost use Rattle.shfl_sched.specs.ReportParts.{parked_text};
 ghost use Rattle.shfl_sched.specs.Report.{version_text, sizes_text, heading_text, deed_text, state_text, asleep_text, row, totals_text};
 
 use crate::report_parts::{
-    act_name, answer_name, form_name, profile_name, push_hand, push_hold, push_queue, push_role,
+    act_name, answer_name, form_name, push_hand, push_hold, push_number, push_queue, push_role,
 };
 use crate::schedule::{Event, Schedule};
 use bpf_isa::Profile;
-use doc_text::push_decimal;
+use policy_text::push_version;
 use shfl_core::Board;
-use shfl_line::{Form, LineState};
+use shfl_line::{Form, LineState, NoMemory};
 use std::alloc::AllocError;
 
-#[tactic(auto, unfolding(crate::specs::Report::version_text, crate::specs::Report::document_name))]
-fn push_version(out: &mut Vec<u8>, version: u8, profile: Profile) -> Result<(), AllocError>
+#[tactic(auto, unfolding(crate::specs::Report::version_text))]
+fn push_name(out: &mut Vec<u8>, version: u8, profile: Profile) -> Result<(), NoMemory>
     ensures { OnOk result (out.new.items ≡ out.old.items ++ version_text version profile) }
 {
-    out.extend_from_slice(b"shfl-line ")?;
-    if version == 1 {
-        return out.extend_from_slice(b"1");
+    out.extend_from_slice(b"shfl-line")?;
+    match push_version(out, version, profile) {
+        Ok(()) => Ok(()),
+        Err(_) => Err(NoMemory),
     }
-    out.extend_from_slice(b"2 profile ")?;
-    out.extend_from_slice(profile_name(profile))
 }
 
 #[tactic(auto, unfolding(crate::specs::Report::sizes_text))]
@@ -32,29 +32,30 @@ fn push_sizes(out: &mut Vec<u8>, form: Form, limit: u16, passes: usize) -> Resul
     out.extend_from_slice(b" form ")?;
     out.extend_from_slice(form_name(form))?;
     out.extend_from_slice(b" limit ")?;
-    push_decimal(out, u64::from(limit))?;
+    push_number(out, u64::from(limit))?;
     out.extend_from_slice(b" passes ")?;
-    push_decimal(out, passes as u64)?;
+    push_number(out, passes as u64)?;
     out.extend_from_slice(b"\n")
 }
 
 /// How the lock is opened: its form, its largest batch number, and how many passes it has.
-pub fn push_heading(out: &mut Vec<u8>, schedule: &Schedule) -> Result<(), AllocError>
+pub fn push_heading(out: &mut Vec<u8>, schedule: &Schedule) -> Result<(), NoMemory>
     ensures { OnOk result (out.new.items ≡ out.old.items ++ heading_text schedule.now) }
 {
-    push_version(out, schedule.version, schedule.profile)?;
-    push_sizes(out, schedule.form, schedule.limit, schedule.passes.len())
+    push_name(out, schedule.version, schedule.profile)?;
+    push_sizes(out, schedule.form, schedule.limit, schedule.passes.len())?;
+    Ok(())
 }
 
 #[tactic(auto, unfolding(crate::specs::Report::deed_text))]
 fn push_deed(out: &mut Vec<u8>, number: u32, event: Event, admitted: bool) -> Result<(), AllocError>
     ensures { OnOk result (out.new.items ≡ out.old.items ++ deed_text number event admitted) }
 {
-    push_decimal(out, u64::from(number))?;
+    push_number(out, u64::from(number))?;
     out.extend_from_slice(b" ")?;
     out.extend_from_slice(act_name(event.act))?;
     out.extend_from_slice(b" ")?;
-    push_decimal(out, u64::from(event.pass))?;
+    push_number(out, u64::from(event.pass))?;
     out.extend_from_slice(b" ")?;
     out.extend_from_slice(answer_name(admitted))
 }
@@ -64,7 +65,7 @@ fn push_state(out: &mut Vec<u8>, word: u64, state: &LineState) -> Result<(), All
     ensures { OnOk result (out.new.items ≡ out.old.items ++ state_text word state.now) }
 {
     out.extend_from_slice(b" word ")?;
-    push_decimal(out, word)?;
+    push_number(out, word)?;
     out.extend_from_slice(b" hold ")?;
     push_hold(out, state.hold())?;
     out.extend_from_slice(b" line ")?;
@@ -87,7 +88,7 @@ fn push_parked<B: Board>(out: &mut Vec<u8>, board: &B, passes: u32) -> Result<()
             if !none {
                 out.extend_from_slice(b",")?;
             }
-            push_decimal(out, u64::from(pass))?;
+            push_number(out, u64::from(pass))?;
             none = false;
         }
     }
@@ -128,11 +129,12 @@ pub fn push_row<B: Board>(
     board: &mut B,
     state: &mut LineState,
 ) -> Result<(), AllocError>
-    requires { length state.old.mark ≡ length (B.meaning board.old).world.passes }
+    requires few { length (B.meaning board.old).world.passes ≤ 64 }
+    requires room { length state.old.mark ≡ length (B.meaning board.old).world.passes }
     ensures text { OnOk result (out.new.items ≡ out.old.items
         ++ row form number event admitted (B.meaning board.old).world) }
     ensures unchanged { B.meaning board.new ≡ B.meaning board.old }
-    ensures room { length state.new.mark ≡ length (B.meaning board.old).world.passes }
+    ensures shown { state.new ≡ shown_line (B.meaning board.old).world }
 {
     board.show(state);
     push_deed(out, number, event, admitted)?;
@@ -147,8 +149,8 @@ pub fn push_totals(out: &mut Vec<u8>, admitted: u32, refused: u32) -> Result<(),
     ensures { OnOk result (out.new.items ≡ out.old.items ++ totals_text admitted refused) }
 {
     out.extend_from_slice(b"end yes ")?;
-    push_decimal(out, u64::from(admitted))?;
+    push_number(out, u64::from(admitted))?;
     out.extend_from_slice(b" no ")?;
-    push_decimal(out, u64::from(refused))?;
+    push_number(out, u64::from(refused))?;
     out.extend_from_slice(b"\n")
 }

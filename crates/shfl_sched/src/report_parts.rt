@@ -1,21 +1,11 @@
 //! The texts of a line report's parts, written behind what stands there.
 ghost use Rattle.std.specs.Prelude.{◌≡◌, ◌++◌, ◌<◌, ℕ, length, map, OnOk, decimal};
-ghost use Rattle.shfl_sched.specs.ReportParts.{profile_text, form_text, act_text, answer_text, mode_text, hand_text, role_text, listed, holder_text, waiter_text};
+ghost use Rattle.shfl_sched.specs.ReportParts.{form_text, act_text, answer_text, mode_text, hand_text, role_text, listed, holder_text, waiter_text};
 
 use crate::schedule::Act;
-use bpf_isa::Profile;
 use doc_text::push_decimal;
 use shfl_line::{Form, Mode, Role};
 use std::alloc::AllocError;
-
-pub fn profile_name(profile: Profile) -> &'static [u8]
-    ensures { result.now ≡ profile_text profile }
-{
-    match profile {
-        Profile::One => b"1",
-        Profile::Two => b"2",
-    }
-}
 
 pub fn form_name(form: Form) -> &'static [u8]
     ensures { result.now ≡ form_text form }
@@ -54,11 +44,25 @@ fn mode_name(mode: Mode) -> &'static [u8]
     }
 }
 
+/// Writes a number in decimal; those below a hundred, which are the most, without a detour.
+#[tactic(auto, using(crate::proofs::Decimals::digit_rules))]
+pub fn push_number(out: &mut Vec<u8>, n: u64) -> Result<(), AllocError>
+    ensures { OnOk result (out.new.items ≡ out.old.items ++ decimal n) }
+{
+    if n < 10 {
+        return out.extend_from_slice(&[b'0' + n as u8]);
+    }
+    if n < 100 {
+        return out.extend_from_slice(&[b'0' + (n / 10) as u8, b'0' + (n % 10) as u8]);
+    }
+    push_decimal(out, n)
+}
+
 fn push_holder(out: &mut Vec<u8>, holder: (u32, Mode)) -> Result<(), AllocError>
     ensures { OnOk result (out.new.items ≡ out.old.items ++ holder_text holder) }
 {
     out.extend_from_slice(mode_name(holder.1))?;
-    push_decimal(out, u64::from(holder.0))
+    push_number(out, u64::from(holder.0))
 }
 
 /// The holders, with commas between them.
@@ -81,9 +85,9 @@ fn push_waiter(out: &mut Vec<u8>, marks: &[u16], pass: u32) -> Result<(), AllocE
 {
     let place = pass as usize;
     let mark = if place < marks.len() { marks[place] } else { 0 };
-    push_decimal(out, u64::from(pass))?;
+    push_number(out, u64::from(pass))?;
     out.extend_from_slice(b":")?;
-    push_decimal(out, u64::from(mark))
+    push_number(out, u64::from(mark))
 }
 
 /// The waiters with their batch numbers, with commas between them.
@@ -108,7 +112,7 @@ pub fn push_hand(out: &mut Vec<u8>, hand: Option<u32>) -> Result<(), AllocError>
 {
     match hand {
         None => out.extend_from_slice(b"-"),
-        Some(pass) => push_decimal(out, u64::from(pass)),
+        Some(pass) => push_number(out, u64::from(pass)),
     }
 }
 
@@ -119,11 +123,11 @@ pub fn push_role(out: &mut Vec<u8>, role: Role) -> Result<(), AllocError>
         Role::Nobody => out.extend_from_slice(b"-"),
         Role::Rest(pass) => {
             out.extend_from_slice(b"rest:")?;
-            push_decimal(out, u64::from(pass))
+            push_number(out, u64::from(pass))
         }
         Role::Walk(pass) => {
             out.extend_from_slice(b"walk:")?;
-            push_decimal(out, u64::from(pass))
+            push_number(out, u64::from(pass))
         }
     }
 }
