@@ -1,5 +1,5 @@
 -- The text of the parked passes, one pass more at a time.
-use Rattle.std.proofs.Common.{◌≡◌, ℕ, suc, ◌+◌, Bool, true, false, not, cond, List, [], ◌∷◌, ◌++◌, map, add-one, refl, sym, ap, ◌∙◌, append_assoc}
+use Rattle.std.proofs.Common.{◌≡◌, ℕ, suc, ◌+◌, Bool, true, false, cond, List, [], ◌∷◌, ◌++◌, map, add-one, refl, sym, ap, ◌∙◌, append_assoc}
 use Rattle.std.proofs.lemmas.List.{append-nil}
 use Rattle.std.specs.Fmt.{decimal}
 use Rattle.shfl_core.specs.Runner.{is_parked}
@@ -47,11 +47,3 @@ module _ (w : World) (n : ℕ) (start text : List ℕ) (so_far : text ≡ start 
 -- a pass that isn't parked adds nothing
 pub none_more : (w : World) (n : ℕ) → is_parked (known w.passes n).nap ≡ false → parked_below w (n + 1) ≡ parked_below w n
 none_more w n is = rw (add-one, is) (append-nil (parked_below w n))
-
-pub not-true : (b : Bool) → not b ≡ true → b ≡ false
-not-true true e = sym e
-not-true false e = refl
-
-pub not-false : (b : Bool) → not b ≡ false → b ≡ true
-not-false true e = refl
-not-false false e = sym e

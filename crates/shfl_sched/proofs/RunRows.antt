@@ -31,16 +31,16 @@ module _ (t : Setup) (w : World) (events : List Event) (i : ℕ) (d : Event) whe
 
   pub counts_admitted : (count total : ℕ) (v : World) → i < length events → v ≡ after_event t w item → was_admitted ≡ true
       → count + count_admitted (moments t w (drop i events)) ≡ total → count + 1 + count_admitted (moments t v (drop (i + 1) events)) ≡ total
-  counts_admitted count total v lt after is so_far = let e = rw is at (next_admitted lt) in rw after (omega (arith, e))
+  counts_admitted count total v lt after is so_far = let e = next_admitted lt in let one : ◌≡◌ {A = ℕ} (cond was_admitted 1 0) 1 = ap (λ (b : Bool). cond {A = ℕ} b 1 0) is in rw after (omega (arith, e, one))
 
   pub skips_admitted : (count total : ℕ) (v : World) → i < length events → v ≡ after_event t w item → was_admitted ≡ false
       → count + count_admitted (moments t w (drop i events)) ≡ total → count + count_admitted (moments t v (drop (i + 1) events)) ≡ total
-  skips_admitted count total v lt after is so_far = let e = rw is at (next_admitted lt) in rw after (omega (arith, e))
+  skips_admitted count total v lt after is so_far = let e = next_admitted lt in let one : ◌≡◌ {A = ℕ} (cond was_admitted 1 0) 0 = ap (λ (b : Bool). cond {A = ℕ} b 1 0) is in rw after (omega (arith, e, one))
 
   pub counts_refused : (count total : ℕ) (v : World) → i < length events → v ≡ after_event t w item → was_admitted ≡ false
       → count + count_refused (moments t w (drop i events)) ≡ total → count + 1 + count_refused (moments t v (drop (i + 1) events)) ≡ total
-  counts_refused count total v lt after is so_far = let e = rw is at (next_refused lt) in rw after (omega (arith, e))
+  counts_refused count total v lt after is so_far = let e = next_refused lt in let one : ◌≡◌ {A = ℕ} (cond (not was_admitted) 1 0) 1 = ap (λ (b : Bool). cond {A = ℕ} (not b) 1 0) is in rw after (omega (arith, e, one))
 
   pub skips_refused : (count total : ℕ) (v : World) → i < length events → v ≡ after_event t w item → was_admitted ≡ true
       → count + count_refused (moments t w (drop i events)) ≡ total → count + count_refused (moments t v (drop (i + 1) events)) ≡ total
-  skips_refused count total v lt after is so_far = let e = rw is at (next_refused lt) in rw after (omega (arith, e))
+  skips_refused count total v lt after is so_far = let e = next_refused lt in let one : ◌≡◌ {A = ℕ} (cond (not was_admitted) 1 0) 0 = ap (λ (b : Bool). cond {A = ℕ} (not b) 1 0) is in rw after (omega (arith, e, one))

@@ -44,6 +44,9 @@ lock-moves s i d lt =
     let e = ap (after_events (setup_of s) (opening s.passes)) (take_more s.events i d lt) ∙ events-append (setup_of s) (opening s.passes) (take i s.events) (get_or s.events i d) in
     ap (λ (w : World). record { rules = rules_of s; world = w }) e
 
+pub world_moves : (s : ScheduleModel) (i : ℕ) (d : Event) → i < length s.events → (lock_after s (i + 1)).world ≡ after_event (setup_of s) (lock_after s i).world (get_or s.events i d)
+world_moves s i d lt = ap (λ (x : Lock). x.world) (lock-moves s i d lt)
+
 each-below-long : {A : Type 0} (f : ℕ → A) (n : ℕ) → length (each_below f n) ≡ n
 each-below-long f zero = refl
 each-below-long f (suc n) = let e = each-below-long f n in length-append (each_below f n) (f n ∷ []) ∙ omega arith
@@ -62,3 +65,7 @@ module _ (s : ScheduleModel) (i : ℕ) (a : Lock) (is : a ≡ lock_after s i) wh
   -- what an event's move made of the lock
   pub goes_on : (d : Event) (b : Lock) → i < length s.events → b ≡ moved a (move_in (setup_of s) a.world (get_or s.events i d)) → b ≡ lock_after s (i + 1)
   goes_on d b lt e = e ∙ ap (λ (x : Lock). moved x (move_in (setup_of s) x.world (get_or s.events i d))) is ∙ sym (lock-moves s i d lt)
+
+  -- whether the lock admitted it
+  pub answered : (e : Event) (r : Bool) → r ≡ admitted a.world (move_in (setup_of s) a.world e) → r ≡ admitted (lock_after s i).world (move_in (setup_of s) (lock_after s i).world e)
+  answered e r was = was ∙ ap (λ (x : Lock). admitted x.world (move_in (setup_of s) x.world e)) is
