@@ -50,12 +50,12 @@ IsRule rules.Socket = Unit {0}
 IsRule (rules.Program policy) = (policy.name ≡ 0) × IfSome policy.should IsAccepted × IfSome policy.skip IsAccepted
 
 -- version 1 has profile one, and version 2 either
-abbrev pub HasVersion : ScheduleModel → Type 0
-HasVersion s = ((s.version ≡ 1) × (s.profile ≡ profile.One)) ⊎ (s.version ≡ 2)
+abbrev pub IsVersion : ℕ → Profile → Type 0
+IsVersion version called = ((version ≡ 1) × (called ≡ profile.One)) ⊎ (version ≡ 2)
 
 -- a schedule within the limits, whose events name passes that it has
 pub record IsWithin (s : ScheduleModel) : Type 0 where
-  pub version : HasVersion s
+  pub version : IsVersion s.version s.profile
   pub limit : (0 < s.limit) × (s.limit ≤ 1024)
   pub rule : IsRule s.rule
   pub passes : (0 < length s.passes) × (length s.passes ≤ 64)

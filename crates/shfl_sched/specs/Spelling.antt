@@ -55,10 +55,14 @@ IsRuleLine profile text (rules.Program policy) = (should skip : List ℕ)
     × (text ≡ spaced (codes "policy" ∷ codes "program" ∷ should ∷ skip ∷ []))
     × IsProgramWord profile should policy.should × IsProgramWord profile skip policy.skip
 
--- the lines of a schedule, around this policy line
+-- the lines of the passes and of the events
+abbrev pub body_lines : List Attr → List Event → List (List ℕ)
+body_lines passes events = map (attr_line (codes "pass")) passes ++ (codes "events" ∷ map event_line events)
+
+-- the lines of a schedule, this policy line among them
 abbrev pub schedule_lines : ScheduleModel → List ℕ → List (List ℕ)
-schedule_lines s policy = heading_lines (codes "shfl-line") s.version s.profile ++ form_line s.form ∷ limit_line s.limit ∷ policy
-    ∷ map (attr_line (codes "pass")) s.passes ++ codes "events" ∷ map event_line s.events
+schedule_lines s policy =
+    heading_lines (codes "shfl-line") s.version s.profile ++ (form_line s.form ∷ limit_line s.limit ∷ policy ∷ body_lines s.passes s.events)
 
 -- the bytes are a text of the schedule
 abbrev pub IsText : List ℕ → ScheduleModel → Type 0

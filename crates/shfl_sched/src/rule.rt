@@ -93,7 +93,7 @@ fn loaded(
     match load(alloc, 0, profile, source) {
         Ok(policy) => Ok(Rule::Program(policy)),
         Err(LoadError::NoMemory) => Err(ScheduleError::NoMemory),
-        Err(_) => Err(ScheduleError::Format { line, what: 6 }),
+        Err(LoadError::Bad { .. }) => Err(ScheduleError::Format { line, what: 6 }),
     }
 }
 
