@@ -4,3 +4,8 @@ pub mod Lines
 pub mod Grammar
 pub mod Said
 pub mod Spelling
+pub mod Choices
+pub mod Run
+pub mod RunLaws
+pub mod ReportParts
+pub mod Report
