@@ -4,8 +4,7 @@ ghost use Rattle.std.specs.List.{insert, remove};
 
 use crate::NoMemory;
 use crate::calls::DirRow;
-use crate::shifts::{insert_downward, insert_upward, remove_downward, remove_upward};
-use crate::shifts::{with_room_before, with_room_behind};
+use crate::cells::{insert_among, remove_among};
 use std::alloc::Global;
 use std::marker::Model;
 
@@ -78,17 +77,8 @@ impl RowBuffer {
         ensures capacity { self.new.capacity ≡ self.old.capacity }
     {
         let len = self.end - self.start;
-        if at < len / 2 {
-            let start = with_room_before(&mut self.cells, self.start, self.end) - 1;
-            insert_downward(&mut self.cells[start..start + len + 1], at, row);
-            self.start = start;
-            self.end = start + len + 1;
-        } else {
-            let start = with_room_behind(&mut self.cells, self.start, self.end);
-            insert_upward(&mut self.cells[start..start + len + 1], at, row);
-            self.start = start;
-            self.end = start + len + 1;
-        }
+        self.start = insert_among(&mut self.cells, self.start, self.end, at, row);
+        self.end = self.start + len + 1;
     }
 
     /// Takes the row at `at` away.
@@ -98,14 +88,10 @@ impl RowBuffer {
         ensures rows { self.new.rows ≡ remove self.old.rows at }
         ensures capacity { self.new.capacity ≡ self.old.capacity }
     {
+        let len = self.end - self.start;
         let row = self.cells[self.start + at];
-        if at < (self.end - self.start) / 2 {
-            remove_upward(&mut self.cells[self.start..self.end], at);
-            self.start += 1;
-        } else {
-            remove_downward(&mut self.cells[self.start..self.end], at);
-            self.end -= 1;
-        }
+        self.start = remove_among(&mut self.cells, self.start, self.end, at);
+        self.end = self.start + len - 1;
         row
     }
 }

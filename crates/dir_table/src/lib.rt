@@ -3,6 +3,7 @@
 
 mod buffer;
 mod calls;
+mod cells;
 mod dir;
 mod object;
 mod rows;
