@@ -2,11 +2,10 @@ use crate::run::{run_asm, run_disasm};
 use bpf_isa::Profile;
 use std::alloc::Global;
 use std::test::Fail;
-use syn_outer::{MemSink, MemSource, SureSink, SureSource};
+use syn_outer::{SureSink, SureSource};
 
 /// Answers yes where the sockets of anchor and waiter are equal.
-const SAME_SOCKET: &str =
-    "ldw r2 r1 0\nldw r1 r1 4\nmov64 r0 1\njeq64 r1 r2 1\nmov64 r0 0\nexit\n";
+const SAME_SOCKET: &str = "ldw r2 r1 0\nldw r1 r1 4\nmov64 r0 1\njeq64 r1 r2 1\nmov64 r0 0\nexit\n";
 
 const SAME_SOCKET_NAMED: &str =
     "ldw r2 r1 0\nldw r1 r1 4\nmov64 r0 1\njeq64 r1 r2 @same\nmov64 r0 0\n:same\nexit\n";
@@ -52,9 +51,13 @@ fn a_text_becomes_its_slots(rt: HostRuntime) -> Result<(), Fail> {
         (
             one,
             "wide r3 81985529216486895\nexit\n",
-            "1803000efcdab8900\n",
+            "18030000efcdab89\n0000000067452301\n9500000000000000\n",
         ),
-        (two, "swap 64 r9\nexit\n", "d709000040000000\n9500000000000000\n"),
+        (
+            two,
+            "swap 64 r9\nexit\n",
+            "d709000040000000\n9500000000000000\n",
+        ),
     ];
     for (profile, text, slots) in cases {
         let end = assembled(rt.alloc(), profile, text)?;
@@ -87,5 +90,70 @@ fn other_texts_are_refused_with_the_first_bad_line(rt: HostRuntime) -> Result<()
         assert_eq!(rt; end.out.bytes(), b"".as_slice());
         assert_eq!(rt; end.err.bytes(), message.as_bytes());
     }
+    Ok(())
+}
+
+#[test]
+fn digits_become_their_text(rt: HostRuntime) -> Result<(), Fail> {
+    let one = Profile::One;
+    let two = Profile::Two;
+    let cases = [
+        (one, SAME_SOCKET_SLOTS, SAME_SOCKET),
+        (
+            two,
+            "B7010000ffffffff 95\r\n\t00000000000000",
+            "mov64 r1 -1\nexit\n",
+        ),
+        (
+            one,
+            "1803000076543210 00000000fedcba98",
+            "wide r3 11005351623184766070\n",
+        ),
+        (two, "81210800 00000000", "ldsw r1 r2 8\n"),
+    ];
+    for (profile, digits, text) in cases {
+        let end = listed(rt.alloc(), profile, digits)?;
+        assert_eq!(rt; end.status, 0);
+        assert_eq!(rt; end.out.bytes(), text.as_bytes());
+        assert_eq!(rt; end.err.bytes(), b"".as_slice());
+    }
+    Ok(())
+}
+
+#[test]
+fn digits_of_no_program_are_refused(rt: HostRuntime) -> Result<(), Fail> {
+    let one = Profile::One;
+    let two = Profile::Two;
+    let cases = [
+        (one, "9x", 1u8, "syncord: line 1: fault 1\n"),
+        (one, "95\n0\n", 1, "syncord: line 3: fault 2\n"),
+        (one, "", 6, "syncord: refused 1\n"),
+        (one, "95", 6, "syncord: refused 2\n"),
+        (one, "8500000001000000", 6, "syncord: refused 4 at slot 0\n"),
+        (one, "8121080000000000", 6, "syncord: refused 4 at slot 0\n"),
+        (
+            two,
+            "9500000000000000 b70a000000000000",
+            6,
+            "syncord: refused 5 at slot 1\n",
+        ),
+        (two, "9500010000000000", 6, "syncord: refused 6 at slot 0\n"),
+        (two, "1800000005000000", 6, "syncord: refused 7 at slot 0\n"),
+    ];
+    for (profile, digits, status, message) in cases {
+        let end = listed(rt.alloc(), profile, digits)?;
+        assert_eq!(rt; end.status, status);
+        assert_eq!(rt; end.out.bytes(), b"".as_slice());
+        assert_eq!(rt; end.err.bytes(), message.as_bytes());
+    }
+    Ok(())
+}
+
+#[test]
+fn a_verifier_is_not_asked(rt: HostRuntime) -> Result<(), Fail> {
+    let end = assembled(rt.alloc(), Profile::One, "ja -1\n")?;
+    assert_eq!(rt; end.out.bytes(), b"0500ffff00000000\n".as_slice());
+    let end = listed(rt.alloc(), Profile::One, "0500ffff00000000")?;
+    assert_eq!(rt; end.out.bytes(), b"ja -1\n".as_slice());
     Ok(())
 }
