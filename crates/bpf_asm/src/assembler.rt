@@ -17,7 +17,7 @@ use crate::survey::survey;
 use bpf_isa::{Insn, MAX_SLOTS, Profile};
 use doc_text::piece_at;
 use std::alloc::{AllocError, Global};
-use std::collections::BTreeMap;
+use std::collections::HashMap;
 
 /// A name that was declared before.
 const DECLARED_BEFORE: u8 = 5;
@@ -200,7 +200,7 @@ fn name(line: u32, found: Option<Mark>) -> Result<Slots, u8>
 
 /// The slots of a line among all lines, or its lowest fault.
 fn line_slots(
-    marks: &BTreeMap<&[u8], Mark>,
+    marks: &HashMap<&[u8], Mark>,
     halves: &[bool],
     line: u32,
     slot: usize,
@@ -244,7 +244,7 @@ fn resolve(
     alloc: Global,
     profile: Profile,
     text: &[u8],
-    marks: &BTreeMap<&[u8], Mark>,
+    marks: &HashMap<&[u8], Mark>,
     halves: &[bool],
 ) -> Result<Vec<Insn>, AsmError>
     requires short { length text.now < 2 ^ 31 }

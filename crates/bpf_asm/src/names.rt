@@ -4,7 +4,7 @@ ghost use Rattle.bpf_asm.specs.Marks.{mark_in, first_mark};
 ghost use Rattle.doc_text.specs.Words.{same};
 
 use std::alloc::{AllocError, Global};
-use std::collections::BTreeMap;
+use std::collections::HashMap;
 
 /// Where a name stands: the line that declares it, counted from 1, and the slot behind it.
 #[derive(Clone, Copy, Debug, PartialEq, Eq)]
@@ -14,7 +14,7 @@ pub struct Mark {
 }
 
 /// The mark of a name.
-pub fn mark_named(marks: &BTreeMap<&[u8], Mark>, name: &[u8]) -> Option<Mark>
+pub fn mark_named(marks: &HashMap<&[u8], Mark>, name: &[u8]) -> Option<Mark>
     ensures { result ≡ mark_in marks.now name.now }
 {
     marks.get(name).copied()
@@ -22,7 +22,7 @@ pub fn mark_named(marks: &BTreeMap<&[u8], Mark>, name: &[u8]) -> Option<Mark>
 
 /// Notes a name, unless it stands there already.
 pub fn note_name<'a>(
-    marks: &mut BTreeMap<&'a [u8], Mark>,
+    marks: &mut HashMap<&'a [u8], Mark>,
     name: &'a [u8],
     mark: Mark,
 ) -> Result<(), AllocError>

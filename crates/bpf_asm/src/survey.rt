@@ -10,11 +10,11 @@ use crate::statement::{Statement, read_line};
 use bpf_isa::Profile;
 use doc_text::piece_at;
 use std::alloc::{AllocError, Global};
-use std::collections::BTreeMap;
+use std::collections::HashMap;
 
 /// Notes the name that a line declares.
 fn note_mark<'a>(
-    marks: &mut BTreeMap<&'a [u8], Mark>,
+    marks: &mut HashMap<&'a [u8], Mark>,
     mark: Mark,
     read: Result<Statement<'a>, u8>,
 ) -> Result<(), AllocError>
@@ -57,11 +57,11 @@ pub fn survey<'a>(
     alloc: Global,
     profile: Profile,
     text: &'a [u8],
-) -> Result<(BTreeMap<&'a [u8], Mark>, Vec<bool>), AllocError>
+) -> Result<(HashMap<&'a [u8], Mark>, Vec<bool>), AllocError>
     requires { length text.now < 2 ^ 31 }
     ensures { IfOk result (λ found. IsSurvey found.0 found.1.items (lines_in profile text.now)) }
 {
-    let mut marks = BTreeMap::new(alloc);
+    let mut marks = HashMap::new(alloc);
     let mut halves = Vec::new(alloc);
     let mut rest = text;
     let mut line: u32 = 1;
