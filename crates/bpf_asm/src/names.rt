@@ -1,5 +1,5 @@
 //! The names that a text declares, each with the first line that has it and the slot behind.
-ghost use Rattle.std.specs.Prelude.{◌≡◌, ◌^◌, ◌<◌, ℕ, List, Some, OnOk, if◌then◌else◌};
+ghost use Rattle.std.specs.Prelude.{◌≡◌, ◌^◌, ◌<◌, ℕ, List, Some, IfOk, OnOk, if◌then◌else◌};
 ghost use Rattle.bpf_asm.specs.Marks.{mark_in, first_mark};
 ghost use Rattle.doc_text.specs.Words.{same};
 
@@ -20,20 +20,21 @@ pub fn mark_named(marks: &HashMap<&[u8], Mark>, name: &[u8]) -> Option<Mark>
     marks.get(name).copied()
 }
 
-/// Notes a name, unless it stands there already.
+/// Notes a name, unless it stands there already, and gives the mark that stands there then.
 pub fn note_name<'a>(
     marks: &mut HashMap<&'a [u8], Mark>,
     name: &'a [u8],
     mark: Mark,
-) -> Result<(), AllocError>
-    ensures { OnOk result ((other : List ℕ) → mark_in marks.new other
+) -> Result<Mark, AllocError>
+    ensures noted { OnOk result ((other : List ℕ) → mark_in marks.new other
         ≡ first_mark (mark_in marks.old other) (same name.now other) mark) }
+    ensures stands { IfOk result (λ found. mark_in marks.new name.now ≡ Some found) }
 {
     match mark_named(marks, name) {
-        Some(_) => Ok(()),
+        Some(found) => Ok(found),
         None => {
             marks.insert(name, mark)?;
-            Ok(())
+            Ok(mark)
         }
     }
 }
