@@ -8,7 +8,8 @@ use Rattle.shfl_policy.specs.declared.error.Hook.TheVariants.{Should, Skip}
 use Rattle.shfl_policy.specs.declared.error.ProgramFault.{ProgramFault}
 use Rattle.shfl_policy.specs.declared.error.ProgramFault.TheVariants.{Isa, Refused}
 use Rattle.shfl_policy.specs.declared.error.LoadError.TheVariants.{Bad}
-use Rattle.shfl_policy.specs.Loading.{SourceModel, Loads, HasFault, IsLoaded, IsLoadError}
+use Rattle.policy_source.specs.Source.{SourceModel}
+use Rattle.shfl_policy.specs.Loading.{Loads, HasFault, IsLoaded, IsLoadError}
 use Rattle.shfl_policy.specs.Policies.{PolicyModel}
 use Rattle.policy_text.proofs.Verdicts.{not_a_program}
 

@@ -9,7 +9,8 @@ use Rattle.doc_text.specs.Words.{words, spaced, same, is_word, four, ◌>>?◌}
 use Rattle.doc_text.specs.Digits.{bytes_in}
 use Rattle.doc_text.specs.Faults.{or_fault}
 use Rattle.doc_text.proofs.Joining.{spaced-words, same-true}
-use Rattle.shfl_policy.specs.Loading.{SourceModel, Loads}
+use Rattle.policy_source.specs.Source.{SourceModel}
+use Rattle.shfl_policy.specs.Loading.{Loads}
 use Rattle.policy_text.specs.Programs.{program_in, source_in}
 use Rattle.shfl_sched.specs.declared.schedule.Rule.{Rule}
 use Rattle.shfl_sched.specs.declared.schedule.Rule.TheVariants as rules

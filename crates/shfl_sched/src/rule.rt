@@ -10,7 +10,8 @@ use crate::schedule::Rule;
 use bpf_isa::Profile;
 use doc_text::{four_words, is_same, two_words};
 use policy_text::{NoMemory, source_of};
-use shfl_policy::{LoadError, PolicySource, load};
+use policy_source::PolicySource;
+use shfl_policy::{LoadError, load};
 use std::alloc::Global;
 
 /// What a policy line says, the programs as their bytes.
