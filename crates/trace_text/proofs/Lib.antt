@@ -7,5 +7,6 @@ pub mod WorkerLines
 pub mod PolicyNames
 pub mod PolicyLines
 pub mod PolicyTexts
+pub mod CallWords
 pub mod Counts
 pub mod Generated
