@@ -49,7 +49,7 @@ name_in-some w name h = let t = test-some (is_word w) (Some w) name h in (t.0, s
 name-of : (w name : List ℕ) → IsPart w → is_word w ≡ true → w ≡ name → IsName name
 name-of w name part some same_name = subst IsName same_name (some, part.0, part.1)
 
-small : 64 < 2 ^ 64
+pub small : 64 < 2 ^ 64
 small = omega arith
 
 -- ---- what follows a verb
@@ -76,7 +76,7 @@ entry-some ws e h parts under =
 front : (verb word : List ℕ) (ws vs : List (List ℕ)) → verb ≡ word → ws ≡ vs → verb ∷ ws ≡ word ∷ vs
 front verb word ws vs e f = rw (e, f) refl
 
-entry-range : (dir : ℕ) (name : List ℕ) → is_entry dir name ≡ true → dir < 64
+pub entry-range : (dir : ℕ) (name : List ℕ) → is_entry dir name ≡ true → dir < 64
 entry-range dir name h = ltb-true dir 64 (and_parts (ltb dir 64) (leb (length name) 255) h).0
 
 -- a verb with a directory and a name

@@ -8,5 +8,7 @@ pub mod PolicyNames
 pub mod PolicyLines
 pub mod PolicyTexts
 pub mod CallWords
+pub mod CallLines
+pub mod CallTexts
 pub mod Counts
 pub mod Generated
