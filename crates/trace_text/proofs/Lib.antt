@@ -12,3 +12,5 @@ pub mod CallLines
 pub mod CallTexts
 pub mod Counts
 pub mod Generated
+pub mod Found
+pub mod Only
