@@ -12,7 +12,10 @@ fn a_heading_names_version_and_profile(rt: HostRuntime) -> Result<(), Fail> {
         (b"shfl-line 2\nprofile 2\n", 2, Profile::Two),
     ];
     for (text, version, profile) in cases {
-        assert_eq!(rt; heading_of(b"shfl-line", 10, text), Ok((version, profile, b"".as_slice())));
+        assert_eq!(rt;
+            heading_of(b"shfl-line", 10, text),
+            Ok((version, profile, b"".as_slice()))
+        );
         let mut out = Vec::new(rt.alloc());
         push_heading(&mut out, b"shfl-line", version, profile)?;
         assert_eq!(rt; out.as_slice(), text);
@@ -25,7 +28,10 @@ fn a_heading_names_version_and_profile(rt: HostRuntime) -> Result<(), Fail> {
         (b"syncord-trace 1\n", 1, 2),
     ];
     for (text, line, what) in refused {
-        assert_eq!(rt; heading_of(b"shfl-line", 10, text), Err(Fault { line, what }));
+        assert_eq!(rt;
+            heading_of(b"shfl-line", 10, text),
+            Err(Fault { line, what })
+        );
     }
     Ok(())
 }

@@ -1,12 +1,12 @@
 -- The lines up to the policy say what was read.
-use Rattle.std.proofs.Common.{◌≡◌, ℕ, ◌+◌, ◌<◌, ◌≤◌, List, [], ◌∷◌, ◌++◌, map, Bool, true, false, cond, Option, Some, None, Result, Ok, Err, eqb, inl, inr, refl, sym, ap, ◌∙◌, subst}
+use Rattle.std.proofs.Common.{◌≡◌, ℕ, ◌+◌, ◌<◌, ◌≤◌, List, [], ◌∷◌, ◌++◌, map, Bool, true, false, cond, Option, Some, None, Result, Ok, eqb, inl, inr, refl, sym, ap, ◌∙◌, subst}
 use Rattle.std.specs.Prelude.{◌⊎◌, codes}
 use Rattle.bpf_isa.specs.declared.insn.Profile.{Profile}
 use Rattle.bpf_isa.specs.declared.insn.Profile.TheVariants as profile
 use Rattle.shfl_line.specs.declared.events.Form.{Form}
 use Rattle.doc_text.specs.declared.fault.Fault.{Fault}
 use Rattle.doc_text.specs.Text.{ended}
-use Rattle.doc_text.specs.Words.{words, spaced, same}
+use Rattle.doc_text.specs.Words.{spaced, same}
 use Rattle.doc_text.specs.Faults.{◌>>=◌, line_due, one_of}
 use Rattle.doc_text.proofs.Joining.{same-true}
 use Rattle.doc_text.proofs.Due.{bind-some, one_of-some, line_due-some}
@@ -101,6 +101,18 @@ with_heading h = one_of (h.version + 1) 3 form_in h.rest >>= with_form h
 three-lines : (a b c a' b' : List ℕ) (ps qs rs : List (List ℕ)) → ps ≡ ended a ∷ qs → a ≡ a' → qs ≡ ended b ∷ rs → b ≡ b' → (ts : List (List ℕ)) → rs ≡ ended c ∷ ts → ps ≡ ended a' ∷ ended b' ∷ ended c ∷ ts
 three-lines a b c a' b' ps qs rs e p f q ts g = rw (e, p, f, q, g) refl
 
+-- the parts of a front, one behind the other
+front-parts : (ps : List (List ℕ)) (f : Front) (h : Heading) (form : Form) (limit : ℕ) (policy : List ℕ) (rest : List (List ℕ)) → IsHeaded (codes "shfl-line") ps h
+    → h.rest ≡ ended (form_line form) ∷ ended (limit_line limit) ∷ ended policy ∷ rest → (0 < limit) × (limit ≤ 1024) → with_policy h form limit (policy, rest) ≡ Ok f → FrontLines ps f
+front-parts ps f h form limit policy rest headed behind batch k =
+    let front : Front = record { version = h.version; profile = h.profile; form = form; limit = limit; policy = policy; rest = rest } in
+    let is : front ≡ f = cc in
+    subst (FrontLines ps) is (record {
+      lines = headed.0 ∙ ap (λ (qs : List (List ℕ)). map ended (heading_lines (codes "shfl-line") h.version h.profile) ++ qs) behind;
+      version = headed.1;
+      limit = batch;
+    })
+
 pub front-some : (ps : List (List ℕ)) (f : Front) → front_in ps ≡ Ok f → FrontLines ps f
 unfolding front_in
 front-some ps f k =
@@ -114,9 +126,4 @@ front-some ps f k =
     let p = line_due-some (h.0.version + 3) 5 limit.0.1 policy.0.1 policy.0.0 policy.1 in
     let batch = limit-some l.0 limit.0.0 l.3 in
     let behind = three-lines o.0 l.0 policy.0.0 (form_line form.0.0) (limit_line limit.0.0) h.0.rest form.0.1 limit.0.1 o.2 (form-some o.0 form.0.0 o.3) l.2 batch.0 policy.0.1 p.1 in
-    let is : ◌≡◌ {A = Front} (record { version = h.0.version; profile = h.0.profile; form = form.0.0; limit = limit.0.0; policy = policy.0.0; rest = policy.0.1 }) f = cc in
-    subst (FrontLines ps) is (record {
-      lines = headed.0 ∙ ap (λ (qs : List (List ℕ)). map ended (heading_lines (codes "shfl-line") h.0.version h.0.profile) ++ qs) behind;
-      version = headed.1;
-      limit = (batch.1, batch.2);
-    })
+    front-parts ps f h.0 form.0.0 limit.0.0 policy.0.0 policy.0.1 headed behind (batch.1, batch.2) policy.2

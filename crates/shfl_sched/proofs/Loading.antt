@@ -1,8 +1,7 @@
 -- A policy that isn't loaded is none.
-use Rattle.std.proofs.Common.{◌≡◌, ◌≢◌, ℕ, List, Option, Some, None, Result, Ok, Err, refl, sym, ◌∙◌, subst}
+use Rattle.std.proofs.Common.{ℕ, List, Option, Some, None}
 use Rattle.bpf_isa.specs.declared.insn.Insn.{Insn}
 use Rattle.bpf_isa.specs.declared.insn.Profile.{Profile}
-use Rattle.bpf_isa.specs.Decoding.{decoding}
 use Rattle.shfl_policy.specs.declared.error.Hook.{Hook}
 use Rattle.shfl_policy.specs.declared.error.Hook.TheVariants.{Should, Skip}
 use Rattle.shfl_policy.specs.declared.error.ProgramFault.{ProgramFault}

@@ -1,14 +1,13 @@
 -- What a policy line says, and how it is spelled.
-use Rattle.std.proofs.Common.{◌≡◌, ℕ, List, [], ◌∷◌, Bool, true, false, cond, ◌&&◌, Option, Some, None, Result, Ok, Err, IfSome, refl, sym, ap, ◌∙◌, subst}
+use Rattle.std.proofs.Common.{◌≡◌, ℕ, List, [], ◌∷◌, Bool, true, false, cond, ◌&&◌, Option, Some, None, Ok, IfSome, refl, sym, ap, ◌∙◌, subst}
 use Rattle.std.specs.Prelude.{codes}
 use Rattle.bpf_isa.specs.declared.insn.Insn.{Insn}
 use Rattle.bpf_isa.specs.declared.insn.Profile.{Profile}
 use Rattle.bpf_verifier.specs.Acceptance.{IsAccepted}
-use Rattle.doc_text.specs.declared.fault.Fault.{Fault}
 use Rattle.doc_text.specs.Words.{words, spaced, same, is_word, four, ◌>>?◌}
 use Rattle.doc_text.specs.Digits.{bytes_in}
 use Rattle.doc_text.specs.Faults.{or_fault}
-use Rattle.doc_text.proofs.Joining.{spaced-words, same-true}
+use Rattle.doc_text.proofs.Joining.{same-true}
 use Rattle.shfl_policy.specs.Loading.{SourceModel, Loads}
 use Rattle.policy_text.specs.Programs.{program_in, source_in}
 use Rattle.shfl_sched.specs.declared.schedule.Rule.{Rule}
@@ -19,7 +18,7 @@ use Rattle.shfl_sched.specs.Schedules.{IsRule}
 use Rattle.shfl_sched.specs.Lines.{rule_named, named_rule_in, program_words_in, program_rule_in, otherwise, rule_in}
 use Rattle.shfl_sched.specs.Grammar.{ReadsSaid, ReadsRule, Then}
 use Rattle.shfl_sched.specs.Spelling.{IsProgramWord, IsRuleLine}
-use Rattle.shfl_sched.proofs.Wording.{tested, given, value, four-some, keyed-some}
+use Rattle.shfl_sched.proofs.Wording.{tested, given, value, four-some, spelled, keyed-some}
 
 -- ---- the words of a policy line
 
@@ -56,15 +55,17 @@ first-two true true c d h = (refl, refl)
 first-two true false c d h = cc
 first-two false b c d h = cc
 
-words-some : (t : List ℕ) (w : List ℕ × List ℕ) → program_words_in (words t) ≡ Some w → t ≡ spaced (codes "policy" ∷ codes "program" ∷ w.0 ∷ w.1 ∷ [])
-words-some t w h =
-    let q = given (four (words t)) (λ (v : Four). cond (is_program_line v) (Some (v.2, v.3)) None) w h in
-    let v = tested (is_program_line q.0) (Some (q.0.2, q.0.3)) w q.2 in
-    let b = first-two (same q.0.0 (codes "policy")) (same q.0.1 (codes "program")) (is_word q.0.2) (is_word q.0.3) v.0 in
-    let line : spaced (q.0.0 ∷ q.0.1 ∷ q.0.2 ∷ q.0.3 ∷ []) ≡ spaced (codes "policy" ∷ codes "program" ∷ q.0.2 ∷ q.0.3 ∷ []) =
-    rw (same-true q.0.0 (codes "policy") b.0, same-true q.0.1 (codes "program") b.1) refl in
-    sym (spaced-words t) ∙ ap spaced (four-some (words t) q.0 q.1) ∙ line
-    ∙ ap (λ (p : List ℕ × List ℕ). spaced (codes "policy" ∷ codes "program" ∷ p.0 ∷ p.1 ∷ [])) (value (q.0.2, q.0.3) w v.1)
+words-four : (w : Four) (x : List ℕ × List ℕ) → cond (is_program_line w) (Some (w.2, w.3)) None ≡ Some x → spaced (w.0 ∷ w.1 ∷ w.2 ∷ w.3 ∷ []) ≡ spaced (codes "policy" ∷ codes "program" ∷ x.0 ∷ x.1 ∷ [])
+words-four w x h =
+    let v = tested (is_program_line w) (Some (w.2, w.3)) x h in
+    let b = first-two (same w.0 (codes "policy")) (same w.1 (codes "program")) (is_word w.2) (is_word w.3) v.0 in
+    let line : spaced (w.0 ∷ w.1 ∷ w.2 ∷ w.3 ∷ []) ≡ spaced (codes "policy" ∷ codes "program" ∷ w.2 ∷ w.3 ∷ []) = rw (same-true w.0 (codes "policy") b.0, same-true w.1 (codes "program") b.1) refl in
+    line ∙ ap (λ (p : List ℕ × List ℕ). spaced (codes "policy" ∷ codes "program" ∷ p.0 ∷ p.1 ∷ [])) (value (w.2, w.3) x v.1)
+
+words-some : (t : List ℕ) (x : List ℕ × List ℕ) → program_words_in (words t) ≡ Some x → t ≡ spaced (codes "policy" ∷ codes "program" ∷ x.0 ∷ x.1 ∷ [])
+words-some t x h =
+    let q = given (four (words t)) (λ (v : Four). cond (is_program_line v) (Some (v.2, v.3)) None) x h in
+    spelled t (q.0.0 ∷ q.0.1 ∷ q.0.2 ∷ q.0.3 ∷ []) (spaced (codes "policy" ∷ codes "program" ∷ x.0 ∷ x.1 ∷ [])) (four-some (words t) q.0 q.1) (words-four q.0 x q.2)
 
 abbrev with_skip : Option (List ℕ) → Option (List ℕ) → Option SourceModel
 with_skip should skip = Some (record { should = should; skip = skip })

@@ -1,5 +1,5 @@
 -- A policy line that is spelled so is read.
-use Rattle.std.proofs.Common.{◌≡◌, ◌≢◌, ℕ, ◌+◌, ◌-◌, ◌*◌, ◌<◌, ◌≤◌, List, [], ◌∷◌, length, Bool, true, false, cond, not, ◌&&◌, Option, Some, None, Result, Ok, Err, IfSome, is_some, eqb, leb, refl, sym, ap, ◌∙◌, subst, arith}
+use Rattle.std.proofs.Common.{◌≡◌, ◌≢◌, ℕ, ◌-◌, ◌<◌, ◌≤◌, List, [], ◌∷◌, length, Bool, true, false, cond, not, ◌&&◌, Option, Some, None, Result, Ok, Err, IfSome, is_some, eqb, leb, refl, sym, ap, ◌∙◌, subst, arith}
 use Rattle.std.specs.Prelude.{codes}
 use Rattle.std.specs.List.{AllByRecursion, list_all}
 use Rattle.std.specs.Result.{result_ok}
@@ -10,11 +10,10 @@ use Rattle.bpf_isa.specs.declared.insn.Profile.{Profile}
 use Rattle.bpf_isa.specs.Decoding.{decoding}
 use Rattle.bpf_verifier.specs.Acceptance.{IsAccepted}
 use Rattle.hex.specs.declared.error.FromHexError.{FromHexError}
-use Rattle.hex.specs.Hex.{is_hex_digit, hex_digit_value, decode_of}
+use Rattle.hex.specs.Hex.{is_hex_digit, decode_of}
 use Rattle.hex.proofs.HexLemmas.{decode_of-ok}
-use Rattle.doc_text.specs.declared.fault.Fault.{Fault}
 use Rattle.doc_text.specs.Text.{is_plain, IsPlain}
-use Rattle.doc_text.specs.Words.{words, spaced, same, is_word, ◌>>?◌}
+use Rattle.doc_text.specs.Words.{words, spaced, same, is_word}
 use Rattle.doc_text.specs.Digits.{bytes_in}
 use Rattle.doc_text.specs.Faults.{or_fault}
 use Rattle.doc_text.proofs.Joining.{same-true}

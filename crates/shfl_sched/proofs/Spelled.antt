@@ -1,5 +1,5 @@
 -- Spelled lines are read back.
-use Rattle.std.proofs.Common.{◌≡◌, ◌≢◌, ℕ, ◌+◌, ◌<◌, ◌≤◌, ◌^◌, List, [], ◌∷◌, length, Bool, true, false, cond, ◌&&◌, Option, Some, None, Result, Ok, Err, IfSome, eqb, leb, ltb, refl, sym, ap, ◌∙◌, subst, arith}
+use Rattle.std.proofs.Common.{◌≡◌, ℕ, ◌<◌, ◌≤◌, ◌^◌, List, [], ◌∷◌, Option, Some, refl, arith}
 use Rattle.std.specs.Prelude.{codes}
 use Rattle.std.specs.Fmt.{decimal}
 use Rattle.std.specs.List.{AllByRecursion}
@@ -8,16 +8,15 @@ use Rattle.shfl_line.specs.declared.words.Attr.{Attr}
 use Rattle.shfl_line.specs.declared.events.Form.{Form}
 use Rattle.shfl_line.specs.declared.events.Form.TheVariants as forms
 use Rattle.doc_text.specs.Text.{IsPlain}
-use Rattle.doc_text.specs.Words.{words, HasNoBlank, spaced, same, two, five, ◌>>?◌}
-use Rattle.doc_text.specs.Numbers.{number_in}
+use Rattle.doc_text.specs.Words.{words, HasNoBlank, spaced}
 use Rattle.doc_text.proofs.Joining.{words-spaced, plain-spaced, decimal-word, same-self}
 use Rattle.doc_text.proofs.Counting.{number_in-decimal}
 use Rattle.policy_text.specs.Attributes.{attr_in, attr_line}
 use Rattle.shfl_sched.specs.declared.schedule.Act.{Act}
 use Rattle.shfl_sched.specs.declared.schedule.Act.TheVariants as acts
 use Rattle.shfl_sched.specs.declared.schedule.Event.{Event}
-use Rattle.shfl_sched.specs.Schedules.{IsAttr, IsEventOf, is_act_of}
-use Rattle.shfl_sched.specs.Lines.{form_named, form_in, batch_in, limit_in, act_named, pass_in, event_in}
+use Rattle.shfl_sched.specs.Schedules.{IsAttr, IsEventOf}
+use Rattle.shfl_sched.specs.Lines.{form_named, form_in, batch_in, limit_in, act_named, event_in}
 use Rattle.shfl_sched.specs.Spelling.{form_word, form_line, limit_line, act_word, event_line}
 use Rattle.shfl_sched.proofs.Wording.{keyed}
 
@@ -79,10 +78,17 @@ limit-read n some le =
 pub attr-read : (word : List ℕ) (a : Attr) → IsLineWord word → IsAttr a → IsPlain (attr_line word a) × (attr_in word (words (attr_line word a)) ≡ Some a)
 attr-read word a h k =
     let each : AllByRecursion IsLineWord (word ∷ decimal a.socket ∷ decimal a.prio ∷ decimal a.class ∷ decimal a.kind ∷ []) =
-    (h, (number-word 65535 a.socket (omega arith) k.socket, (number-word 65535 a.prio (omega arith) k.prio, (number-word 65535 a.class (omega arith) k.class, (number-word 65535 a.kind (omega arith) k.kind, tt))))) in
-    (plain-line (word ∷ decimal a.socket ∷ decimal a.prio ∷ decimal a.class ∷ decimal a.kind ∷ []) each,
-      rw (words-line word (decimal a.socket ∷ decimal a.prio ∷ decimal a.class ∷ decimal a.kind ∷ []) each, same-self word, number_in-decimal 65535 a.socket (omega arith) k.socket,
-      number_in-decimal 65535 a.prio (omega arith) k.prio, number_in-decimal 65535 a.class (omega arith) k.class, number_in-decimal 65535 a.kind (omega arith) k.kind) refl)
+    (h, (number-word 65535 a.socket (omega arith) k.socket, (number-word 65535 a.prio (omega arith) k.prio, (number-word 65535 a.class (omega arith) k.class, (number-word 65535 a.kind (omega arith) k.kind, tt))))) in (
+      plain-line (word ∷ decimal a.socket ∷ decimal a.prio ∷ decimal a.class ∷ decimal a.kind ∷ []) each,
+      rw (
+        words-line word (decimal a.socket ∷ decimal a.prio ∷ decimal a.class ∷ decimal a.kind ∷ []) each,
+        same-self word,
+        number_in-decimal 65535 a.socket (omega arith) k.socket,
+        number_in-decimal 65535 a.prio (omega arith) k.prio,
+        number_in-decimal 65535 a.class (omega arith) k.class,
+        number_in-decimal 65535 a.kind (omega arith) k.kind,
+      ) refl,
+    )
 
 -- ---- the events
 
@@ -101,6 +107,7 @@ act_named-word acts.Step = refl
 pub event-read : (form : Form) (passes : ℕ) (e : Event) → passes ≤ 64 → IsEventOf form passes e → IsPlain (event_line e) × (event_in form passes (words (event_line e)) ≡ Some e)
 event-read form passes e few h =
     let below : e.pass ≤ 63 = omega (arith, h.pass, few) in
-    let w = number-word 63 e.pass (omega arith) below in
-    (plain-line (act_word e.act ∷ decimal e.pass ∷ []) (act_word-word e.act, (w, tt)),
-      rw (words-line (act_word e.act) (decimal e.pass ∷ []) (act_word-word e.act, (w, tt)), act_named-word e.act, number_in-decimal 63 e.pass (omega arith) below, lt-ltb e.pass passes h.pass, h.act) refl)
+    let w = number-word 63 e.pass (omega arith) below in (
+      plain-line (act_word e.act ∷ decimal e.pass ∷ []) (act_word-word e.act, (w, tt)),
+      rw (words-line (act_word e.act) (decimal e.pass ∷ []) (act_word-word e.act, (w, tt)), act_named-word e.act, number_in-decimal 63 e.pass (omega arith) below, lt-ltb e.pass passes h.pass, h.act) refl,
+    )

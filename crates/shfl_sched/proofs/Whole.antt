@@ -1,5 +1,5 @@
 -- The text of a schedule is read as it.
-use Rattle.std.proofs.Common.{◌≡◌, ℕ, ◌+◌, ◌<◌, ◌≤◌, List, [], ◌∷◌, ◌++◌, length, map, Bool, true, false, cond, Option, Some, None, Result, Ok, Err, eqb, leb, inl, inr, refl, sym, ap, ◌∙◌, subst, length-append, arith}
+use Rattle.std.proofs.Common.{◌≡◌, ℕ, ◌+◌, ◌<◌, ◌≤◌, List, [], ◌∷◌, ◌++◌, length, map, false, Some, None, Result, Ok, leb, inl, inr, refl, sym, ap, ◌∙◌, subst, length-append, arith}
 use Rattle.std.specs.Prelude.{codes}
 use Rattle.std.specs.List.{flat_map, AllByRecursion}
 use Rattle.std.proofs.lemmas.Bool.{ne_eqb}
@@ -13,7 +13,6 @@ use Rattle.shfl_line.specs.declared.events.Form.{Form}
 use Rattle.doc_text.specs.declared.fault.Fault.{Fault}
 use Rattle.doc_text.specs.Text.{pieces, ended, IsPlain}
 use Rattle.doc_text.specs.Words.{words, spaced}
-use Rattle.doc_text.specs.Faults.{lines_from, section_from}
 use Rattle.doc_text.proofs.Joining.{pieces-lines}
 use Rattle.doc_text.proofs.Due.{line_due-ended, fixed_due-ended, one_of-ended}
 use Rattle.doc_text.proofs.Loops.{lines_from-joined, section_from-joined}
@@ -124,8 +123,12 @@ front-read f version some few plain =
     let form = form-read f.form in
     let limit = limit-read f.limit some few in
     let behind = ended (limit_line f.limit) ∷ ended f.policy ∷ f.rest in
-    rw ((heading-read f.version f.profile version).1 (ended (form_line f.form) ∷ behind), one_of-ended (f.version + 1) 3 form_in (form_line f.form) behind f.form form.0 form.1,
-    one_of-ended (f.version + 2) 4 limit_in (limit_line f.limit) (ended f.policy ∷ f.rest) f.limit limit.0 limit.1, line_due-ended (f.version + 3) 5 f.policy f.rest plain) refl
+    rw (
+      (heading-read f.version f.profile version).1 (ended (form_line f.form) ∷ behind),
+      one_of-ended (f.version + 1) 3 form_in (form_line f.form) behind f.form form.0 form.1,
+      one_of-ended (f.version + 2) 4 limit_in (limit_line f.limit) (ended f.policy ∷ f.rest) f.limit limit.0 limit.1,
+      line_due-ended (f.version + 3) 5 f.policy f.rest plain,
+    ) refl
 
 -- ---- the whole
 
@@ -163,8 +166,10 @@ whole-behind : (s : ScheduleModel) (policy : List ℕ) → IsWithin s → schedu
 unfolding schedule_in
 whole-behind s policy h =
     let line = policy_line (front_of s policy) + 1 in
-    rw (passes-read line s.passes (flat_map ended (map event_line s.events)) h.attrs h.passes.0 h.passes.1,
-    events-read s.form (length s.passes) (line + length s.passes) s.events h.passes.1 h.events h.few) refl
+    rw (
+      passes-read line s.passes (flat_map ended (map event_line s.events)) h.attrs h.passes.0 h.passes.1,
+      events-read s.form (length s.passes) (line + length s.passes) s.events h.passes.1 h.events h.few,
+    ) refl
 
 pub text-read : (bytes : List ℕ) (s : ScheduleModel) → IsWithin s → IsText bytes s → ReadsSchedule bytes (Ok s)
 text-read bytes s h t =

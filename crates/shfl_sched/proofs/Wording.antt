@@ -1,5 +1,5 @@
 -- What the words of a line say, and how it is spelled.
-use Rattle.std.proofs.Common.{◌≡◌, ℕ, ◌<◌, ◌≤◌, List, [], ◌∷◌, Bool, true, false, cond, ◌&&◌, Option, Some, None, eqb, ltb, refl, sym, ap, ◌∙◌, subst, arith}
+use Rattle.std.proofs.Common.{◌≡◌, ℕ, ◌<◌, ◌≤◌, List, [], ◌∷◌, Bool, true, false, cond, Option, Some, None, eqb, ltb, refl, sym, ap, ◌∙◌, subst, arith}
 use Rattle.std.specs.Prelude.{codes}
 use Rattle.std.specs.Fmt.{decimal}
 use Rattle.std.proofs.lemmas.Bool.{ltb-true}
@@ -58,11 +58,12 @@ five-some (a ∷ b ∷ c ∷ d ∷ []) w h = cc
 five-some (a ∷ b ∷ c ∷ d ∷ e ∷ []) w h = ap (λ (p : Five). p.0 ∷ p.1 ∷ p.2 ∷ p.3 ∷ p.4 ∷ []) (value (a, b, c, d, e) w h)
 five-some (a ∷ b ∷ c ∷ d ∷ e ∷ f ∷ ws) w h = cc
 
-pub two-line : (a b c d : List ℕ) → a ≡ c → b ≡ d → spaced (a ∷ b ∷ []) ≡ spaced (c ∷ d ∷ [])
+two-line : (a b c d : List ℕ) → a ≡ c → b ≡ d → spaced (a ∷ b ∷ []) ≡ spaced (c ∷ d ∷ [])
 two-line a b c d e f = rw (e, f) refl
 
-five-line : (a b c d e a' b' c' d' e' : List ℕ) → a ≡ a' → b ≡ b' → c ≡ c' → d ≡ d' → e ≡ e' → spaced (a ∷ b ∷ c ∷ d ∷ e ∷ []) ≡ spaced (a' ∷ b' ∷ c' ∷ d' ∷ e' ∷ [])
-five-line a b c d e a' b' c' d' e' p q r s t = rw (p, q, r, s, t) refl
+-- a text is its words, spelled
+pub spelled : (t : List ℕ) (ws : List (List ℕ)) (line : List ℕ) → words t ≡ ws → spaced ws ≡ line → t ≡ line
+spelled t ws line e f = sym (spaced-words t) ∙ ap spaced e ∙ f
 
 -- a fixed word and a word that says something
 abbrev pub keyed : {A : Type 0} → List ℕ → (List ℕ → Option A) → List (List ℕ) → Option A
@@ -73,7 +74,7 @@ keyed-some {A} word find t x h =
     let r = given (two (words t)) (λ (w : List ℕ × List ℕ). cond (same w.0 word) (find w.1) None) x h in
     let w = tested (same r.0.0 word) (find r.0.1) x r.2 in
     let first : r.0.0 ≡ word = same-true r.0.0 word w.0 in
-    (r.0.1, sym (spaced-words t) ∙ ap spaced (two-some (words t) r.0 r.1) ∙ ap (λ (v : List ℕ). spaced (v ∷ r.0.1 ∷ [])) first, w.1)
+    (r.0.1, spelled t (r.0.0 ∷ r.0.1 ∷ []) (spaced (word ∷ r.0.1 ∷ [])) (two-some (words t) r.0 r.1) (ap (λ (v : List ℕ). spaced (v ∷ r.0.1 ∷ [])) first), w.1)
 
 -- ---- the form
 
@@ -132,21 +133,33 @@ of_socket p c k socket = number_in 65535 p >>? of_prio c k socket
 abbrev of_words : List ℕ → Five → Option Attr
 of_words word w = cond (same w.0 word) (number_in 65535 w.1 >>? of_socket w.2 w.3 w.4) None
 
-pub attr-some : (word t : List ℕ) (a : Attr) → attr_in word (words t) ≡ Some a → (t ≡ attr_line word a) × IsAttr a
-attr-some word t a h =
-    let r = given (five (words t)) (of_words word) a h in
-    let w = tested (same r.0.0 word) (number_in 65535 r.0.1 >>? of_socket r.0.2 r.0.3 r.0.4) a r.2 in
-    let s = given (number_in 65535 r.0.1) (of_socket r.0.2 r.0.3 r.0.4) a w.1 in
-    let p = given (number_in 65535 r.0.2) (of_prio r.0.3 r.0.4 s.0) a s.2 in
-    let c = given (number_in 65535 r.0.3) (of_class r.0.4 s.0 p.0) a p.2 in
-    let k = given (number_in 65535 r.0.4) (of_kind s.0 p.0 c.0) a c.2 in
-    let is : ◌≡◌ {A = Attr} (record { socket = s.0; prio = p.0; class = c.0; kind = k.0 }) a = value _ a k.2 in
-    let ds = number_in-some 65535 r.0.1 s.0 (omega arith) s.1 in
-    let dp = number_in-some 65535 r.0.2 p.0 (omega arith) p.1 in
-    let dc = number_in-some 65535 r.0.3 c.0 (omega arith) c.1 in
-    let dk = number_in-some 65535 r.0.4 k.0 (omega arith) k.1 in
-    let line = five-line r.0.0 r.0.1 r.0.2 r.0.3 r.0.4 word (decimal s.0) (decimal p.0) (decimal c.0) (decimal k.0) (same-true r.0.0 word w.0) ds.0 dp.0 dc.0 dk.0 in
-    (sym (spaced-words t) ∙ ap spaced (five-some (words t) r.0 r.1) ∙ line ∙ ap (attr_line word) is, subst IsAttr is (record { socket = ds.1; prio = dp.1; class = dc.1; kind = dk.1 }))
+attr-numbers : (word a b c d : List ℕ) (socket prio class kind : ℕ) (attr : Attr)
+    → number_in 65535 a ≡ Some socket → number_in 65535 b ≡ Some prio → number_in 65535 c ≡ Some class → number_in 65535 d ≡ Some kind
+    → of_kind socket prio class kind ≡ Some attr → (spaced (word ∷ a ∷ b ∷ c ∷ d ∷ []) ≡ attr_line word attr) × IsAttr attr
+attr-numbers word a b c d socket prio class kind attr e f g h k =
+    let is = value (record { socket = socket; prio = prio; class = class; kind = kind }) attr k in
+    let ds = number_in-some 65535 a socket (omega arith) e in
+    let dp = number_in-some 65535 b prio (omega arith) f in
+    let dc = number_in-some 65535 c class (omega arith) g in
+    let dk = number_in-some 65535 d kind (omega arith) h in
+    let line : spaced (word ∷ a ∷ b ∷ c ∷ d ∷ []) ≡ spaced (word ∷ decimal socket ∷ decimal prio ∷ decimal class ∷ decimal kind ∷ []) = rw (ds.0, dp.0, dc.0, dk.0) refl in
+    (line ∙ ap (attr_line word) is, subst IsAttr is (record { socket = ds.1; prio = dp.1; class = dc.1; kind = dk.1 }))
+
+attr-five : (word : List ℕ) (w : Five) (attr : Attr) → of_words word w ≡ Some attr → (spaced (w.0 ∷ w.1 ∷ w.2 ∷ w.3 ∷ w.4 ∷ []) ≡ attr_line word attr) × IsAttr attr
+attr-five word w attr h =
+    let v = tested (same w.0 word) (number_in 65535 w.1 >>? of_socket w.2 w.3 w.4) attr h in
+    let s = given (number_in 65535 w.1) (of_socket w.2 w.3 w.4) attr v.1 in
+    let p = given (number_in 65535 w.2) (of_prio w.3 w.4 s.0) attr s.2 in
+    let c = given (number_in 65535 w.3) (of_class w.4 s.0 p.0) attr p.2 in
+    let k = given (number_in 65535 w.4) (of_kind s.0 p.0 c.0) attr c.2 in
+    let r = attr-numbers word w.1 w.2 w.3 w.4 s.0 p.0 c.0 k.0 attr s.1 p.1 c.1 k.1 k.2 in
+    (ap (λ (u : List ℕ). spaced (u ∷ w.1 ∷ w.2 ∷ w.3 ∷ w.4 ∷ [])) (same-true w.0 word v.0) ∙ r.0, r.1)
+
+pub attr-some : (word t : List ℕ) (attr : Attr) → attr_in word (words t) ≡ Some attr → (t ≡ attr_line word attr) × IsAttr attr
+attr-some word t attr h =
+    let r = given (five (words t)) (of_words word) attr h in
+    let w = attr-five word r.0 attr r.2 in
+    (spelled t (r.0.0 ∷ r.0.1 ∷ r.0.2 ∷ r.0.3 ∷ r.0.4 ∷ []) (attr_line word attr) (five-some (words t) r.0 r.1) w.0, w.1)
 
 -- ---- the events
 
@@ -181,13 +194,17 @@ of_pass form act pass = cond (is_act_of form act) (Some (record { act = act; pas
 abbrev of_act : Form → ℕ → List ℕ → Act → Option Event
 of_act form passes w act = pass_in passes w >>? of_pass form act
 
+event-two : (form : Form) (passes : ℕ) (w : List ℕ × List ℕ) (e : Event) → (act_named w.0 >>? of_act form passes w.1) ≡ Some e → (spaced (w.0 ∷ w.1 ∷ []) ≡ event_line e) × IsEventOf form passes e
+event-two form passes w e h =
+    let a = given (act_named w.0) (of_act form passes w.1) e h in
+    let p = given (pass_in passes w.1) (of_pass form a.0) e a.2 in
+    let v = tested (is_act_of form a.0) (Some (record { act = a.0; pass = p.0 })) e p.2 in
+    let is = value (record { act = a.0; pass = p.0 }) e v.1 in
+    let d = pass-some passes w.1 p.0 p.1 in
+    (two-line w.0 w.1 (act_word a.0) (decimal p.0) (act_named-some w.0 a.0 a.1) d.0 ∙ ap event_line is, subst (IsEventOf form passes) is (record { act = v.0; pass = d.1 }))
+
 pub event-some : (form : Form) (passes : ℕ) (t : List ℕ) (e : Event) → event_in form passes (words t) ≡ Some e → (t ≡ event_line e) × IsEventOf form passes e
 event-some form passes t e h =
     let r = given (two (words t)) (λ (w : List ℕ × List ℕ). act_named w.0 >>? of_act form passes w.1) e h in
-    let a = given (act_named r.0.0) (of_act form passes r.0.1) e r.2 in
-    let p = given (pass_in passes r.0.1) (of_pass form a.0) e a.2 in
-    let w = tested (is_act_of form a.0) (Some (record { act = a.0; pass = p.0 })) e p.2 in
-    let is : ◌≡◌ {A = Event} (record { act = a.0; pass = p.0 }) e = value _ e w.1 in
-    let d = pass-some passes r.0.1 p.0 p.1 in
-    let line = two-line r.0.0 r.0.1 (act_word a.0) (decimal p.0) (act_named-some r.0.0 a.0 a.1) d.0 in
-    (sym (spaced-words t) ∙ ap spaced (two-some (words t) r.0 r.1) ∙ line ∙ ap event_line is, subst (IsEventOf form passes) is (record { act = w.0; pass = d.1 }))
+    let w = event-two form passes r.0 e r.2 in
+    (spelled t (r.0.0 ∷ r.0.1 ∷ []) (event_line e) (two-some (words t) r.0 r.1) w.0, w.1)

@@ -1,5 +1,5 @@
 -- A schedule as contracts see it.
-use Rattle.std.specs.Prelude.{◌≡◌, ◌⊎◌, ◌≤◌, ◌<◌, ℕ, List, Bool, true, false, IsTrue, IfSome, length}
+use Rattle.std.specs.Prelude.{◌≡◌, ◌⊎◌, ◌≤◌, ◌<◌, ℕ, List, Bool, true, IsTrue, IfSome, length}
 use Rattle.std.specs.List.{AllByRecursion}
 use Rattle.bpf_isa.specs.declared.insn.Profile.{Profile}
 use Rattle.bpf_isa.specs.declared.insn.Profile.TheVariants as profile

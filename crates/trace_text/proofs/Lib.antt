@@ -2,5 +2,11 @@ pub mod Shapes
 pub mod Sorting
 pub mod PolicyLoop
 pub mod CallLoop
+pub mod Sections
+pub mod WorkerLines
+pub mod PolicyNames
+pub mod PolicyLines
+pub mod PolicyTexts
+pub mod CallWords
 pub mod Counts
 pub mod Generated

@@ -1,6 +1,4 @@
-use Rattle.std.proofs.Common.{◌≡◌, false, true, List, Result, Ok, IfOk}
-use Rattle.bpf_isa.specs.declared.insn.Insn.{Insn}
-use Rattle.policy_text.proofs.Verdicts.{not_a_program, verdict}
+use Rattle.policy_text.proofs.Verdicts.{verdict}
 use Rattle.policy_text.proofs.acceptance.is_program.Goals as goal
 
 pub returns-in-Err-verify : goal.returns-in-Err-verify
