@@ -70,7 +70,11 @@ fn head<W: Waiter>(lock: &PlainWorld<W>, found: &Glance) -> u64
         let own = lock.standing(found.granter - 1);
         return own.reg.heir as u64 + 1;
     }
-    if found.fore > 0 { found.fore as u64 } else { found.called as u64 }
+    if found.fore > 0 {
+        found.fore as u64
+    } else {
+        found.called as u64
+    }
 }
 
 // The successor of a pass plus 1, or 0: whom its next word names, else who has yet to write that word.
