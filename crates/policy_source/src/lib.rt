@@ -21,7 +21,7 @@ impl Model for PolicySource {
     ghost Value = { SourceModel };
 
     ghost view = { λ s. record {
-        should = option_map (λ v. v.items) s.should;
-        skip = option_map (λ v. v.items) s.skip;
+      should = option_map (λ v. v.items) s.should;
+      skip = option_map (λ v. v.items) s.skip;
     } };
 }

@@ -36,8 +36,8 @@ call_in-some (w ∷ v ∷ ws) c h parts under ranged =
     let is : made ≡ c = some-same made c a.2 in
     subst (λ (d : CallLine). d.worker < 16 → is_in_range d.act ≡ true → (w ∷ v ∷ ws ≡ decimal d.worker ∷ act_words d.act) × AllByRecursion IsName (spelled_names d.act)) is
     (λ u r. (let s = act-some v ws a.0 a.1 parts.1.1 r in
-        let number = capped-some 16 w n.0 (omega arith) n.1 u in
-        (joined w (decimal n.0) (v ∷ ws) (act_words a.0) number s.0, s.1))) under ranged
+    let number = capped-some 16 w n.0 (omega arith) n.1 u in
+    (joined w (decimal n.0) (v ∷ ws) (act_words a.0) number s.0, s.1))) under ranged
   where
     joined : (a b : List ℕ) (vs us : List (List ℕ)) → a ≡ b → vs ≡ us → a ∷ vs ≡ b ∷ us
     joined a b vs us e f = rw (e, f) refl
@@ -82,12 +82,14 @@ attaches-more before c few h = by_test (is_attach c.act) (attach_count-push befo
 call-step : (workers : ℕ) (policies : List PolicyLine) → workers ≤ 16 → (before : List CallLine) (line : ℕ) (t : List ℕ) (c : CallLine) → IsPlain t → call_says workers policies before line t ≡ Ok c → CallsKept workers policies before → (t ≡ call_line c) × CallsKept workers policies (before ++ c ∷ [])
 call-step workers policies few before line t c plain h kept =
     let r = call_says-some workers policies before line t c few plain h in
-    let room = or_parts (leb 65536 (length before)) (is_attach c.act && leb 4096 (attach_count before)) r.room in
-    (r.text, record {
-      few = omega (arith, length-append before (c ∷ []), leb-false 65536 (length before) room.0);
-      attaches = attaches-more before c kept.attaches room.1;
-      each = all-push (IsCall workers policies) before c kept.each r.call;
-    })
+    let room = or_parts (leb 65536 (length before)) (is_attach c.act && leb 4096 (attach_count before)) r.room in (
+      r.text,
+      record {
+        few = omega (arith, length-append before (c ∷ []), leb-false 65536 (length before) room.0);
+        attaches = attaches-more before c kept.attaches room.1;
+        each = all-push (IsCall workers policies) before c kept.each r.call;
+      },
+    )
 
 pub calls_in-found : (workers : ℕ) (policies : List PolicyLine) (line : ℕ) (ps : List (List ℕ)) (calls : List CallLine) → workers ≤ 16 → calls_in workers policies line ps ≡ Ok calls
     → (ps ≡ ended (codes "calls") ∷ map ended (map call_line calls)) × CallsKept workers policies calls

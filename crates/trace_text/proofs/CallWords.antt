@@ -87,7 +87,7 @@ entry-act build word verb ws act spelled names ranges is_verb h parts ranged =
     let is : build e.0.0 e.0.1 ≡ act = some-same (build e.0.0 e.0.1) act e.2 in
     subst (λ (a : Act). is_in_range a ≡ true → Says (verb ∷ ws) a) is
     (λ r. (let s = entry-some ws e.0 e.1 parts (entry-range e.0.0 e.0.1 (sym (ranges e.0.0 e.0.1) ∙ r)) in
-        (front verb word ws (decimal e.0.0 ∷ e.0.1 ∷ []) is_verb s.0 ∙ sym (spelled e.0.0 e.0.1), subst (AllByRecursion IsName) (sym (names e.0.0 e.0.1)) (s.1, tt)))) ranged
+    (front verb word ws (decimal e.0.0 ∷ e.0.1 ∷ []) is_verb s.0 ∙ sym (spelled e.0.0 e.0.1), subst (AllByRecursion IsName) (sym (names e.0.0 e.0.1)) (s.1, tt)))) ranged
 
 rename-known : (ws : List (List ℕ)) (a b c d : List ℕ) (dir : ℕ) (name : List ℕ) (to_dir : ℕ) (to_name : List ℕ) → ws ≡ a ∷ b ∷ c ∷ d ∷ [] → AllByRecursion IsPart ws
     → capped_in 64 a ≡ Some dir → (is_word b ≡ true) × (b ≡ name) → capped_in 64 c ≡ Some to_dir → (is_word d ≡ true) × (d ≡ to_name) → is_in_range (rename dir name to_dir to_name) ≡ true
@@ -109,7 +109,7 @@ rename-act verb ws act is_verb h parts ranged =
     let is : rename d.0 n.0 td.0 tn.0 ≡ act = some-same (rename d.0 n.0 td.0 tn.0) act tn.2 in
     subst (λ (a : Act). is_in_range a ≡ true → Says (verb ∷ ws) a) is
     (λ r. (let s = rename-known ws w.0.0 w.0.1 w.0.2 w.0.3 d.0 n.0 td.0 tn.0 (four-some ws w.0 w.1) parts d.1 (name_in-some w.0.1 n.0 n.1) td.1 (name_in-some w.0.3 tn.0 tn.1) r in
-        (front verb (codes "rename") ws (decimal d.0 ∷ n.0 ∷ decimal td.0 ∷ tn.0 ∷ []) is_verb s.0, s.1))) ranged
+    (front verb (codes "rename") ws (decimal d.0 ∷ n.0 ∷ decimal td.0 ∷ tn.0 ∷ []) is_verb s.0, s.1))) ranged
 
 one-known : (ws : List (List ℕ)) (a b : List ℕ) → ws ≡ a ∷ [] → a ≡ b → ws ≡ b ∷ []
 one-known ws a b e f = e ∙ rw f refl
@@ -121,7 +121,7 @@ count-act verb ws act is_verb h ranged =
     let is : count d.0 ≡ act = some-same (count d.0) act d.2 in
     subst (λ (a : Act). is_in_range a ≡ true → Says (verb ∷ ws) a) is
     (λ r. (let number = capped-some 64 w.0 d.0 small d.1 (ltb-true d.0 64 r) in
-        (front verb (codes "count") ws (decimal d.0 ∷ []) is_verb (one-known ws w.0 (decimal d.0) (one-some ws w.0 w.1) number), tt))) ranged
+    (front verb (codes "count") ws (decimal d.0 ∷ []) is_verb (one-known ws w.0 (decimal d.0) (one-some ws w.0 w.1) number), tt))) ranged
 
 attach-act : (verb : List ℕ) (ws : List (List ℕ)) (act : Act) → verb ≡ codes "attach" → attach_in ws ≡ Some act → AllByRecursion IsPart ws → Says (verb ∷ ws) act
 attach-act verb ws act is_verb h parts =

@@ -42,7 +42,6 @@ bytes-lines bytes ts h = sym (joined-pieces bytes) ∙ ap joined (h ∙ sym (app
 start : (f : Front) → PoliciesKept f.profile []
 start f = record { few = omega arith; each = tt; apart = tt }
 
-
 -- what stands before the policies, of a heading and of workers and the pieces behind them
 abbrev front : Heading → List Attr × List (List ℕ) → Front
 front h w = record { version = h.version; profile = h.profile; workers = w.0; rest = w.1 }
