@@ -8,7 +8,8 @@ use Rattle.shfl_line.specs.declared.events.Form.{Form}
 use Rattle.shfl_line.specs.declared.events.Form.TheVariants as forms
 use Rattle.doc_text.specs.Text.{ended}
 use Rattle.doc_text.specs.Words.{spaced}
-use Rattle.shfl_policy.specs.Loading.{SourceModel, IsLoaded}
+use Rattle.policy_source.specs.Source.{SourceModel}
+use Rattle.shfl_policy.specs.Loading.{IsLoaded}
 use Rattle.policy_text.specs.Attributes.{attr_line}
 use Rattle.policy_text.specs.Headings.{heading_lines}
 use Rattle.policy_text.specs.Programs.{IsProgramWord}
