@@ -1,28 +1,19 @@
 -- The words of a call are those of the act that is read of them.
-use Rattle.std.proofs.Common.{◌≡◌, ◌<◌, ◌≤◌, ◌^◌, ◌⊎◌, inl, inr, ℕ, ◌+◌, List, [], ◌∷◌, ◌++◌, length, map, Bool, true, false, cond, not, eqb, leb, ltb, ◌&&◌, ◌||◌, Option, Some, None, Result, Ok, Err, refl, sym, ap, ◌∙◌, subst, arith, length-append}
+use Rattle.std.proofs.Common.{◌≡◌, ◌<◌, ◌^◌, ◌⊎◌, inl, inr, ℕ, List, [], ◌∷◌, length, Bool, true, false, cond, leb, ltb, Option, Some, None, refl, sym, ap, ◌∙◌, subst, arith}
 use Rattle.std.specs.Prelude.{codes, min}
-use Rattle.std.specs.List.{flat_map, AllByRecursion}
+use Rattle.std.specs.List.{AllByRecursion}
 use Rattle.std.specs.Fmt.{decimal}
-use Rattle.std.proofs.lemmas.Bool.{and_parts, and_cases, and_from, or_parts, or_from, and_left, and_right, leb-false, lt-leb, ltb-true, not-false, not_from_true}
-use Rattle.std.proofs.lemmas.Bool.Decides.{nat_tests}
-use Rattle.doc_text.specs.declared.fault.Fault.{Fault}
-use Rattle.doc_text.specs.Text.{pieces, IsPlain, ended}
-use Rattle.doc_text.specs.Words.{words, spaced, same, is_word, one, two, four, HasNoBlank, ◌>>?◌}
+use Rattle.std.proofs.lemmas.Bool.{and_parts, ltb-true}
+use Rattle.doc_text.specs.Words.{same, is_word, one, two, four, ◌>>?◌}
 use Rattle.doc_text.specs.Numbers.{capped_in, is_decimal, value_on}
-use Rattle.doc_text.specs.Faults.{fault, ◌>>=◌, or_fault, fixed_due, lines_from}
 use Rattle.doc_text.proofs.Counting.{decimal-value, is_decimal-decimal}
-use Rattle.doc_text.proofs.Joining.{same-true, decimal-word}
-use Rattle.doc_text.proofs.Due.{bind-some, or_fault-some, fixed_due-some, fixed_due-ended}
-use Rattle.doc_text.proofs.Loops.{lines_from-joined}
-use Rattle.policy_text.proofs.Chains.{then-some, test-some, unless-ok, ok-same, some-same, one-some, two-some, four-some}
-use Rattle.policy_text.proofs.Parts.{IsPart, line-plain, line-words, text-spaced, words-parts}
-use Rattle.trace_text.specs.Document.{Act, make, drop_name, rename, find, count, next, attach, CallLine, PolicyLine}
-use Rattle.trace_text.specs.Lines.{dir_in, name_in, entry_in, rename_in, count_in, after_in, next_in, attach_in, act_in, call_in, is_entry, is_in_range, may_do, is_attach, attach_count, is_full}
-use Rattle.trace_text.specs.Grammar.{call_says, calls_in}
-use Rattle.trace_text.specs.Spelling.{act_words, call_line}
-use Rattle.trace_text.specs.Limits.{IsName, spelled_names, IsCall}
-use Rattle.trace_text.proofs.CallLoop.{all-push, attach_count-push, attach_count-at}
-use Rattle.trace_text.proofs.Sections.{lines_from-read, all-at}
+use Rattle.doc_text.proofs.Joining.{same-true}
+use Rattle.policy_text.proofs.Chains.{then-some, test-some, some-same, one-some, two-some, four-some}
+use Rattle.policy_text.proofs.Parts.{IsPart}
+use Rattle.trace_text.specs.Document.{Act, make, drop_name, rename, find, count, next, attach}
+use Rattle.trace_text.specs.Lines.{dir_in, name_in, entry_in, rename_in, count_in, after_in, next_in, attach_in, act_in, is_entry, is_in_range}
+use Rattle.trace_text.specs.Spelling.{act_words}
+use Rattle.trace_text.specs.Limits.{IsName, spelled_names}
 
 -- ---- directories and names
 
@@ -87,7 +78,7 @@ entry-act build word verb ws act spelled names ranges is_verb h parts ranged =
     let is : build e.0.0 e.0.1 ≡ act = some-same (build e.0.0 e.0.1) act e.2 in
     subst (λ (a : Act). is_in_range a ≡ true → Says (verb ∷ ws) a) is
     (λ r. (let s = entry-some ws e.0 e.1 parts (entry-range e.0.0 e.0.1 (sym (ranges e.0.0 e.0.1) ∙ r)) in
-        (front verb word ws (decimal e.0.0 ∷ e.0.1 ∷ []) is_verb s.0 ∙ sym (spelled e.0.0 e.0.1), subst (AllByRecursion IsName) (sym (names e.0.0 e.0.1)) (s.1, tt)))) ranged
+    (front verb word ws (decimal e.0.0 ∷ e.0.1 ∷ []) is_verb s.0 ∙ sym (spelled e.0.0 e.0.1), subst (AllByRecursion IsName) (sym (names e.0.0 e.0.1)) (s.1, tt)))) ranged
 
 rename-known : (ws : List (List ℕ)) (a b c d : List ℕ) (dir : ℕ) (name : List ℕ) (to_dir : ℕ) (to_name : List ℕ) → ws ≡ a ∷ b ∷ c ∷ d ∷ [] → AllByRecursion IsPart ws
     → capped_in 64 a ≡ Some dir → (is_word b ≡ true) × (b ≡ name) → capped_in 64 c ≡ Some to_dir → (is_word d ≡ true) × (d ≡ to_name) → is_in_range (rename dir name to_dir to_name) ≡ true
@@ -109,7 +100,7 @@ rename-act verb ws act is_verb h parts ranged =
     let is : rename d.0 n.0 td.0 tn.0 ≡ act = some-same (rename d.0 n.0 td.0 tn.0) act tn.2 in
     subst (λ (a : Act). is_in_range a ≡ true → Says (verb ∷ ws) a) is
     (λ r. (let s = rename-known ws w.0.0 w.0.1 w.0.2 w.0.3 d.0 n.0 td.0 tn.0 (four-some ws w.0 w.1) parts d.1 (name_in-some w.0.1 n.0 n.1) td.1 (name_in-some w.0.3 tn.0 tn.1) r in
-        (front verb (codes "rename") ws (decimal d.0 ∷ n.0 ∷ decimal td.0 ∷ tn.0 ∷ []) is_verb s.0, s.1))) ranged
+    (front verb (codes "rename") ws (decimal d.0 ∷ n.0 ∷ decimal td.0 ∷ tn.0 ∷ []) is_verb s.0, s.1))) ranged
 
 one-known : (ws : List (List ℕ)) (a b : List ℕ) → ws ≡ a ∷ [] → a ≡ b → ws ≡ b ∷ []
 one-known ws a b e f = e ∙ rw f refl
@@ -121,7 +112,7 @@ count-act verb ws act is_verb h ranged =
     let is : count d.0 ≡ act = some-same (count d.0) act d.2 in
     subst (λ (a : Act). is_in_range a ≡ true → Says (verb ∷ ws) a) is
     (λ r. (let number = capped-some 64 w.0 d.0 small d.1 (ltb-true d.0 64 r) in
-        (front verb (codes "count") ws (decimal d.0 ∷ []) is_verb (one-known ws w.0 (decimal d.0) (one-some ws w.0 w.1) number), tt))) ranged
+    (front verb (codes "count") ws (decimal d.0 ∷ []) is_verb (one-known ws w.0 (decimal d.0) (one-some ws w.0 w.1) number), tt))) ranged
 
 attach-act : (verb : List ℕ) (ws : List (List ℕ)) (act : Act) → verb ≡ codes "attach" → attach_in ws ≡ Some act → AllByRecursion IsPart ws → Says (verb ∷ ws) act
 attach-act verb ws act is_verb h parts =
