@@ -8,3 +8,4 @@ pub mod Run
 pub mod Traffic
 pub mod Ending
 pub mod Commands
+pub mod Outcomes

@@ -1,9 +1,12 @@
 //! The top call: words and bytes in, a status, a report and an error line out.
 ghost use Rattle.std.specs.Prelude.{◌≡◌, map, string_bytes, codes, Some, None};
-ghost use Rattle.syncord_app.specs.declared.commands.Command.TheVariants.{Line, Verify};
+ghost use Rattle.syncord_app.specs.declared.commands.Command.TheVariants.{Line, Verify, Replay, Bulk};
 ghost use Rattle.bpf_isa.specs.declared.insn.Profile.{Profile as ProfileValue};
 ghost use Rattle.syncord_endings.specs.Traffic.{traffic as handled};
 ghost use Rattle.syncord_verify.specs.Verdicts.{Verifies};
+ghost use Rattle.syncord_replay.specs.declared.words.BulkWords.{BulkWords as Numbers};
+ghost use Rattle.syncord_replay.specs.Replays.{Reports, Refuses};
+ghost use Rattle.syncord_app.specs.Outcomes.{Performs, SumsUp};
 ghost use Rattle.syncord_app.specs.Commands.{command_in};
 ghost use Rattle.syncord_app.specs.Traffic.{traffic, Told};
 ghost use Rattle.syncord_app.specs.Ending.{AnswersLine, ReportsSchedules};
@@ -15,6 +18,7 @@ use std::alloc::Global;
 use std::sync::Wait;
 use std::thread::Threads;
 use syn_outer::{Gate, Sink, Source};
+use syncord_replay::{BulkWords, run_bulk, run_replay};
 use syncord_verify::run_verify;
 
 /// Does what the words behind the program's name say, and answers the status.
@@ -50,10 +54,33 @@ pub fn syncord<Rt: Threads + Wait + Sync, R: Source, W: Sink, E: Sink, G: Gate +
         (handled (R.left src.old) (R.left src.new) (R.faults src.old) (R.faults src.new))
         (handled (W.held out.old) (W.held out.new) (W.faults out.old) (W.faults out.new))
         (handled (E.held err.old) (E.held err.new) (E.faults err.old) (E.faults err.new)) result }
+
+    // `replay` reports a trace, or ends otherwise with its cause.
+    ensures replay { command_in (map string_bytes words.now) ≡ Some Replay → Performs Reports Refuses
+        (handled (R.left src.old) (R.left src.new) (R.faults src.old) (R.faults src.new))
+        (handled (W.held out.old) (W.held out.new) (W.faults out.old) (W.faults out.new))
+        (handled (E.held err.old) (E.held err.new) (E.faults err.old) (E.faults err.new)) result }
+
+    // `bulk` sums up the trace that its numbers make, and reads nothing.
+    ensures bulk { (numbers : Numbers) →
+        command_in (map string_bytes words.now) ≡ Some (Bulk numbers) → SumsUp numbers
+        (handled (W.held out.old) (W.held out.new) (W.faults out.old) (W.faults out.new))
+        (handled (E.held err.old) (E.held err.new) (E.faults err.old) (E.faults err.new)) result }
+    ensures unread { (numbers : Numbers) →
+        command_in (map string_bytes words.now) ≡ Some (Bulk numbers) → src.new ≡ src.old }
 {
     match Command::of(words) {
         Some(Command::Line) => run_line(alloc, src, out, err),
         Some(Command::Verify { profile }) => run_verify(alloc, profile, src, out, err),
+        Some(Command::Replay) => run_replay(alloc, src, out, err),
+        Some(Command::Bulk(numbers)) => {
+            let BulkWords {
+                seed,
+                workers,
+                calls,
+            } = numbers;
+            run_bulk(alloc, seed, workers, calls, out, err)
+        }
         None => {
             tell(err, b"syncord: words\n");
             2
