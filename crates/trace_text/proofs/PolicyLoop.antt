@@ -6,7 +6,7 @@ use Rattle.doc_text.specs.declared.fault.Fault.{Fault}
 use Rattle.doc_text.specs.Text.{text_in}
 use Rattle.doc_text.specs.Faults.{fault, ◌>>=◌, or_fault}
 use Rattle.trace_text.specs.Document.{PolicyLine}
-use Rattle.trace_text.specs.Accepted.{AcceptsPolicy}
+use Rattle.policy_text.specs.Accepted.{AcceptsSource}
 use Rattle.trace_text.specs.declared.error.TraceError.{TraceError}
 use Rattle.trace_text.specs.declared.error.TraceError.TheVariants as errors
 use Rattle.trace_text.specs.Errors.{fault_of}
@@ -28,11 +28,11 @@ module _ (profile : Profile) (before : List PolicyLine) (line : ℕ) (ps qs : Li
   unfolding ReadsPolicies
   reads-end f g = rw (e, f, g) refl
 
-  pub reads-refused : (policy : PolicyLine) → text_in p ≡ Some t → policy_says before line t ≡ Ok (Some policy) → ¬ (AcceptsPolicy profile policy) → ReadsPolicies profile before line ps (fault line 9)
+  pub reads-refused : (policy : PolicyLine) → text_in p ≡ Some t → policy_says before line t ≡ Ok (Some policy) → ¬ (AcceptsSource profile policy.source) → ReadsPolicies profile before line ps (fault line 9)
   unfolding ReadsPolicies
   reads-refused policy f g refused = rw (e, f, g) (inr (refused, refl))
 
-  pub reads-more : (policy : PolicyLine) (read : Policies) → text_in p ≡ Some t → policy_says before line t ≡ Ok (Some policy) → AcceptsPolicy profile policy → ReadsPolicies profile (before ++ policy ∷ []) (line + 1) qs read → ReadsPolicies profile before line ps read
+  pub reads-more : (policy : PolicyLine) (read : Policies) → text_in p ≡ Some t → policy_says before line t ≡ Ok (Some policy) → AcceptsSource profile policy.source → ReadsPolicies profile (before ++ policy ∷ []) (line + 1) qs read → ReadsPolicies profile before line ps read
   unfolding ReadsPolicies
   reads-more policy read f g accepted more = rw (e, f, g) (inl (accepted, more))
 

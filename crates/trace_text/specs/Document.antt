@@ -2,6 +2,7 @@
 use Rattle.std.specs.Prelude.{ℕ, List, Option}
 use Rattle.shfl_line.specs.declared.words.Attr.{Attr}
 use Rattle.bpf_isa.specs.declared.insn.Profile.{Profile}
+use Rattle.shfl_policy.specs.Loading.{SourceModel}
 
 -- what a worker does: a call on the directory, or the attachment of a policy
 pub data Act : Type 0 where
@@ -21,8 +22,7 @@ pub record CallLine : Type 0 where
 -- a named policy, with a program for each of the two questions or none
 pub record PolicyLine : Type 0 where
   pub name : List ℕ
-  pub should : Option (List ℕ)
-  pub skip : Option (List ℕ)
+  pub source : SourceModel
 
 pub record Document : Type 0 where
   pub version : ℕ

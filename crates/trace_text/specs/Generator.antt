@@ -75,8 +75,8 @@ same_socket =
 
 abbrev pub generated_policies : List PolicyLine
 generated_policies =
-    record { name = codes "socket"; should = Some same_socket; skip = None }
-    ∷ record { name = codes "none"; should = None; skip = None } ∷ []
+    record { name = codes "socket"; source = record { should = Some same_socket; skip = None } }
+    ∷ record { name = codes "none"; source = record { should = None; skip = None } } ∷ []
 
 abbrev pub generated : ℕ → ℕ → ℕ → Document
 generated seed workers calls = record {

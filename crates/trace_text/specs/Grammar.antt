@@ -2,32 +2,15 @@
 use Rattle.std.specs.Prelude.{◌≡◌, ℕ, ◌+◌, List, [], ◌∷◌, ◌++◌, length, Bool, not, Option, Some, None, Result, Ok, Err, nat_le, ◌==◌, if◌then◌else◌, codes, MatchOption}
 use Rattle.shfl_line.specs.declared.words.Attr.{Attr}
 use Rattle.bpf_isa.specs.declared.insn.Profile.{Profile}
-use Rattle.bpf_isa.specs.declared.insn.Profile.TheVariants as profile
 use Rattle.doc_text.specs.declared.fault.Fault.{Fault}
 use Rattle.doc_text.specs.Text.{pieces, text_in}
 use Rattle.doc_text.specs.Words.{words, same}
-use Rattle.doc_text.specs.Faults.{fault, ◌>>=◌, or_fault, line_due, one_of, fixed_due, lines_from, section_from}
+use Rattle.doc_text.specs.Faults.{fault, ◌>>=◌, or_fault, fixed_due, lines_from, section_from}
 use Rattle.trace_text.specs.Document.{CallLine, PolicyLine, Document}
-use Rattle.trace_text.specs.Accepted.{Judged}
-use Rattle.trace_text.specs.Lines.{profile_in, attr_in, begins, policy_in, programs_in, is_declared, call_in, is_in_range, may_do, is_full}
-
--- ---- the first line, and in version 2 the profile line
-
--- the version and the profile, and the pieces behind them
-pub record Heading : Type 0 where
-  pub version : ℕ
-  pub profile : Profile
-  pub rest : List (List ℕ)
-
-abbrev pub heading : ℕ → Profile → List (List ℕ) → Heading
-heading version profile rest = record { version = version; profile = profile; rest = rest }
-
--- version 1 has no profile line, and profile 1; in version 2 a bad or missing profile line is fault 15
-unfoldable pub heading_in : List (List ℕ) → Result Heading Fault
-heading_in ps = line_due 1 2 ps >>= λ first.
-    if same first.0 (codes "syncord-trace 1") then Ok (heading 1 profile.One first.1)
-    else if same first.0 (codes "syncord-trace 2") then (one_of 2 15 profile_in first.1 >>= λ second. Ok (heading 2 second.0 second.1))
-    else fault 1 2
+use Rattle.policy_text.specs.Attributes.{attr_in}
+use Rattle.policy_text.specs.Headings.{heading_in}
+use Rattle.policy_text.specs.Accepted.{Judged}
+use Rattle.trace_text.specs.Lines.{begins, policy_in, programs_in, is_declared, call_in, is_in_range, may_do, is_full}
 
 -- ---- the workers
 
@@ -35,7 +18,7 @@ heading_in ps = line_due 1 2 ps >>= λ first.
 -- A bad worker line is fault 3, and one more than 16 is fault 4.
 unfoldable pub worker_says : List Attr → ℕ → List ℕ → Result (Option Attr) Fault
 worker_says before line text =
-    if begins (codes "worker") (words text) then (or_fault line 3 (attr_in (words text)) >>= λ attr. if nat_le 16 (length before) then fault line 4 else Ok (Some attr))
+    if begins (codes "worker") (words text) then (or_fault line 3 (attr_in (codes "worker") (words text)) >>= λ attr. if nat_le 16 (length before) then fault line 4 else Ok (Some attr))
     else if length before == 0 then fault line 3 else Ok None
 
 -- behind the workers a policy line is due, which is fault 5
@@ -68,7 +51,7 @@ unfoldable pub ReadsPolicies : Profile → List PolicyLine → ℕ → List (Lis
 ReadsPolicies profile before line [] read = read ≡ fault line 5
 ReadsPolicies profile before line (p ∷ ps) read =
     Then (or_fault line 1 (text_in p) >>= policy_says before line)
-    (λ o read. MatchOption o (read ≡ Ok (before, p ∷ ps)) (λ policy. Judged profile policy (ReadsPolicies profile (before ++ policy ∷ []) (line + 1) ps read) (read ≡ fault line 9)))
+    (λ o read. MatchOption o (read ≡ Ok (before, p ∷ ps)) (λ policy. Judged profile policy.source (ReadsPolicies profile (before ++ policy ∷ []) (line + 1) ps read) (read ≡ fault line 9)))
     read
 
 -- ---- the calls
@@ -98,7 +81,7 @@ pub record Front : Type 0 where
   pub rest : List (List ℕ)
 
 unfoldable pub front_in : List (List ℕ) → Result Front Fault
-front_in ps = heading_in ps >>= λ h. workers_in (h.version + 1) h.rest >>= λ w. Ok (record { version = h.version; profile = h.profile; workers = w.0; rest = w.1 })
+front_in ps = heading_in (codes "syncord-trace") 15 ps >>= λ h. workers_in (h.version + 1) h.rest >>= λ w. Ok (record { version = h.version; profile = h.profile; workers = w.0; rest = w.1 })
 
 -- the line where the policies begin
 abbrev pub policies_line : Front → ℕ

@@ -1,5 +1,4 @@
 pub mod Document
-pub mod Accepted
 pub mod Lines
 pub mod Grammar
 pub mod Spelling

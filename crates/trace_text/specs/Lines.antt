@@ -1,23 +1,10 @@
 -- What one line of a trace says.
 use Rattle.std.specs.Prelude.{◌≡◌, ℕ, ◌+◌, List, [], ◌∷◌, length, Bool, true, false, ◌&&◌, ◌||◌, not, Option, Some, None, Result, Ok, Err, nat_le, nat_lt, ◌==◌, if◌then◌else◌, codes}
 use Rattle.std.specs.List.{list_all, list_any, count_by}
-use Rattle.shfl_line.specs.declared.words.Attr.{Attr}
-use Rattle.bpf_isa.specs.declared.insn.Profile.{Profile}
-use Rattle.bpf_isa.specs.declared.insn.Profile.TheVariants as profile
-use Rattle.doc_text.specs.Words.{words, is_word, same, one, two, four, five, ◌>>?◌}
-use Rattle.doc_text.specs.Numbers.{number_in, capped_in}
-use Rattle.doc_text.specs.Digits.{bytes_in}
+use Rattle.doc_text.specs.Words.{words, is_word, same, one, two, four, ◌>>?◌}
+use Rattle.doc_text.specs.Numbers.{capped_in}
+use Rattle.policy_text.specs.Programs.{source_in}
 use Rattle.trace_text.specs.Document.{Act, make, drop_name, rename, find, count, next, attach, CallLine, PolicyLine}
-
--- `profile 1` or `profile 2`
-abbrev pub profile_in : List (List ℕ) → Option Profile
-profile_in ws = two ws >>? λ w. if same w.0 (codes "profile") then (if same w.1 (codes "1") then Some profile.One else if same w.1 (codes "2") then Some profile.Two else None) else None
-
--- `worker SOCKET PRIO CLASS KIND`, each number at most 65535
-abbrev pub attr_in : List (List ℕ) → Option Attr
-attr_in ws = five ws >>? λ w. if same w.0 (codes "worker") then
-    (number_in 65535 w.1 >>? λ socket. number_in 65535 w.2 >>? λ prio. number_in 65535 w.3 >>? λ class. number_in 65535 w.4 >>? λ kind.
-    Some (record { socket = socket; prio = prio; class = class; kind = kind })) else None
 
 -- the line begins with this word
 abbrev pub begins : List ℕ → List (List ℕ) → Bool
@@ -42,13 +29,9 @@ pub record PolicyWords : Type 0 where
 abbrev pub policy_in : List (List ℕ) → Option PolicyWords
 policy_in ws = four ws >>? λ w. if same w.0 (codes "policy") && is_policy_name w.1 && is_word w.2 && is_word w.3 then Some (record { name = w.1; should = w.2; skip = w.3 }) else None
 
--- `-` for no program, else its bytes in hexadecimal digits
-abbrev pub program_in : List ℕ → Option (Option (List ℕ))
-program_in word = if same word (codes "-") then Some None else bytes_in word >>? λ bytes. Some (Some bytes)
-
--- both programs
+-- the name and both programs
 abbrev pub programs_in : PolicyWords → Option PolicyLine
-programs_in p = program_in p.should >>? λ should. program_in p.skip >>? λ skip. Some (record { name = p.name; should = should; skip = skip })
+programs_in p = source_in p.should p.skip >>? λ source. Some (record { name = p.name; source = source })
 
 -- some policy has this name
 abbrev pub is_declared : List PolicyLine → List ℕ → Bool

@@ -12,7 +12,8 @@ use Rattle.doc_text.specs.Text.{ended}
 use Rattle.doc_text.specs.Words.{spaced}
 use Rattle.trace_text.specs.Document.{CallLine}
 use Rattle.trace_text.specs.Lines.{attach_count}
-use Rattle.trace_text.specs.Spelling.{profile_word, act_words}
+use Rattle.policy_text.specs.Headings.{version_words}
+use Rattle.trace_text.specs.Spelling.{act_words}
 use Rattle.trace_text.specs.Traces.{name_at, dir_act}
 
 -- what an entry of a history is, whatever the object's type
@@ -44,10 +45,6 @@ row_line names row = spaced (decimal row.0.0 ∷ name_at names row.0.1 ∷ decim
 -- `VERSION NAME`
 abbrev pub attach_line : List (List ℕ) → ℕ × ℕ → List ℕ
 attach_line policies attached = spaced (decimal attached.0 ∷ name_at policies attached.1 ∷ [])
-
--- the version, and in version 2 the profile
-abbrev pub version_words : ℕ → Profile → List (List ℕ)
-version_words version profile = if version == 1 then codes "1" ∷ [] else codes "2" ∷ codes "profile" ∷ profile_word profile ∷ []
 
 abbrev pub report_heading : ℕ → Profile → ℕ → ℕ → List ℕ
 report_heading version profile workers entries = spaced (codes "syncord-replay" ∷ version_words version profile ++ codes "workers" ∷ decimal workers ∷ codes "entries" ∷ decimal entries ∷ [])

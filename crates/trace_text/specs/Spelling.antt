@@ -3,31 +3,18 @@ use Rattle.std.specs.Prelude.{◌≡◌, ◌<◌, ◌≤◌, ℕ, List, [], ◌�
 use Rattle.std.specs.List.{flat_map}
 use Rattle.std.specs.Fmt.{decimal}
 use Rattle.shfl_line.specs.declared.words.Attr.{Attr}
-use Rattle.bpf_isa.specs.declared.insn.Profile.{Profile}
-use Rattle.bpf_isa.specs.declared.insn.Profile.TheVariants as profile
-use Rattle.hex.specs.Hex.{encode_lower}
 use Rattle.doc_text.specs.Text.{ended}
 use Rattle.doc_text.specs.Words.{spaced}
+use Rattle.policy_text.specs.Attributes.{attr_line}
+use Rattle.policy_text.specs.Headings.{heading_lines}
+use Rattle.policy_text.specs.Programs.{program_word}
 use Rattle.trace_text.specs.Document.{Act, make, drop_name, rename, find, count, next, attach, CallLine, PolicyLine, Document}
 
-abbrev pub profile_word : Profile → List ℕ
-profile_word profile.One = codes "1"
-profile_word profile.Two = codes "2"
-
--- the first line, and in version 2 the profile line
-abbrev pub heading_lines : ℕ → Profile → List (List ℕ)
-heading_lines version profile = if version == 1 then codes "syncord-trace 1" ∷ [] else codes "syncord-trace 2" ∷ spaced (codes "profile" ∷ profile_word profile ∷ []) ∷ []
-
 abbrev pub worker_line : Attr → List ℕ
-worker_line a = spaced (codes "worker" ∷ decimal a.socket ∷ decimal a.prio ∷ decimal a.class ∷ decimal a.kind ∷ [])
-
--- digits in lower case
-abbrev pub program_word : Option (List ℕ) → List ℕ
-program_word None = codes "-"
-program_word (Some program) = encode_lower program
+worker_line a = attr_line (codes "worker") a
 
 abbrev pub policy_line : PolicyLine → List ℕ
-policy_line p = spaced (codes "policy" ∷ p.name ∷ program_word p.should ∷ program_word p.skip ∷ [])
+policy_line p = spaced (codes "policy" ∷ p.name ∷ program_word p.source.should ∷ program_word p.source.skip ∷ [])
 
 abbrev pub act_words : Act → List (List ℕ)
 act_words (make dir name) = codes "make" ∷ decimal dir ∷ name ∷ []
@@ -43,13 +30,8 @@ abbrev pub call_line : CallLine → List ℕ
 call_line c = spaced (decimal c.worker ∷ act_words c.act)
 
 abbrev pub trace_lines : Document → List (List ℕ)
-trace_lines d = heading_lines d.version d.profile ++ map worker_line d.workers ++ map policy_line d.policies ++ codes "calls" ∷ map call_line d.calls
+trace_lines d = heading_lines (codes "syncord-trace") d.version d.profile ++ map worker_line d.workers ++ map policy_line d.policies ++ codes "calls" ∷ map call_line d.calls
 
 -- the one text of a trace
 abbrev pub spelling : Document → List ℕ
 spelling d = flat_map ended (trace_lines d)
-
--- words each behind a blank
-abbrev pub blanked : List (List ℕ) → List ℕ
-blanked [] = []
-blanked (w ∷ ws) = (32 ∷ w) ++ blanked ws

@@ -14,7 +14,7 @@ use Rattle.trace_text.specs.Document.{Act, make, drop_name, rename, find, count,
 
 -- a declared policy
 abbrev pub policy_of : NamedSource → PolicyLine
-policy_of p = record { name = p.name.items; should = p.source.should; skip = p.source.skip }
+policy_of p = record { name = p.name.items; source = p.source }
 
 -- the bytes of a name
 abbrev pub name_at : List (List ℕ) → ℕ → List ℕ

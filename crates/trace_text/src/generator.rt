@@ -5,12 +5,12 @@ ghost use Rattle.trace_text.specs.Names.{AreRisingBy, SameMembers};
 ghost use Rattle.trace_text.specs.Spelled.{call_names, call_said, act_said};
 ghost use Rattle.trace_text.specs.Traces.{document_of, names_of, policy_of, name_at, IsWithin};
 
-use crate::error::NoMemory;
 use crate::names::distinct;
 use crate::numbering::{names_in, numbered};
 use crate::spelled::{SpelledAct, SpelledCall};
 use crate::trace::{NamedSource, Trace};
 use bpf_isa::Profile;
+use policy_text::NoMemory;
 use shfl_line::Attr;
 use shfl_policy::PolicySource;
 use std::alloc::Global;

@@ -1,13 +1,11 @@
 //! Traces of calls on the directory: read, written, made, and reported.
 #![tactic(auto)]
 
-mod acceptance;
 mod calls;
 mod error;
 #[cfg(test)]
 mod generated_tests;
 mod generator;
-mod heading;
 mod names;
 mod numbering;
 mod policies;
@@ -22,8 +20,9 @@ mod words;
 mod workers;
 mod write;
 
-pub use error::{NoMemory, TraceError};
+pub use error::TraceError;
 pub use generator::generate;
+pub use policy_text::NoMemory;
 pub use read::read_trace;
 pub use reports::{render, summary};
 pub use trace::{NamedSource, Trace, TraceAct, TraceCall};

@@ -5,7 +5,7 @@ ghost use Rattle.std.specs.Ordering.{nat_cmp};
 ghost use Rattle.std.specs.Cmp.Lexicographic.{slice_cmp};
 ghost use Rattle.trace_text.specs.Names.{AreRisingBy, EndsWith, SameMembers};
 
-use crate::error::NoMemory;
+use policy_text::NoMemory;
 use std::alloc::Global;
 use std::cmp::Ordering;
 

@@ -6,12 +6,12 @@ ghost use Rattle.trace_text.specs.Spelled.{act_said, call_said, MayBe, act_names
 ghost use Rattle.trace_text.specs.Traces.{policy_of, name_at, dir_act, act_of, call_of, IsActOf, IsCallOf};
 ghost use Rattle.dir_table.specs.Meanings.{IsAdmitted};
 
-use crate::error::NoMemory;
 use crate::names::place_of;
 use crate::spelled::{SpelledAct, SpelledCall};
 use crate::trace::{NamedSource, TraceAct, TraceCall};
 use dir_table::DirCall;
 use doc_text::is_same;
+use policy_text::NoMemory;
 use std::alloc::Global;
 
 fn push_names<'a>(names: &mut Vec<&'a [u8]>, act: &SpelledAct<'a>) -> Result<(), NoMemory>

@@ -3,16 +3,15 @@ ghost use Rattle.doc_text.specs.Text.{pieces};
 ghost use Rattle.doc_text.specs.Words.{words};
 ghost use Rattle.doc_text.specs.Faults.{GivesOrWants};
 ghost use Rattle.trace_text.specs.Errors.{fault_of, Allows};
-ghost use Rattle.trace_text.specs.Lines.{is_name_byte, is_policy_name, policy_in, program_in, is_declared};
+ghost use Rattle.trace_text.specs.Lines.{is_name_byte, is_policy_name, policy_in, is_declared};
 ghost use Rattle.trace_text.specs.Grammar.{policy_says, ReadsPolicies};
 ghost use Rattle.trace_text.specs.Traces.{policy_of};
 
-use crate::acceptance::accepts;
-use crate::error::{NoMemory, TraceError};
+use crate::error::TraceError;
 use crate::trace::NamedSource;
 use bpf_isa::Profile;
-use doc_text::{four_words, hex_bytes, is_same, piece_at, text_of};
-use shfl_policy::PolicySource;
+use doc_text::{four_words, is_same, piece_at, text_of};
+use policy_text::{accepts, source_of};
 use std::alloc::Global;
 
 fn is_name_byte(byte: u8) -> bool
@@ -45,18 +44,6 @@ fn policy_words(text: &[u8]) -> Option<(&[u8], &[u8], &[u8])>
         Some((name, should, skip))
     } else {
         None
-    }
-}
-
-fn program_of(alloc: Global, word: &[u8]) -> Result<Option<Option<Vec<u8>>>, NoMemory>
-    ensures { IfOk result (λ o. option_map (option_map (λ v. v.items)) o ≡ program_in word.now) }
-{
-    if is_same(word, b"-") {
-        return Ok(Some(None));
-    }
-    match hex_bytes(alloc, word)? {
-        Some(bytes) => Ok(Some(Some(bytes))),
-        None => Ok(None),
     }
 }
 
@@ -100,14 +87,10 @@ fn policy_says(
     if is_declared(before, name) {
         return Err(TraceError::Format { line, what: 7 });
     }
-    let Some(should) = program_of(alloc, should)? else {
-        return Err(TraceError::Format { line, what: 8 });
-    };
-    let Some(skip) = program_of(alloc, skip)? else {
+    let Some(source) = source_of(alloc, should, skip)? else {
         return Err(TraceError::Format { line, what: 8 });
     };
     let name = Vec::from_slice(alloc, name)?;
-    let source = PolicySource { should, skip };
     Ok(Some(NamedSource { name, source }))
 }
 
@@ -135,7 +118,7 @@ pub fn policies_of(
         let Some(policy) = policy_says(alloc, policies.as_slice(), line, text)? else {
             return Ok((policies, rest));
         };
-        if !accepts(alloc, profile, &policy)? {
+        if !accepts(alloc, profile, &policy.source)? {
             return Err(TraceError::Format { line, what: 9 });
         }
         policies.push(policy)?;

@@ -8,12 +8,12 @@ ghost use Rattle.trace_text.specs.Traces.{document_of, names_of, IsWithin};
 
 use crate::calls::calls_of;
 use crate::error::TraceError;
-use crate::heading::heading_of;
 use crate::names::distinct;
 use crate::numbering::{names_in, numbered};
 use crate::policies::policies_of;
 use crate::trace::Trace;
 use crate::workers::workers_of;
+use policy_text::heading_of;
 use std::alloc::Global;
 
 /// Reads a trace, or names the first bad line and the lowest fault on it.
@@ -24,7 +24,7 @@ pub fn read_trace(alloc: Global, bytes: &[u8]) -> Result<Trace, TraceError>
     ensures within { IfOk result IsWithin }
     ensures named { IfOk result (λ t. SameMembers (call_names (document_of t).calls) (names_of t)) }
 {
-    let (version, profile, rest) = heading_of(bytes)?;
+    let (version, profile, rest) = heading_of(b"syncord-trace", 15, bytes)?;
     let line = u32::from(version) + 1;
     let (workers, rest) = workers_of(alloc, rest, line)?;
     let line = line + workers.len() as u32;

@@ -2,22 +2,21 @@ ghost use Rattle.std.specs.Prelude.{◌≡◌, ◌+◌, ◌^◌, ◌<◌, ◌∷
 ghost use Rattle.std.specs.List.{flat_map};
 ghost use Rattle.doc_text.specs.Text.{ended};
 ghost use Rattle.dir_table.specs.Names.{entry_of};
-ghost use Rattle.trace_text.specs.Spelling.{blanked};
-ghost use Rattle.trace_text.specs.Report.{report, done_of, entry_line, row_line, attach_line, version_words, report_heading, counted_line, kind_of, count_of, totals_line, changes_text, looks_text, kinds_line, bulk_report};
+ghost use Rattle.trace_text.specs.Report.{report, done_of, entry_line, row_line, attach_line, report_heading, counted_line, kind_of, count_of, totals_line, changes_text, looks_text, kinds_line, bulk_report};
 ghost use Rattle.trace_text.specs.Reported.{replay_of, bulk_of, attachments};
 ghost use Rattle.trace_text.specs.Traces.{is_attachment};
 
-use crate::error::NoMemory;
 use crate::trace::{NamedSource, Trace, TraceAct};
-use crate::words::{name_at, push_call, push_number, push_reply, push_word};
+use crate::words::{name_at, push_call, push_reply};
 use crate::write::policy_name;
 use bpf_isa::Profile;
 use dir_table::{Dir, DirReply, DirRow};
 use doc_text::{push_decimal, push_line};
 use hist_log::Entry;
+use policy_text::{NoMemory, push_number, push_version, push_word};
 use std::alloc::Global;
 
-#[tactic(auto, using(crate::proofs::Written::line_rules))]
+#[tactic(auto, using(policy_text::proofs::Written::line_rules))]
 fn push_entry(out: &mut Vec<u8>, names: &[Vec<u8>], entry: &Entry<Dir>) -> Result<(), NoMemory>
     ensures { OnOk result (out.new.items
         ≡ out.old.items ++ ended (entry_line (map (λ n. n.items) names.now) (done_of entry.now))) }
@@ -30,7 +29,7 @@ fn push_entry(out: &mut Vec<u8>, names: &[Vec<u8>], entry: &Entry<Dir>) -> Resul
     Ok(())
 }
 
-#[tactic(auto, using(crate::proofs::Written::joined_rules))]
+#[tactic(auto, using(policy_text::proofs::Written::joined_rules))]
 fn push_row(out: &mut Vec<u8>, names: &[Vec<u8>], row: &DirRow) -> Result<(), NoMemory>
     ensures { OnOk result (out.new.items
         ≡ out.old.items ++ ended (row_line (map (λ n. n.items) names.now) (entry_of row.now))) }
@@ -42,7 +41,7 @@ fn push_row(out: &mut Vec<u8>, names: &[Vec<u8>], row: &DirRow) -> Result<(), No
     Ok(())
 }
 
-#[tactic(auto, using(crate::proofs::Written::joined_rules))]
+#[tactic(auto, using(policy_text::proofs::Written::joined_rules))]
 fn push_attach(
     out: &mut Vec<u8>,
     policies: &[NamedSource],
@@ -57,7 +56,7 @@ fn push_attach(
     Ok(())
 }
 
-#[tactic(auto, using(crate::proofs::Written::joined_rules))]
+#[tactic(auto, using(policy_text::proofs::Written::joined_rules))]
 fn push_counted(out: &mut Vec<u8>, word: &[u8], n: usize) -> Result<(), NoMemory>
     ensures { OnOk result (out.new.items ≡ out.old.items ++ ended (counted_line word.now n)) }
 {
@@ -67,22 +66,7 @@ fn push_counted(out: &mut Vec<u8>, word: &[u8], n: usize) -> Result<(), NoMemory
     Ok(())
 }
 
-#[tactic(auto, using(crate::proofs::Written::joined_rules))]
-fn push_version(out: &mut Vec<u8>, version: u8, profile: Profile) -> Result<(), NoMemory>
-    ensures { OnOk result (out.new.items ≡ out.old.items ++ blanked (version_words version profile)) }
-{
-    if version == 1 {
-        return push_word(out, b"1");
-    }
-    push_word(out, b"2")?;
-    push_word(out, b"profile")?;
-    match profile {
-        Profile::One => push_word(out, b"1"),
-        Profile::Two => push_word(out, b"2"),
-    }
-}
-
-#[tactic(auto, using(crate::proofs::Written::line_rules))]
+#[tactic(auto, using(policy_text::proofs::Written::line_rules))]
 fn push_heading(
     out: &mut Vec<u8>,
     version: u8,
@@ -142,7 +126,7 @@ fn push_attaches(
 }
 
 /// The report of a replay: its history, the names at the end, and the attachments, each with its version and policy.
-#[tactic(auto, using(crate::proofs::Written::text_rules))]
+#[tactic(auto, using(policy_text::proofs::Written::text_rules))]
 pub fn render(
     alloc: Global,
     trace: &Trace,
@@ -216,7 +200,7 @@ fn attachments(trace: &Trace) -> usize
     count
 }
 
-#[tactic(auto, using(crate::proofs::Written::joined_rules))]
+#[tactic(auto, using(policy_text::proofs::Written::joined_rules))]
 fn push_pair(out: &mut Vec<u8>, word: &[u8], n: u64) -> Result<(), NoMemory>
     ensures { OnOk result (out.new.items
         ≡ out.old.items ++ ((32 ∷ word.now) ++ (32 ∷ decimal n))) }
@@ -225,7 +209,7 @@ fn push_pair(out: &mut Vec<u8>, word: &[u8], n: u64) -> Result<(), NoMemory>
     push_number(out, n)
 }
 
-#[tactic(auto, using(crate::proofs::Written::joined_rules))]
+#[tactic(auto, using(policy_text::proofs::Written::joined_rules))]
 fn push_totals(
     out: &mut Vec<u8>,
     seed: u64,
@@ -245,7 +229,7 @@ fn push_totals(
     Ok(())
 }
 
-#[tactic(auto, using(crate::proofs::Written::joined_rules))]
+#[tactic(auto, using(policy_text::proofs::Written::joined_rules))]
 fn push_changes(out: &mut Vec<u8>, history: &[Entry<Dir>]) -> Result<(), NoMemory>
     ensures { OnOk result (out.new.items
         ≡ out.old.items ++ changes_text (map (λ e. e.reply) history.now)) }
@@ -257,7 +241,7 @@ fn push_changes(out: &mut Vec<u8>, history: &[Entry<Dir>]) -> Result<(), NoMemor
     push_pair(out, b"absent", count_of(3, history) as u64)
 }
 
-#[tactic(auto, using(crate::proofs::Written::joined_rules))]
+#[tactic(auto, using(policy_text::proofs::Written::joined_rules))]
 fn push_looks(out: &mut Vec<u8>, history: &[Entry<Dir>]) -> Result<(), NoMemory>
     ensures { OnOk result (out.new.items
         ≡ out.old.items ++ looks_text (map (λ e. e.reply) history.now)) }
@@ -267,7 +251,7 @@ fn push_looks(out: &mut Vec<u8>, history: &[Entry<Dir>]) -> Result<(), NoMemory>
     push_pair(out, b"end", count_of(6, history) as u64)
 }
 
-#[tactic(auto, using(crate::proofs::Written::joined_rules))]
+#[tactic(auto, using(policy_text::proofs::Written::joined_rules))]
 fn push_kinds(out: &mut Vec<u8>, history: &[Entry<Dir>]) -> Result<(), NoMemory>
     ensures { OnOk result (out.new.items
         ≡ out.old.items ++ ended (kinds_line (map (λ e. e.reply) history.now))) }
@@ -280,7 +264,7 @@ fn push_kinds(out: &mut Vec<u8>, history: &[Entry<Dir>]) -> Result<(), NoMemory>
 
 /// The summary of a bulk run: the seed, how many calls and attachments there were, how many replies of each kind, and how many
 /// names are left.
-#[tactic(auto, using(crate::proofs::Written::text_rules))]
+#[tactic(auto, using(policy_text::proofs::Written::text_rules))]
 pub fn summary(
     alloc: Global,
     seed: u64,

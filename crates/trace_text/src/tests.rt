@@ -1,3 +1,4 @@
+//! Documents as bytes: read, written back, refused by their first bad line, and reported.
 use super::*;
 use bpf_isa::Profile;
 use dir_table::{Dir, DirCall, DirReply};
@@ -7,6 +8,30 @@ use std::test::Fail;
 const SERIAL: &[u8; 172] =
     b"syncord-trace 1\nworker 0 0 0 0\npolicy none - -\ncalls\n0 make 0 a\n0 make 0 a\n0 rename 0 a 0 a\n0 make 1 b\n0 rename 0 a 1 b\n0 find 1 b\n0 find 0 a\n0 count 1\n0 next 1\n0 next 1 b\n";
 
+const SECOND: &[u8; 68] =
+    b"syncord-trace 2\nprofile 2\nworker 0 0 0 0\npolicy p - -\ncalls\n0 attach p\n";
+
+const ONE_WORKER: &[u8; 31] = b"syncord-trace 1\nworker 0 0 0 0\n";
+
+const NO_CALLS: &[u8; 53] = b"syncord-trace 1\nworker 0 0 0 0\npolicy none - -\ncalls\n";
+
+const FOUR_WORKERS: &[u8; 206] =
+    b"syncord-trace 1\nworker 0 0 0 0\nworker 0 0 0 0\nworker 1 0 0 0\nworker 1 0 0 0\npolicy socket 61120000000000006111040000000000b7000000010000001d21010000000000b7000000000000009500000000000000 -\npolicy none - -\ncalls\n";
+
+// What each worker does in turn, with its number for W.
+const ROUND: [&[u8]; 10] = [
+    b"W make 5 job-W\n",
+    b"W make 5 shared\n",
+    b"W find 5 shared\n",
+    b"W rename 5 job-W 6 job-W\n",
+    b"W count 6\n",
+    b"W find 6 job-W\n",
+    b"W drop 5 shared\n",
+    b"W next 6\n",
+    b"W make 7 log-W\n",
+    b"W count 7\n",
+];
+
 fn fault(rt: &HostRuntime, bytes: &[u8]) -> Option<(u32, u8)> {
     match read_trace(rt.alloc(), bytes) {
         Ok(_) => None,
@@ -15,84 +40,148 @@ fn fault(rt: &HostRuntime, bytes: &[u8]) -> Option<(u32, u8)> {
     }
 }
 
+// The bytes, and then the line so many times.
+fn repeated(
+    rt: &HostRuntime,
+    front: &[u8],
+    line: &[u8],
+    times: u32,
+) -> Result<Vec<u8>, NoMemory> {
+    let mut text = Vec::from_slice(rt.alloc(), front)?;
+    for _ in 0..times {
+        text.extend_from_slice(line)?;
+    }
+    Ok(text)
+}
+
+fn push_line_of(text: &mut Vec<u8>, line: &[u8], worker: u8) -> Result<(), NoMemory> {
+    for byte in line {
+        let byte = if *byte == b'W' { worker } else { *byte };
+        text.push(byte)?;
+    }
+    Ok(())
+}
+
+// Four workers on two sockets, with two attachments among the first worker's calls.
+fn four_workers(rt: &HostRuntime) -> Result<Vec<u8>, NoMemory> {
+    let mut text = Vec::from_slice(rt.alloc(), FOUR_WORKERS)?;
+    for worker in [b'0', b'1', b'2', b'3'] {
+        for (i, line) in ROUND.iter().enumerate() {
+            push_line_of(&mut text, line, worker)?;
+            if worker == b'0' && i == 2 {
+                text.extend_from_slice(b"0 attach none\n")?;
+            }
+            if worker == b'0' && i == 6 {
+                text.extend_from_slice(b"0 attach socket\n")?;
+            }
+        }
+    }
+    Ok(text)
+}
+
 #[test]
 fn a_trace_is_read_and_written_back(rt: HostRuntime) -> Result<(), Fail> {
     let alloc = rt.alloc();
-    let trace = read_trace(alloc, SERIAL)?;
-    assert_eq!(rt; trace.version, 1);
-    assert_eq!(rt; trace.calls.len(), 10);
-    assert_eq!(rt; trace.names.len(), 2);
-    let text = write_trace(alloc, &trace)?;
-    assert_eq!(rt; text.as_slice(), SERIAL.as_slice());
-    let second = b"syncord-trace 2\nprofile 2\nworker 0 0 0 0\npolicy p - 9500\ncalls\n";
-    assert_eq!(rt; fault(&rt, second), Some((4, 9)));
-    let second = b"syncord-trace 2\nprofile 2\nworker 0 0 0 0\npolicy p - -\ncalls\n0 attach p\n";
-    let trace = read_trace(alloc, second)?;
-    assert_eq!(rt; trace.profile, Profile::Two);
-    let text = write_trace(alloc, &trace)?;
-    assert_eq!(rt; text.as_slice(), second.as_slice());
+    let mut four = four_workers(&rt)?;
+    let cases: [(&[u8], u8, Profile, usize, usize, usize); 3] = [
+        (SERIAL, 1, Profile::One, 1, 2, 10),
+        (SECOND, 2, Profile::Two, 1, 0, 1),
+        (four.as_slice(), 1, Profile::One, 4, 9, 42),
+    ];
+    for (bytes, version, profile, workers, names, calls) in cases {
+        let trace = read_trace(alloc, bytes)?;
+        assert_eq!(rt; trace.version, version);
+        assert_eq!(rt; trace.profile, profile);
+        assert_eq!(rt; trace.workers.len(), workers);
+        assert_eq!(rt; trace.names.len(), names);
+        assert_eq!(rt; trace.calls.len(), calls);
+        let text = write_trace(alloc, &trace)?;
+        assert_eq!(rt; text.as_slice(), bytes);
+    }
+    four.extend_from_slice(b"2 attach none\n")?;
+    assert_eq!(rt; fault(&rt, four.as_slice()), Some((51, 13)));
     Ok(())
 }
 
 #[test]
 fn the_first_bad_line_has_its_lowest_fault(rt: HostRuntime) {
-    assert_eq!(rt; fault(&rt, b""), Some((1, 2)));
-    assert_eq!(rt; fault(&rt, b"syncord-trace 1"), Some((1, 1)));
-    assert_eq!(rt; fault(&rt, b"syncord-trace 3\n"), Some((1, 2)));
-    assert_eq!(rt; fault(&rt, b"syncord-trace 2\n"), Some((2, 15)));
-    assert_eq!(rt; fault(&rt, b"syncord-trace 2\nprofile 3\n"), Some((2, 15)));
-    assert_eq!(rt; fault(&rt, b"syncord-trace 1\n"), Some((2, 3)));
-    assert_eq!(rt;
-        fault(&rt, b"syncord-trace 1\nworker 0 0 0 65536\n"),
-        Some((2, 3))
-    );
-    assert_eq!(rt;
-        fault(&rt, b"syncord-trace 1\nworker 0 0 0 0\n"),
-        Some((3, 5))
-    );
-    assert_eq!(rt;
-        fault(&rt, b"syncord-trace 1\nworker 0 0 0 0\ncalls\n"),
-        Some((3, 5))
-    );
-    assert_eq!(rt;
-        fault(&rt, b"syncord-trace 1\nworker 0 0 0 0\npolicy p  -\n"),
-        Some((3, 5))
-    );
-}
-
-#[test]
-fn policies_are_judged_in_their_order(rt: HostRuntime) {
-    let twice = b"syncord-trace 1\nworker 0 0 0 0\npolicy p - -\npolicy p - -\ncalls\n";
-    assert_eq!(rt; fault(&rt, twice), Some((4, 7)));
-    let odd = b"syncord-trace 1\nworker 0 0 0 0\npolicy p 95 9\ncalls\n";
-    assert_eq!(rt; fault(&rt, odd), Some((3, 8)));
-    let refused = b"syncord-trace 1\nworker 0 0 0 0\npolicy p 9500000000000000 -\ncalls\n";
-    assert_eq!(rt; fault(&rt, refused), Some((3, 9)));
-}
-
-#[test]
-fn calls_are_judged_in_their_order(rt: HostRuntime) {
-    let cases = [
-        (b"0 make 00 a".as_slice(), 10),
-        (b"0 make 0", 10),
-        (b"1 make 64 a", 11),
-        (b"18446744073709551616 make 0 a", 11),
-        (b"0 make 64 a", 12),
-        (b"0 attach q", 13),
+    let cases: [(&[u8], u32, u8); 16] = [
+        (b"", 1, 2),
+        (b"syncord-trace 1", 1, 1),
+        (b"syncord-trace 3\n", 1, 2),
+        (b"syncord-trace 2\n", 2, 15),
+        (b"syncord-trace 2\nprofile 3\n", 2, 15),
+        (b"syncord-trace 1\n", 2, 3),
+        (b"syncord-trace 1\nworker 0 0 0 65536\n", 2, 3),
+        (b"syncord-trace 1\npolicy p - -\n", 2, 3),
+        (b"syncord-trace 1\nworker 0 0 0 0\n", 3, 5),
+        (b"syncord-trace 1\nworker 0 0 0 0\ncalls\n", 3, 5),
+        (b"syncord-trace 1\nworker 0 0 0 0\npolicy p  -\n", 3, 5),
+        (b"syncord-trace 1\nworker 0 0 0 0\npolicy none - -\n", 4, 5),
+        (b"syncord-trace 1\nworker 0 0 0 0\npolicy p - -\npolicy p 9 9\n", 4, 7),
+        (b"syncord-trace 1\nworker 0 0 0 0\npolicy p 9500000000000000 9\n", 3, 8),
+        (b"syncord-trace 1\nworker 0 0 0 0\npolicy p 9500000000000000 -\n", 3, 9),
+        (b"syncord-trace 2\nprofile 2\nworker 0 0 0 0\npolicy p - 9500\n", 4, 9),
     ];
-    for (call, what) in cases {
-        assert_eq!(rt; fault_of_call(&rt, call), Ok(Some((5, what))));
+    for (bytes, line, what) in cases {
+        assert_eq!(rt; fault(&rt, bytes), Some((line, what)));
     }
 }
 
-fn fault_of_call(rt: &HostRuntime, call: &[u8]) -> Result<Option<(u32, u8)>, NoMemory> {
-    let mut text = Vec::from_slice(
-        rt.alloc(),
-        b"syncord-trace 1\nworker 0 0 0 0\npolicy none - -\ncalls\n",
-    )?;
-    text.extend_from_slice(call)?;
-    text.push(b'\n')?;
-    Ok(fault(rt, text.as_slice()))
+#[test]
+fn calls_are_judged_in_their_order(rt: HostRuntime) -> Result<(), Fail> {
+    let cases: [(&[u8], u8); 9] = [
+        (b"0 make 0 a", 1),
+        (b"0 make 0 \t\n", 1),
+        (b"0 make 00 a\n", 10),
+        (b"0 make 0\n", 10),
+        (b"1 make 64 a\n", 11),
+        (b"18446744073709551616 make 0 a\n", 11),
+        (b"0 make 64 a\n", 12),
+        (b"0 next 18446744073709551616\n", 12),
+        (b"0 attach q\n", 13),
+    ];
+    for (call, what) in cases {
+        let text = repeated(&rt, NO_CALLS, call, 1)?;
+        assert_eq!(rt; fault(&rt, text.as_slice()), Some((5, what)));
+    }
+    Ok(())
+}
+
+#[test]
+fn one_too_many_is_refused(rt: HostRuntime) -> Result<(), Fail> {
+    let cases: [(&[u8], &[u8], u32, Option<(u32, u8)>); 6] = [
+        (ONE_WORKER, b"worker 0 0 0 0\n", 15, Some((18, 5))),
+        (ONE_WORKER, b"worker 0 0 0 0\n", 16, Some((18, 4))),
+        (NO_CALLS, b"0 count 0\n", 65536, None),
+        (NO_CALLS, b"0 count 0\n", 65537, Some((65541, 14))),
+        (NO_CALLS, b"0 attach none\n", 4096, None),
+        (NO_CALLS, b"0 attach none\n", 4097, Some((4101, 14))),
+    ];
+    for (front, line, times, wanted) in cases {
+        let text = repeated(&rt, front, line, times)?;
+        assert_eq!(rt; fault(&rt, text.as_slice()), wanted);
+    }
+    let mut text = Vec::from_slice(rt.alloc(), ONE_WORKER)?;
+    for tens in [b'0', b'1', b'2', b'3', b'4', b'5', b'6', b'7', b'8', b'9'] {
+        for ones in [b'0', b'1', b'2', b'3', b'4', b'5', b'6'] {
+            text.extend_from_slice(b"policy p")?;
+            text.push(tens)?;
+            text.push(ones)?;
+            text.extend_from_slice(b" - -\n")?;
+        }
+    }
+    assert_eq!(rt; fault(&rt, text.as_slice()), Some((67, 6)));
+    Ok(())
+}
+
+#[test]
+fn a_document_cut_short_lacks_the_line_that_is_due(rt: HostRuntime) {
+    let cases = [(0, 1, 2), (16, 2, 3), (31, 3, 5), (47, 4, 5)];
+    for (length, line, what) in cases {
+        let front: &[u8] = &SERIAL[..length];
+        assert_eq!(rt; fault(&rt, front), Some((line, what)));
+    }
 }
 
 #[test]

@@ -1,32 +1,11 @@
-ghost use Rattle.std.specs.Prelude.{◌≡◌, ◌∷◌, ◌++◌, map, decimal, OnOk, option_map};
-ghost use Rattle.trace_text.specs.Spelling.{blanked, program_word, act_words};
+ghost use Rattle.std.specs.Prelude.{◌≡◌, ◌∷◌, ◌++◌, map, decimal, OnOk};
+ghost use Rattle.policy_text.specs.Blanks.{blanked};
+ghost use Rattle.trace_text.specs.Spelling.{act_words};
 ghost use Rattle.trace_text.specs.Report.{reply_words};
 ghost use Rattle.trace_text.specs.Traces.{name_at, dir_act};
 
-use crate::error::NoMemory;
 use dir_table::{DirCall, DirReply};
-use doc_text::{push_decimal, push_hex};
-use std::alloc::Global;
-
-/// A blank and a word.
-#[tactic(auto, using(crate::proofs::Written::joined_rules))]
-pub fn push_word(out: &mut Vec<u8>, word: &[u8]) -> Result<(), NoMemory>
-    ensures { OnOk result (out.new.items ≡ out.old.items ++ (32 ∷ word.now)) }
-{
-    out.push(b' ')?;
-    out.extend_from_slice(word)?;
-    Ok(())
-}
-
-/// A blank and a number.
-#[tactic(auto, using(crate::proofs::Written::joined_rules))]
-pub fn push_number(out: &mut Vec<u8>, n: u64) -> Result<(), NoMemory>
-    ensures { OnOk result (out.new.items ≡ out.old.items ++ (32 ∷ decimal n)) }
-{
-    out.push(b' ')?;
-    push_decimal(out, n)?;
-    Ok(())
-}
+use policy_text::{NoMemory, push_number, push_word};
 
 /// The bytes of a name, and none where there is no such name.
 pub fn name_at(names: &[Vec<u8>], k: u32) -> &[u8]
@@ -38,28 +17,8 @@ pub fn name_at(names: &[Vec<u8>], k: u32) -> &[u8]
     }
 }
 
-/// A blank and a program.
-#[tactic(auto, using(crate::proofs::Written::joined_rules))]
-pub fn push_program(
-    alloc: Global,
-    out: &mut Vec<u8>,
-    program: &Option<Vec<u8>>,
-) -> Result<(), NoMemory>
-    ensures { OnOk result (out.new.items
-        ≡ out.old.items ++ (32 ∷ program_word (option_map (λ v. v.items) program.now))) }
-{
-    match program {
-        None => push_word(out, b"-"),
-        Some(bytes) => {
-            out.push(b' ')?;
-            push_hex(alloc, out, bytes.as_slice())?;
-            Ok(())
-        }
-    }
-}
-
 /// A call on the directory, each word behind a blank.
-#[tactic(auto, using(crate::proofs::Written::joined_rules))]
+#[tactic(auto, using(policy_text::proofs::Written::joined_rules))]
 pub fn push_call(out: &mut Vec<u8>, names: &[Vec<u8>], call: &DirCall) -> Result<(), NoMemory>
     ensures { OnOk result (out.new.items ≡ out.old.items
         ++ blanked (act_words (dir_act (map (λ n. n.items) names.now) call.now))) }
@@ -93,7 +52,7 @@ pub fn push_call(out: &mut Vec<u8>, names: &[Vec<u8>], call: &DirCall) -> Result
     }
 }
 
-#[tactic(auto, using(crate::proofs::Written::joined_rules))]
+#[tactic(auto, using(policy_text::proofs::Written::joined_rules))]
 fn push_entry(out: &mut Vec<u8>, verb: &[u8], dir: u8, name: &[u8]) -> Result<(), NoMemory>
     ensures { OnOk result (out.new.items
         ≡ out.old.items ++ (32 ∷ verb.now) ++ (32 ∷ decimal dir) ++ (32 ∷ name.now)) }
@@ -104,7 +63,7 @@ fn push_entry(out: &mut Vec<u8>, verb: &[u8], dir: u8, name: &[u8]) -> Result<()
 }
 
 /// A reply, each word behind a blank.
-#[tactic(auto, using(crate::proofs::Written::joined_rules))]
+#[tactic(auto, using(policy_text::proofs::Written::joined_rules))]
 pub fn push_reply(out: &mut Vec<u8>, names: &[Vec<u8>], reply: &DirReply) -> Result<(), NoMemory>
     ensures { OnOk result (out.new.items ≡ out.old.items
         ++ blanked (reply_words (map (λ n. n.items) names.now) reply.now)) }

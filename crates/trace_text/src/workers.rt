@@ -1,34 +1,14 @@
 ghost use Rattle.std.specs.Prelude.{◌≡◌, ◌<◌, ◌≤◌, ◌+◌, ◌^◌, [], length, IfOk, OnSome, IfNone};
 ghost use Rattle.doc_text.specs.Text.{pieces};
-ghost use Rattle.doc_text.specs.Words.{words};
 ghost use Rattle.doc_text.specs.Faults.{GivesOrWants};
 ghost use Rattle.trace_text.specs.Errors.{fault_of};
-ghost use Rattle.trace_text.specs.Lines.{attr_in};
 ghost use Rattle.trace_text.specs.Grammar.{worker_says, worker_due, workers_in};
 
 use crate::error::TraceError;
-use doc_text::{Fault, five_words, is_same, number, piece_at, text_of, word_at};
+use doc_text::{Fault, is_same, piece_at, text_of, word_at};
+use policy_text::attr_of;
 use shfl_line::Attr;
 use std::alloc::Global;
-
-fn attr_of(text: &[u8]) -> Option<Attr>
-    ensures { result ≡ attr_in (words text.now) }
-{
-    let (word, socket, prio, class, kind) = five_words(text)?;
-    if !is_same(word, b"worker") {
-        return None;
-    }
-    let socket = number(65535, socket)? as u16;
-    let prio = number(65535, prio)? as u16;
-    let class = number(65535, class)? as u16;
-    let kind = number(65535, kind)? as u16;
-    Some(Attr {
-        socket,
-        prio,
-        class,
-        kind,
-    })
-}
 
 #[tactic(auto, unfolding(crate::specs::Grammar::worker_says))]
 fn worker_says(before: &[Attr], line: u32, text: &[u8]) -> Result<Option<Attr>, Fault>
@@ -38,7 +18,7 @@ fn worker_says(before: &[Attr], line: u32, text: &[u8]) -> Result<Option<Attr>, 
 {
     let (first, _rest) = word_at(text);
     if is_same(first, b"worker") {
-        let Some(attr) = attr_of(text) else {
+        let Some(attr) = attr_of(b"worker", text) else {
             return Err(Fault { line, what: 3 });
         };
         if before.len() >= 16 {

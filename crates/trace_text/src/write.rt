@@ -1,14 +1,13 @@
 ghost use Rattle.std.specs.Prelude.{◌≡◌, ◌∷◌, ◌++◌, [], map, decimal, OnOk, IfOk};
 ghost use Rattle.std.specs.List.{flat_map};
 ghost use Rattle.doc_text.specs.Text.{ended};
-ghost use Rattle.trace_text.specs.Spelling.{heading_lines, worker_line, policy_line, call_line, spelling};
+ghost use Rattle.trace_text.specs.Spelling.{worker_line, policy_line, call_line, spelling};
 ghost use Rattle.trace_text.specs.Traces.{policy_of, name_at, call_of, document_of};
 
-use crate::error::NoMemory;
 use crate::trace::{NamedSource, Trace, TraceAct, TraceCall};
-use crate::words::{push_call, push_number, push_program, push_word};
-use bpf_isa::Profile;
+use crate::words::push_call;
 use doc_text::{push_decimal, push_line};
+use policy_text::{NoMemory, push_attr, push_heading, push_program, push_word};
 use shfl_line::Attr;
 use std::alloc::Global;
 
@@ -22,35 +21,7 @@ pub fn policy_name(policies: &[NamedSource], k: u32) -> &[u8]
     }
 }
 
-fn push_heading(out: &mut Vec<u8>, version: u8, profile: Profile) -> Result<(), NoMemory>
-    ensures { OnOk result (out.new.items ≡ out.old.items ++ flat_map ended (heading_lines version profile)) }
-{
-    if version == 1 {
-        push_line(out, b"syncord-trace 1")?;
-    } else {
-        push_line(out, b"syncord-trace 2")?;
-        match profile {
-            Profile::One => push_line(out, b"profile 1")?,
-            Profile::Two => push_line(out, b"profile 2")?,
-        }
-    }
-    Ok(())
-}
-
-#[tactic(auto, using(crate::proofs::Written::joined_rules))]
-fn push_worker(out: &mut Vec<u8>, attr: &Attr) -> Result<(), NoMemory>
-    ensures { OnOk result (out.new.items ≡ out.old.items ++ ended (worker_line attr.now)) }
-{
-    out.extend_from_slice(b"worker")?;
-    push_number(out, u64::from(attr.socket))?;
-    push_number(out, u64::from(attr.prio))?;
-    push_number(out, u64::from(attr.class))?;
-    push_number(out, u64::from(attr.kind))?;
-    out.push(b'\n')?;
-    Ok(())
-}
-
-#[tactic(auto, using(crate::proofs::Written::joined_rules))]
+#[tactic(auto, using(policy_text::proofs::Written::joined_rules))]
 fn push_policy(alloc: Global, out: &mut Vec<u8>, policy: &NamedSource) -> Result<(), NoMemory>
     ensures { OnOk result (out.new.items ≡ out.old.items ++ ended (policy_line (policy_of policy.now))) }
 {
@@ -62,7 +33,7 @@ fn push_policy(alloc: Global, out: &mut Vec<u8>, policy: &NamedSource) -> Result
     Ok(())
 }
 
-#[tactic(auto, using(crate::proofs::Written::line_rules))]
+#[tactic(auto, using(policy_text::proofs::Written::line_rules))]
 fn push_call_line(
     out: &mut Vec<u8>,
     names: &[Vec<u8>],
@@ -88,7 +59,7 @@ fn push_workers(out: &mut Vec<u8>, workers: &[Attr]) -> Result<(), NoMemory>
     ensures { OnOk result (out.new.items ≡ out.old.items ++ flat_map ended (map worker_line workers.now)) }
 {
     for attr in workers {
-        push_worker(out, attr)?;
+        push_attr(out, b"worker", attr)?;
     }
     Ok(())
 }
@@ -119,14 +90,14 @@ fn push_calls(
 }
 
 /// The one text of a trace; digits are in lower case.
-#[tactic(auto, using(crate::proofs::Written::text_rules))]
+#[tactic(auto, using(policy_text::proofs::Written::text_rules))]
 pub fn write_trace(alloc: Global, trace: &Trace) -> Result<Vec<u8>, NoMemory>
     ensures { IfOk result (λ v. v.items ≡ spelling (document_of trace.now)) }
 {
     let mut out: Vec<u8> = Vec::new(alloc);
     let names = trace.names.as_slice();
     let policies = trace.policies.as_slice();
-    push_heading(&mut out, trace.version, trace.profile)?;
+    push_heading(&mut out, b"syncord-trace", trace.version, trace.profile)?;
     push_workers(&mut out, trace.workers.as_slice())?;
     push_policies(alloc, &mut out, policies)?;
     push_line(&mut out, b"calls")?;

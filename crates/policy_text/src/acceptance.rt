@@ -1,12 +1,12 @@
+//! Which programs of policies are accepted.
 ghost use Rattle.std.specs.Prelude.{◌≡◌, ◌≢◌, ◌↔◌, IsTrue, IfOk, false, option_map};
 ghost use Rattle.bpf_verifier.specs.declared.refusal.Refusal.TheVariants.{NoMemory as OutOfMemory};
-ghost use Rattle.trace_text.specs.Accepted.{IsProgram, AcceptsProgram, AcceptsPolicy};
-ghost use Rattle.trace_text.specs.Traces.{policy_of};
+ghost use Rattle.policy_text.specs.Accepted.{IsProgram, AcceptsProgram, AcceptsSource};
 
 use crate::error::NoMemory;
-use crate::trace::NamedSource;
 use bpf_isa::{IsaError, Profile, decode};
 use bpf_verifier::{Refusal, verify};
+use shfl_policy::PolicySource;
 use std::alloc::Global;
 
 // That a program is refused, unless it was want of memory.
@@ -46,11 +46,11 @@ fn accepts_program(
     }
 }
 
-/// Whether both programs of a policy are accepted.
-pub fn accepts(alloc: Global, profile: Profile, policy: &NamedSource) -> Result<bool, NoMemory>
-    ensures { IfOk result (λ yes. IsTrue yes ↔ AcceptsPolicy profile (policy_of policy.now)) }
+/// Whether both programs of a policy are accepted in a profile.
+pub fn accepts(alloc: Global, profile: Profile, source: &PolicySource) -> Result<bool, NoMemory>
+    ensures { IfOk result (λ yes. IsTrue yes ↔ AcceptsSource profile source.now) }
 {
-    let should = accepts_program(alloc, profile, &policy.source.should)?;
-    let skip = accepts_program(alloc, profile, &policy.source.skip)?;
+    let should = accepts_program(alloc, profile, &source.should)?;
+    let skip = accepts_program(alloc, profile, &source.skip)?;
     Ok(should && skip)
 }

@@ -1,5 +1,5 @@
 -- What a refusal says of a program's bytes.
-use Rattle.std.proofs.Common.{◌≡◌, ◌≢◌, ℕ, Bool, true, false, List, Result, Ok, Err, IfOk, refl, sym, ap, ◌∙◌, subst}
+use Rattle.std.proofs.Common.{◌≡◌, ◌≢◌, ℕ, Bool, false, List, Result, Ok, Err, IfOk, refl, subst}
 use Rattle.std.specs.Prelude.{IsTrue, ◌↔◌}
 use Rattle.bpf_isa.specs.declared.insn.Insn.{Insn}
 use Rattle.bpf_isa.specs.declared.insn.Profile.{Profile}
@@ -7,8 +7,8 @@ use Rattle.bpf_isa.specs.Decoding.{decoding}
 use Rattle.bpf_verifier.specs.declared.refusal.Refusal.{Refusal}
 use Rattle.bpf_verifier.specs.declared.refusal.Refusal.TheVariants.{Back, OutOfProgram, NoValue, PointerUse, BadLoad, NoMemory}
 use Rattle.bpf_verifier.specs.Acceptance.{IsAccepted, IsRefusal}
-use Rattle.trace_text.specs.declared.error.NoMemory.{NoMemory as Wants}
-use Rattle.trace_text.specs.Accepted.{IsProgram}
+use Rattle.policy_text.specs.declared.error.NoMemory.{NoMemory as Wants}
+use Rattle.policy_text.specs.Accepted.{IsProgram}
 
 refused-not_accepted : (insns : List Insn) (e : Refusal) → IsRefusal insns e → e ≢ NoMemory → IsAccepted insns → ⊥
 refused-not_accepted insns NoMemory h ne a = ne refl

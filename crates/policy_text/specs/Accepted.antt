@@ -4,7 +4,7 @@ use Rattle.bpf_isa.specs.declared.insn.Insn.{Insn}
 use Rattle.bpf_isa.specs.declared.insn.Profile.{Profile}
 use Rattle.bpf_isa.specs.Decoding.{decoding}
 use Rattle.bpf_verifier.specs.Acceptance.{IsAccepted}
-use Rattle.trace_text.specs.Document.{PolicyLine}
+use Rattle.shfl_policy.specs.Loading.{SourceModel}
 
 -- the bytes decode in the profile, and what they decode to is accepted
 abbrev pub IsProgram : Profile → List ℕ → Type 0
@@ -15,10 +15,10 @@ abbrev pub AcceptsProgram : Profile → Option (List ℕ) → Type 0
 AcceptsProgram profile None = Unit {0}
 AcceptsProgram profile (Some bytes) = IsProgram profile bytes
 
--- both programs are
-abbrev pub AcceptsPolicy : Profile → PolicyLine → Type 0
-AcceptsPolicy profile policy = AcceptsProgram profile policy.should × AcceptsProgram profile policy.skip
+-- both programs of a policy are
+abbrev pub AcceptsSource : Profile → SourceModel → Type 0
+AcceptsSource profile source = AcceptsProgram profile source.should × AcceptsProgram profile source.skip
 
--- the policy is accepted, and then this holds, or not, and then that
-abbrev pub Judged : Profile → PolicyLine → Type 0 → Type 0 → Type 0
-Judged profile policy this that = (AcceptsPolicy profile policy × this) ⊎ ((¬ (AcceptsPolicy profile policy)) × that)
+-- the programs are accepted, and then this holds, or not, and then that
+abbrev pub Judged : Profile → SourceModel → Type 0 → Type 0 → Type 0
+Judged profile source this that = (AcceptsSource profile source × this) ⊎ ((¬ (AcceptsSource profile source)) × that)

@@ -1,4 +1,4 @@
-use Rattle.trace_text.proofs.acceptance.accepts_program.Goals as goal
+use Rattle.policy_text.proofs.acceptance.accepts_program.Goals as goal
 
 pub returns-in-Some : goal.returns-in-Some
 returns-in-Some c = rw c.in-Some.is (rw (← c.as_slice.ensures.value) c.is_program.ensures)

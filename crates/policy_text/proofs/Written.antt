@@ -3,7 +3,7 @@ use Rattle.std.proofs.Common.{◌≡◌, ℕ, List, [], ◌∷◌, ◌++◌, map
 use Rattle.std.proofs.lemmas.List.{append-nil}
 use Rattle.std.proofs.lemmas.Grind.{flat_map-append}
 use Rattle.doc_text.specs.Words.{spaced}
-use Rattle.trace_text.specs.Spelling.{blanked}
+use Rattle.policy_text.specs.Blanks.{blanked}
 
 pub ruleset joined_rules = (append_assoc, append-nil)
 

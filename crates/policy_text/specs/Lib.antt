@@ -1,0 +1,5 @@
+pub mod Blanks
+pub mod Attributes
+pub mod Headings
+pub mod Programs
+pub mod Accepted

@@ -1,0 +1,19 @@
+-- The programs of a policy as words.
+use Rattle.std.specs.Prelude.{ℕ, List, Option, Some, None, if◌then◌else◌, codes}
+use Rattle.hex.specs.Hex.{encode_lower}
+use Rattle.shfl_policy.specs.Loading.{SourceModel}
+use Rattle.doc_text.specs.Words.{same, ◌>>?◌}
+use Rattle.doc_text.specs.Digits.{bytes_in}
+
+-- `-` for no program, else its bytes in hexadecimal digits
+abbrev pub program_in : List ℕ → Option (Option (List ℕ))
+program_in word = if same word (codes "-") then Some None else bytes_in word >>? λ bytes. Some (Some bytes)
+
+-- both programs
+abbrev pub source_in : List ℕ → List ℕ → Option SourceModel
+source_in should skip = program_in should >>? λ a. program_in skip >>? λ b. Some (record { should = a; skip = b })
+
+-- digits in lower case
+abbrev pub program_word : Option (List ℕ) → List ℕ
+program_word None = codes "-"
+program_word (Some program) = encode_lower program

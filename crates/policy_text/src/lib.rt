@@ -1,0 +1,18 @@
+//! What documents with policies share: their headings, attributes of lines, programs as words, and which programs are accepted.
+#![tactic(auto)]
+
+mod acceptance;
+mod attributes;
+mod error;
+mod heading;
+mod programs;
+#[cfg(test)]
+mod tests;
+mod writing;
+
+pub use acceptance::accepts;
+pub use attributes::{attr_of, push_attr};
+pub use error::NoMemory;
+pub use heading::{heading_of, push_heading, push_version};
+pub use programs::{push_program, source_of};
+pub use writing::{push_number, push_word};
