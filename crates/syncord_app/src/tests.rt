@@ -108,14 +108,6 @@ fn other_bytes_are_no_document(rt: HostRuntime) -> Result<(), Fail> {
     Ok(())
 }
 
-#[test]
-fn a_pass_has_four_attributes(rt: HostRuntime) -> Result<(), Fail> {
-    let front = "shfl-line 1\nform spin\nlimit 1024\npolicy socket\n";
-    let end = ran(rt.alloc(), front, "pass 65535 1 2 3\nevents\n")?;
-    assert_eq!(rt; end.status, 0);
-    Ok(())
-}
-
 fn repeated(alloc: Global, event: &str, count: u32) -> Result<Vec<u8>, Fail> {
     let mut bytes = Vec::from_slice(alloc, HEADING.as_bytes())?;
     for _ in 0..count {
@@ -236,7 +228,7 @@ fn called<Rt: Threads + Wait + Sync>(
 fn other_words_are_refused_and_nothing_is_read(rt: HostRuntime) -> Result<(), Fail> {
     let alloc = rt.alloc();
     let mut src = SureSource::new(joined(alloc, HEADING, FOUR_EVENTS)?);
-    let refused: [&[&str]; 8] = [
+    let refused: [&[&str]; 15] = [
         &["line", "x"],
         &["help"],
         &[],
@@ -245,6 +237,13 @@ fn other_words_are_refused_and_nothing_is_read(rt: HostRuntime) -> Result<(), Fa
         &["verify", "1"],
         &["verify", "2", "2"],
         &["2"],
+        &["-h"],
+        &["replay", "2"],
+        &["bulk"],
+        &["bulk", "7", "17", "5"],
+        &["bulk", "07", "1", "5"],
+        &["bulk", "7", "1", "65001"],
+        &["bulk", "18446744073709551616", "1", "5"],
     ];
     for words in refused {
         let end = called(&rt, alloc, words, &mut src)?;
@@ -261,32 +260,37 @@ fn other_words_are_refused_and_nothing_is_read(rt: HostRuntime) -> Result<(), Fa
     Ok(())
 }
 
+const ONE_CALL: &str = "syncord-trace 1\nworker 0 0 0 0\npolicy none - -\ncalls\n0 make 0 a\n";
+
+const ONE_CALL_REPORT: &str =
+    "syncord-replay 1 workers 1 entries 1\n0 make 0 a = ino 1\nfinal 1\n0 a 1\nattaches 0\nend\n";
+
+const SUMMARY: &str =
+    "bulk seed 1 workers 1 calls 3 attaches 0\nino 1 done 0 exists 0 absent 1 number 1 name 0 end 0\nleft 1\n";
+
+const MOVE: &str = "bf00080000000000\n9500000000000000\n";
+
 #[test]
-fn programs_are_verified_in_both_profiles(rt: HostRuntime) -> Result<(), Fail> {
+fn the_words_of_a_command_lead_to_it(rt: HostRuntime) -> Result<(), Fail> {
     let alloc = rt.alloc();
-    let exit = "9500000000000000\n";
-    let one: &[&str] = &["verify"];
-    let two: &[&str] = &["verify", "2"];
-    let cases = [
-        (one, "b700000001000000\n", 0u8, "accepted slots 2\n", ""),
-        (two, "b700000001000000\n", 0, "accepted slots 2\n", ""),
+    let accepted = "b700000001000000\n9500000000000000\n";
+    let cases: [(&[&str], &str, u8, &str, &str); 7] = [
+        (&["verify"], accepted, 0, "accepted slots 2\n", ""),
+        (&["verify", "2"], accepted, 0, "accepted slots 2\n", ""),
+        (&["verify"], MOVE, 6, "", "syncord: refused 6 at slot 0\n"),
         (
-            one,
-            "bf00080000000000\n",
-            6,
-            "",
-            "syncord: refused 6 at slot 0\n",
-        ),
-        (
-            two,
-            "bf00080000000000\n",
+            &["verify", "2"],
+            MOVE,
             6,
             "",
             "syncord: refused 10 at slot 0 register 0\n",
         ),
+        (&["replay"], ONE_CALL, 0, ONE_CALL_REPORT, ""),
+        (&["replay"], "", 1, "", "syncord: line 1: fault 2\n"),
+        (&["bulk", "1", "1", "3"], "", 0, SUMMARY, ""),
     ];
-    for (words, front, status, report, message) in cases {
-        let mut src = SureSource::new(joined(alloc, front, exit)?);
+    for (words, input, status, report, message) in cases {
+        let mut src = SureSource::new(Vec::from_slice(alloc, input.as_bytes())?);
         let end = called(&rt, alloc, words, &mut src)?;
         assert_eq!(rt; end.status, status);
         assert_eq!(rt; end.out.bytes(), report.as_bytes());
