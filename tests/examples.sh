@@ -36,4 +36,28 @@ compare() {
 for document in "$top"/examples/*.line; do compare "$document" line; done
 for document in "$top"/examples/*.hex "$top"/examples/policies/*.hex; do compare "$document" verify; done
 for document in "$top"/examples/*.hex2; do compare "$document" verify 2; done
+
+# The three forms of a policy say one program: the assembly and the listing of the digits have the digits' slots, and the C
+# compiles to them, where a clang for BPF stands ready.
+compare_forms() {
+    local form="${1%.asm}" name digits
+    name="examples/policies/$(basename "$form")"
+    digits="$(tr -d '\n' <"$form.hex")"
+    if [ "$("$top/bin/syncord" asm <"$form.asm" | tr -d '\n')" != "$digits" ]; then
+        echo "$name.asm: other slots than $name.hex" >&2
+        failed=1
+    elif [ "$("$top/bin/syncord" disasm <"$form.hex" | "$top/bin/syncord" asm | tr -d '\n')" != "$digits" ]; then
+        echo "$name.hex: its listing has other slots" >&2
+        failed=1
+    elif clang -target bpf -O2 -c "$form.c" -o "$got/policy.o" 2>/dev/null \
+        && llvm-objcopy -O binary --only-section=.text "$got/policy.o" "$got/policy.bin" 2>/dev/null \
+        && [ "$(od -An -v -tx1 "$got/policy.bin" | tr -d ' \n')" != "$digits" ]; then
+        echo "$name.c: other slots than $name.hex" >&2
+        failed=1
+    else
+        echo "$name: its forms agree"
+    fi
+}
+
+for document in "$top"/examples/policies/*.asm; do compare_forms "$document"; done
 exit "$failed"

@@ -14,7 +14,7 @@ pub faulty : (profile : Profile) (digits : List ℕ) (insns : List Insn) (fault 
     → IsFirst (HasFault insns) fault → Refuses profile digits (of_verifier fault)
 faulty profile digits insns fault written first =
     let told : IsFaulty profile digits (of_verifier fault) = record { insns = insns; written = written; fault = fault; first = first; told = refl } in
-    inr (inr told)
+    inr told
 
 pub is_due : (profile : Profile) (digits : List ℕ) (insns : List Insn) (fault : Fault) → Writes profile digits insns
     → IsRefusal insns fault → Due (Refuses profile digits) (of_verifier fault)

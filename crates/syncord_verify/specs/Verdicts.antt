@@ -46,6 +46,10 @@ pub record DecodesNot (profile : Profile) (digits : List ℕ) (refusal : Refusal
   pub found : decoding profile bytes ≡ Err fault
   pub told : refusal ≡ of_decoder fault
 
+-- the digits write no instructions
+abbrev pub IsNoProgram : Profile → List ℕ → Refusal → Type 0
+IsNoProgram profile digits refusal = WritesNone digits refusal ⊎ DecodesNot profile digits refusal
+
 -- the instructions have a fault, and this is the first
 pub record IsFaulty (profile : Profile) (digits : List ℕ) (refusal : Refusal) : Type 0 where
   pub insns : List Insn
@@ -55,8 +59,7 @@ pub record IsFaulty (profile : Profile) (digits : List ℕ) (refusal : Refusal) 
   pub told : refusal ≡ of_verifier fault
 
 abbrev pub Refuses : Profile → List ℕ → Refusal → Type 0
-Refuses profile digits refusal =
-    WritesNone digits refusal ⊎ (DecodesNot profile digits refusal ⊎ IsFaulty profile digits refusal)
+Refuses profile digits refusal = IsNoProgram profile digits refusal ⊎ IsFaulty profile digits refusal
 
 -- What the command does with its input, its output and the error stream, and the status that it answers:
 -- the status has its cause, and a program is accepted or refused unless something fails or memory runs out.

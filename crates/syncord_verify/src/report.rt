@@ -2,29 +2,15 @@
 ghost use Rattle.std.specs.Prelude.{◌≡◌, ◌≤◌, length, IfOk, IfErr, OnOk};
 ghost use Rattle.syncord_endings.specs.declared.ending.Refusal.TheVariants.{Register};
 ghost use Rattle.syncord_endings.specs.Endings.{Due, most_bytes};
-ghost use Rattle.syncord_verify.specs.Refusals.{of_decoder, of_verifier};
+ghost use Rattle.syncord_verify.specs.Refusals.{of_verifier};
 ghost use Rattle.syncord_verify.specs.Verdicts.{Reports, Refuses, accepted_text};
 
-use bpf_isa::{IsaError, Profile, decode};
+use crate::program::program_in;
+use bpf_isa::Profile;
 use bpf_verifier::verify;
-use doc_text::{DigitsError, push_decimal, spread_bytes};
+use doc_text::push_decimal;
 use std::alloc::{AllocError, Global};
 use syncord_endings::Refusal;
-
-fn of_decoder(fault: IsaError) -> Refusal
-    ensures { result ≡ of_decoder fault }
-{
-    match fault {
-        IsaError::Empty => Refusal::Program { number: 1 },
-        IsaError::OddLength => Refusal::Program { number: 2 },
-        IsaError::TooLong => Refusal::Program { number: 3 },
-        IsaError::BadOpcode { slot } => Refusal::Slot { number: 4, slot },
-        IsaError::BadRegister { slot } => Refusal::Slot { number: 5, slot },
-        IsaError::Reserved { slot } => Refusal::Slot { number: 6, slot },
-        IsaError::HalfWide { slot } => Refusal::Slot { number: 7, slot },
-        IsaError::NoMemory => Refusal::NoMemory,
-    }
-}
 
 fn of_register(number: u8, slot: u32, register: u8) -> Refusal
     ensures { result ≡ Register number slot register }
@@ -66,15 +52,7 @@ pub fn verdict(alloc: Global, profile: Profile, digits: &[u8]) -> Result<Vec<u8>
     ensures report { IfOk result (λ text. Reports profile digits.now text.items) }
     ensures refusal { IfErr result (Due (Refuses profile digits.now)) }
 {
-    let bytes = match spread_bytes(alloc, digits) {
-        Ok(bytes) => bytes,
-        Err(DigitsError::Format { line, what }) => return Err(Refusal::Line { line, what }),
-        Err(DigitsError::NoMemory) => return Err(Refusal::NoMemory),
-    };
-    let insns = match decode(alloc, profile, bytes.as_slice()) {
-        Ok(insns) => insns,
-        Err(fault) => return Err(of_decoder(fault)),
-    };
+    let insns = program_in(alloc, profile, digits)?;
     let program = match verify(alloc, insns) {
         Ok(program) => program,
         Err(fault) => return Err(of_verifier(fault)),

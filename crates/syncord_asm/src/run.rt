@@ -1,0 +1,88 @@
+//! The commands as calls.
+ghost use Rattle.syncord_endings.specs.Traffic.{traffic};
+ghost use Rattle.syncord_endings.specs.Endings.{Answers, Decides};
+ghost use Rattle.syncord_verify.specs.Verdicts.{IsNoProgram};
+ghost use Rattle.syncord_asm.specs.Assemblies as assembly;
+ghost use Rattle.syncord_asm.specs.Listings as listing;
+
+use crate::assembling::assembled;
+use crate::listing::listed;
+use bpf_isa::Profile;
+use std::alloc::Global;
+use syn_outer::{Sink, Source};
+use syncord_endings::{Refusal, Work, perform};
+
+/// Assembles a text of a profile.
+#[derive(Drop)]
+struct Assemble {
+    profile: Profile,
+}
+
+impl Work for Assemble {
+    ghost use Rattle.syncord_asm.specs.Assemblies.{Reports, Refuses};
+
+    ghost reports = { λ command text slots. Reports command.profile text slots };
+
+    ghost refuses = { λ command text refusal. Refuses command.profile text refusal };
+
+    fn report(&self, alloc: Global, text: &[u8]) -> Result<Vec<u8>, Refusal> {
+        assembled(alloc, self.profile, text)
+    }
+}
+
+/// Lists the program of a profile.
+#[derive(Drop)]
+struct Disassemble {
+    profile: Profile,
+}
+
+impl Work for Disassemble {
+    ghost use Rattle.syncord_verify.specs.Verdicts.{IsNoProgram};
+    ghost use Rattle.syncord_asm.specs.Listings.{Reports};
+
+    ghost reports = { λ command digits text. Reports command.profile digits text };
+
+    ghost refuses = { λ command digits refusal. IsNoProgram command.profile digits refusal };
+
+    fn report(&self, alloc: Global, digits: &[u8]) -> Result<Vec<u8>, Refusal> {
+        listed(alloc, self.profile, digits)
+    }
+}
+
+/// Does all of the command `asm` that follows its words, and answers the status.
+pub fn run_asm<R: Source, W: Sink, E: Sink>(
+    alloc: Global,
+    profile: Profile,
+    src: &mut R,
+    out: &mut W,
+    err: &mut E,
+) -> u8
+    ensures answer { Answers (assembly.Reports profile) (assembly.Refuses profile)
+        (traffic (R.left src.old) (R.left src.new) (R.faults src.old) (R.faults src.new))
+        (traffic (W.held out.old) (W.held out.new) (W.faults out.old) (W.faults out.new))
+        (traffic (E.held err.old) (E.held err.new) (E.faults err.old) (E.faults err.new)) result }
+    ensures complete { Decides (assembly.Refuses profile)
+        (traffic (R.left src.old) (R.left src.new) (R.faults src.old) (R.faults src.new))
+        (traffic (W.held out.old) (W.held out.new) (W.faults out.old) (W.faults out.new)) result }
+{
+    perform(&Assemble { profile }, alloc, src, out, err)
+}
+
+/// Does all of the command `disasm` that follows its words, and answers the status.
+pub fn run_disasm<R: Source, W: Sink, E: Sink>(
+    alloc: Global,
+    profile: Profile,
+    src: &mut R,
+    out: &mut W,
+    err: &mut E,
+) -> u8
+    ensures answer { Answers (listing.Reports profile) (IsNoProgram profile)
+        (traffic (R.left src.old) (R.left src.new) (R.faults src.old) (R.faults src.new))
+        (traffic (W.held out.old) (W.held out.new) (W.faults out.old) (W.faults out.new))
+        (traffic (E.held err.old) (E.held err.new) (E.faults err.old) (E.faults err.new)) result }
+    ensures complete { Decides (IsNoProgram profile)
+        (traffic (R.left src.old) (R.left src.new) (R.faults src.old) (R.faults src.new))
+        (traffic (W.held out.old) (W.held out.new) (W.faults out.old) (W.faults out.new)) result }
+{
+    perform(&Disassemble { profile }, alloc, src, out, err)
+}
