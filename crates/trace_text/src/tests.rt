@@ -8,14 +8,14 @@ use std::test::Fail;
 const SERIAL: &[u8; 172] =
     b"syncord-trace 1\nworker 0 0 0 0\npolicy none - -\ncalls\n0 make 0 a\n0 make 0 a\n0 rename 0 a 0 a\n0 make 1 b\n0 rename 0 a 1 b\n0 find 1 b\n0 find 0 a\n0 count 1\n0 next 1\n0 next 1 b\n";
 
-const SECOND: &[u8; 68] =
+const SECOND: &[u8; 71] =
     b"syncord-trace 2\nprofile 2\nworker 0 0 0 0\npolicy p - -\ncalls\n0 attach p\n";
 
 const ONE_WORKER: &[u8; 31] = b"syncord-trace 1\nworker 0 0 0 0\n";
 
 const NO_CALLS: &[u8; 53] = b"syncord-trace 1\nworker 0 0 0 0\npolicy none - -\ncalls\n";
 
-const FOUR_WORKERS: &[u8; 206] =
+const FOUR_WORKERS: &[u8; 211] =
     b"syncord-trace 1\nworker 0 0 0 0\nworker 0 0 0 0\nworker 1 0 0 0\nworker 1 0 0 0\npolicy socket 61120000000000006111040000000000b7000000010000001d21010000000000b7000000000000009500000000000000 -\npolicy none - -\ncalls\n";
 
 // What each worker does in turn, with its number for W.
@@ -41,12 +41,7 @@ fn fault(rt: &HostRuntime, bytes: &[u8]) -> Option<(u32, u8)> {
 }
 
 // The bytes, and then the line so many times.
-fn repeated(
-    rt: &HostRuntime,
-    front: &[u8],
-    line: &[u8],
-    times: u32,
-) -> Result<Vec<u8>, NoMemory> {
+fn repeated(rt: &HostRuntime, front: &[u8], line: &[u8], times: u32) -> Result<Vec<u8>, NoMemory> {
     let mut text = Vec::from_slice(rt.alloc(), front)?;
     for _ in 0..times {
         text.extend_from_slice(line)?;
@@ -118,10 +113,26 @@ fn the_first_bad_line_has_its_lowest_fault(rt: HostRuntime) {
         (b"syncord-trace 1\nworker 0 0 0 0\ncalls\n", 3, 5),
         (b"syncord-trace 1\nworker 0 0 0 0\npolicy p  -\n", 3, 5),
         (b"syncord-trace 1\nworker 0 0 0 0\npolicy none - -\n", 4, 5),
-        (b"syncord-trace 1\nworker 0 0 0 0\npolicy p - -\npolicy p 9 9\n", 4, 7),
-        (b"syncord-trace 1\nworker 0 0 0 0\npolicy p 9500000000000000 9\n", 3, 8),
-        (b"syncord-trace 1\nworker 0 0 0 0\npolicy p 9500000000000000 -\n", 3, 9),
-        (b"syncord-trace 2\nprofile 2\nworker 0 0 0 0\npolicy p - 9500\n", 4, 9),
+        (
+            b"syncord-trace 1\nworker 0 0 0 0\npolicy p - -\npolicy p 9 9\n",
+            4,
+            7,
+        ),
+        (
+            b"syncord-trace 1\nworker 0 0 0 0\npolicy p 9500000000000000 9\n",
+            3,
+            8,
+        ),
+        (
+            b"syncord-trace 1\nworker 0 0 0 0\npolicy p 9500000000000000 -\n",
+            3,
+            9,
+        ),
+        (
+            b"syncord-trace 2\nprofile 2\nworker 0 0 0 0\npolicy p - 9500\n",
+            4,
+            9,
+        ),
     ];
     for (bytes, line, what) in cases {
         assert_eq!(rt; fault(&rt, bytes), Some((line, what)));
