@@ -1,0 +1,153 @@
+-- What is read is the value whose text the bytes are.
+use Rattle.std.proofs.Common.{◌≡◌, ℕ, ◌+◌, ◌<◌, ◌≤◌, List, [], ◌∷◌, ◌++◌, length, map, Bool, true, false, cond, Option, Some, None, Result, Ok, Err, eqb, leb, refl, sym, ap, ◌∙◌, subst, append_assoc, arith}
+use Rattle.std.specs.Prelude.{codes}
+use Rattle.std.specs.List.{flat_map, AllByRecursion}
+use Rattle.std.proofs.lemmas.Bool.Decides.{nat_tests}
+use Rattle.std.proofs.lemmas.List.{map-append, append-nil}
+use Rattle.shfl_line.specs.declared.words.Attr.{Attr}
+use Rattle.shfl_line.specs.declared.events.Form.{Form}
+use Rattle.doc_text.specs.declared.fault.Fault.{Fault}
+use Rattle.doc_text.specs.Text.{pieces, ended}
+use Rattle.doc_text.specs.Words.{words, same}
+use Rattle.doc_text.specs.Faults.{fault, ◌>>=◌, or_fault, fixed_due, lines_from, section_from}
+use Rattle.doc_text.proofs.Joining.{joined, joined-pieces}
+use Rattle.doc_text.proofs.Due.{bind-some, or_fault-some, fixed_due-some}
+use Rattle.policy_text.specs.Attributes.{attr_in, attr_line}
+use Rattle.policy_text.specs.Headings.{heading_lines}
+use Rattle.shfl_sched.specs.declared.schedule.Rule.{Rule}
+use Rattle.shfl_sched.specs.declared.schedule.Event.{Event}
+use Rattle.shfl_sched.specs.Schedules.{ScheduleModel, IsAttr, IsEventOf, IsWithin}
+use Rattle.shfl_sched.specs.Lines.{event_in}
+use Rattle.shfl_sched.specs.Grammar.{Front, front_in, policy_line, Then, ReadsRule, pass_says, passes_in, event_says, events_in, schedule_in, ReadsSchedule}
+use Rattle.shfl_sched.specs.Spelling.{form_line, limit_line, event_line, body_lines, schedule_lines, IsText}
+use Rattle.shfl_sched.proofs.Wording.{value, attr-some, event-some}
+use Rattle.shfl_sched.proofs.Sections.{Lined, lines-some, section-some}
+use Rattle.shfl_sched.proofs.RuleLines.{rule-some}
+use Rattle.shfl_sched.proofs.Fronts.{FrontLines, front-some}
+
+ok-value : {A : Type 0} (x y : A) → ◌≡◌ {A = Result A Fault} (Ok x) (Ok y) → x ≡ y
+ok-value x y h = cc
+
+-- ---- the passes
+
+abbrev or_full : List Attr → ℕ → Attr → Result (Option Attr) Fault
+or_full done line b = cond (leb 64 (length done)) (fault line 7) (Ok (Some b))
+
+pass-tells : (done : List Attr) (line : ℕ) (t : List ℕ) (a : Attr) → pass_says done line t ≡ Ok (Some a) → (t ≡ attr_line (codes "pass") a) × IsAttr a × (length done < 64)
+unfolding pass_says
+pass-tells done line t a h = by_tests (same t (codes "events")) (eqb (length done) 0) h
+  where
+    by_room : (b : Attr) (v : Bool) → leb 64 (length done) ≡ v → ◌≡◌ {A = Result (Option Attr) Fault} (cond v (fault line 7) (Ok (Some b))) (Ok (Some a)) → (b ≡ a) × (length done < 64)
+    by_room b true e k = cc
+    by_room b false e k = let is : Some b ≡ Some a = cc in let lt : length done < 64 = grind (arith, nat_tests) in (value b a is, lt)
+
+    by_tests : (v w : Bool) → ◌≡◌ {A = Result (Option Attr) Fault} (cond v (cond w (fault line 7) (Ok None)) (or_fault line 7 (attr_in (codes "pass") (words t)) >>= or_full done line)) (Ok (Some a)) → (t ≡ attr_line (codes "pass") a) × IsAttr a × (length done < 64)
+    by_tests true true k = cc
+    by_tests true false k = cc
+    by_tests false w k =
+        let r = bind-some (or_fault line 7 (attr_in (codes "pass") (words t))) (or_full done line) (Some a) k in
+        let b = by_room r.0 (leb 64 (length done)) refl r.2 in
+        let s = attr-some (codes "pass") t r.0 (or_fault-some line 7 (attr_in (codes "pass") (words t)) r.0 r.1) in
+        (s.0 ∙ ap (attr_line (codes "pass")) b.0, subst IsAttr b.0 s.1, b.1)
+
+pass-stops : (done : List Attr) (line : ℕ) (t : List ℕ) → pass_says done line t ≡ Ok None → 0 < length done
+unfolding pass_says
+pass-stops done line t h = by_tests (same t (codes "events")) (eqb (length done) 0) refl h
+  where
+    by_room : (b : Attr) (v : Bool) → ◌≡◌ {A = Result (Option Attr) Fault} (cond v (fault line 7) (Ok (Some b))) (Ok None) → 0 < length done
+    by_room b true k = cc
+    by_room b false k = cc
+
+    by_tests : (v w : Bool) → eqb (length done) 0 ≡ w → ◌≡◌ {A = Result (Option Attr) Fault} (cond v (cond w (fault line 7) (Ok None)) (or_fault line 7 (attr_in (codes "pass") (words t)) >>= or_full done line)) (Ok None) → 0 < length done
+    by_tests true true e k = cc
+    by_tests true false e k = grind (arith, nat_tests)
+    by_tests false w e k =
+        let r = bind-some (or_fault line 7 (attr_in (codes "pass") (words t))) (or_full done line) None k in
+        by_room r.0 (leb 64 (length done)) r.2
+
+abbrev Passes : List Attr → List (List ℕ) → List (List ℕ) → Type 0
+Passes passes ps qs = (ps ≡ map ended (map (attr_line (codes "pass")) passes) ++ qs) × AllByRecursion IsAttr passes × (0 < length passes) × (length passes ≤ 64)
+
+passes-some : (line : ℕ) (ps qs : List (List ℕ)) (passes : List Attr) → passes_in line ps ≡ Ok (passes, qs) → Passes passes ps qs
+unfolding passes_in
+passes-some line ps qs passes h =
+    let r = section-some (attr_line (codes "pass")) IsAttr 64 pass_says (λ _. 7) pass-tells pass-stops [] line ps qs passes h (omega arith) in
+    (r.0.pieces ∙ ap (λ (l : List Attr). map ended (map (attr_line (codes "pass")) l) ++ qs) (sym r.0.items), subst (AllByRecursion IsAttr) (sym r.0.items) r.0.each, r.1, r.0.few)
+
+-- ---- the events
+
+event-tells : (form : Form) (passes : ℕ) (done : List Event) (line : ℕ) (t : List ℕ) (e : Event) → event_says form passes done line t ≡ Ok e → (t ≡ event_line e) × IsEventOf form passes e × (length done < 65536)
+unfolding event_says
+event-tells form passes done line t e h =
+    let r = bind-some (or_fault line 8 (event_in form passes (words t))) (λ (d : Event). cond (leb 65536 (length done)) (fault line 9) (Ok d)) e h in
+    let b = by_room r.0 (leb 65536 (length done)) refl r.2 in
+    let s = event-some form passes t r.0 (or_fault-some line 8 (event_in form passes (words t)) r.0 r.1) in
+    (s.0 ∙ ap event_line b.0, subst (IsEventOf form passes) b.0 s.1, b.1)
+  where
+    by_room : (d : Event) (v : Bool) → leb 65536 (length done) ≡ v → ◌≡◌ {A = Result Event Fault} (cond v (fault line 9) (Ok d)) (Ok e) → (d ≡ e) × (length done < 65536)
+    by_room d true f k = cc
+    by_room d false f k = let lt : length done < 65536 = grind (arith, nat_tests) in (ok-value d e k, lt)
+
+abbrev Events : Form → ℕ → List Event → List (List ℕ) → Type 0
+Events form passes events ps = (ps ≡ ended (codes "events") ∷ map ended (map event_line events)) × AllByRecursion (IsEventOf form passes) events × (length events ≤ 65536)
+
+events-some : (form : Form) (passes line : ℕ) (ps : List (List ℕ)) (events : List Event) → events_in form passes line ps ≡ Ok events → Events form passes events ps
+unfolding events_in
+events-some form passes line ps events h =
+    let r = bind-some (fixed_due line 7 (codes "events") ps) (λ (qs : List (List ℕ)). lines_from (event_says form passes) [] (line + 1) qs) events h in
+    let l = lines-some event_line (IsEventOf form passes) 65536 (event_says form passes) (event-tells form passes) [] (line + 1) r.0 events r.2 (omega arith) in
+    let lines : r.0 ≡ map ended (map event_line events) = l.pieces ∙ append-nil (map ended (map event_line l.more)) ∙ ap (λ (es : List Event). map ended (map event_line es)) (sym l.items) in
+    (fixed_due-some line 7 (codes "events") ps r.0 r.1 ∙ ap (λ (qs : List (List ℕ)). ended (codes "events") ∷ qs) lines, subst (AllByRecursion (IsEventOf form passes)) (sym l.items) l.each, l.few)
+
+-- ---- the whole
+
+joined-lines : (ts : List (List ℕ)) → joined (map ended ts) ≡ flat_map ended ts
+joined-lines [] = refl
+joined-lines (t ∷ ts) = ap (λ (l : List ℕ). ended t ++ l) (joined-lines ts)
+
+abbrev with_events : Front → Rule → List Attr → List Event → Result ScheduleModel Fault
+with_events f rule passes events = Ok (record { version = f.version; profile = f.profile; form = f.form; limit = f.limit; rule = rule; passes = passes; events = events })
+
+abbrev with_passes : Front → Rule → List Attr × List (List ℕ) → Result ScheduleModel Fault
+with_passes f rule p = events_in f.form (length p.0) (policy_line f + 1 + length p.0) p.1 >>= with_events f rule p.0
+
+abbrev with_rule : Front → Rule → Result ScheduleModel Fault
+with_rule f rule = passes_in (policy_line f + 1) f.rest >>= with_passes f rule
+
+abbrev IsFound : List ℕ → ScheduleModel → Type 0
+IsFound bytes s = IsText bytes s × IsWithin s
+
+behind-front : (bytes : List ℕ) (f : Front) (rule : Result Rule Fault) (s : ScheduleModel) → FrontLines (pieces bytes) f → ReadsRule f.profile (policy_line f) f.policy rule → schedule_in f rule ≡ Ok s → IsFound bytes s
+unfolding schedule_in
+behind-front bytes f rule s front reads h =
+    let r = bind-some rule (with_rule f) s h in
+    let p = bind-some (passes_in (policy_line f + 1) f.rest) (with_passes f r.0) s r.2 in
+    let e = bind-some (events_in f.form (length p.0.0) (policy_line f + 1 + length p.0.0) p.0.1) (with_events f r.0 p.0.0) s p.2 in
+    let is = ok-value (record { version = f.version; profile = f.profile; form = f.form; limit = f.limit; rule = r.0; passes = p.0.0; events = e.0 }) s e.2 in
+    let line = rule-some f.profile (policy_line f) f.policy r.0 (subst (ReadsRule f.profile (policy_line f) f.policy) r.1 reads) in
+    let passes = passes-some (policy_line f + 1) f.rest p.0.1 p.0.0 p.1 in
+    let events = events-some f.form (length p.0.0) (policy_line f + 1 + length p.0.0) p.0.1 e.0 e.1 in
+    let heads = heading_lines (codes "shfl-line") f.version f.profile in
+    let passing = map (attr_line (codes "pass")) p.0.0 in
+    let tail : f.rest ≡ map ended (body_lines p.0.0 e.0) =
+    passes.0 ∙ ap (λ (qs : List (List ℕ)). map ended passing ++ qs) events.0 ∙ sym (map-append ended passing (codes "events" ∷ map event_line e.0)) in
+    let behind = form_line f.form ∷ limit_line f.limit ∷ f.policy ∷ body_lines p.0.0 e.0 in
+    let all : pieces bytes ≡ map ended (heads ++ behind) =
+    front.lines ∙ ap (λ (qs : List (List ℕ)). map ended heads ++ ended (form_line f.form) ∷ ended (limit_line f.limit) ∷ ended f.policy ∷ qs) tail ∙ sym (map-append ended heads behind) in
+    let text : bytes ≡ flat_map ended (heads ++ behind) = sym (joined-pieces bytes) ∙ ap joined all ∙ joined-lines (heads ++ behind) in
+    subst (IsFound bytes) is ((f.policy, line.0, text), record {
+      version = front.version;
+      limit = front.limit;
+      rule = line.1;
+      passes = (passes.2, passes.3);
+      attrs = passes.1;
+      few = events.2;
+      events = events.1;
+    })
+
+pub found : (bytes : List ℕ) (s : ScheduleModel) → ReadsSchedule bytes (Ok s) → IsText bytes s × IsWithin s
+found bytes s h = by_front (front_in (pieces bytes)) refl h
+  where
+    by_front : (r : Result Front Fault) → front_in (pieces bytes) ≡ r → Then r (λ f read. (rule : Result Rule Fault) × ReadsRule f.profile (policy_line f) f.policy rule × (read ≡ schedule_in f rule)) (Ok s) → IsText bytes s × IsWithin s
+    by_front (Err x) e k = cc
+    by_front (Ok f) e k = behind-front bytes f k.0 s (front-some (pieces bytes) f e) k.1 (sym k.2)

@@ -1,0 +1,71 @@
+-- One event more of a run: the lock after it, and what its lock still has.
+use Rattle.std.proofs.Common.{◌≡◌, ℕ, zero, suc, ◌+◌, ◌<◌, Bool, true, false, cond, List, [], ◌∷◌, ◌++◌, length, get_or, take, set, length-set, length-append, refl, sym, ap, ◌∙◌, arith}
+use Rattle.std.proofs.lemmas.List.{take_more, take_all}
+use Rattle.shfl_line.specs.Line.{Line}
+use Rattle.shfl_core.specs.declared.phase.Rules.{Rules}
+use Rattle.shfl_core.specs.Runner.{Lock, moved}
+use Rattle.shfl_core.specs.ShownLine.{each_below, shown_line}
+use Rattle.shfl_core.specs.Worlds.{World, Move, Acquire, Release, Step, admitted, made, after_move, opening}
+use Rattle.shfl_core.proofs.Opening.{idle-from-long}
+use Rattle.shfl_sched.specs.declared.schedule.Event.{Event}
+use Rattle.shfl_sched.specs.Schedules.{ScheduleModel}
+use Rattle.shfl_sched.specs.Run.{Setup, setup_of, rules_of, move_in, after_event, after_events, lock_after}
+
+made-passes : (t : Rules) (w : World) (m : Move) → length (made t w m).passes ≡ length w.passes
+made-passes t w (Acquire p mode) = length-set w.passes p _
+made-passes t w (Release p) = length-set w.passes p _
+made-passes t w (Step p choice) = length-set w.passes p _
+
+-- a choice between two worlds of as many passes
+chosen-passes : (b : Bool) (v w : World) → length v.passes ≡ length w.passes → length (cond b v w).passes ≡ length w.passes
+chosen-passes true v w e = e
+chosen-passes false v w e = refl
+
+-- a move leaves the lock's passes as many
+pub move-passes : (t : Rules) (w : World) (m : Move) → length (after_move t w m).passes ≡ length w.passes
+move-passes t w m = chosen-passes (admitted w m) (made t w m) w (made-passes t w m)
+
+pub run-passes : (t : Setup) (w : World) (events : List Event) → length (after_events t w events).passes ≡ length w.passes
+run-passes t w [] = refl
+run-passes t w (e ∷ rest) = run-passes t (after_event t w e) rest ∙ move-passes t.rules w (move_in t w e)
+
+-- the lock of a run has a pass for each attribute
+pub lock-passes : (s : ScheduleModel) (n : ℕ) → length (lock_after s n).world.passes ≡ length s.passes
+lock-passes s n = run-passes (setup_of s) (opening s.passes) (take n s.events) ∙ idle-from-long 0 s.passes
+
+pub events-append : (t : Setup) (w : World) (events : List Event) (e : Event) → after_events t w (events ++ e ∷ []) ≡ after_event t (after_events t w events) e
+events-append t w [] e = refl
+events-append t w (x ∷ rest) e = events-append t (after_event t w x) rest e
+
+-- the lock after one event more
+lock-moves : (s : ScheduleModel) (i : ℕ) (d : Event) → i < length s.events
+    → lock_after s (i + 1) ≡ moved (lock_after s i) (move_in (setup_of s) (lock_after s i).world (get_or s.events i d))
+lock-moves s i d lt =
+    let e = ap (after_events (setup_of s) (opening s.passes)) (take_more s.events i d lt) ∙ events-append (setup_of s) (opening s.passes) (take i s.events) (get_or s.events i d) in
+    ap (λ (w : World). record { rules = rules_of s; world = w }) e
+
+pub world_moves : (s : ScheduleModel) (i : ℕ) (d : Event) → i < length s.events → (lock_after s (i + 1)).world ≡ after_event (setup_of s) (lock_after s i).world (get_or s.events i d)
+world_moves s i d lt = ap (λ (x : Lock). x.world) (lock-moves s i d lt)
+
+each-below-long : {A : Type 0} (f : ℕ → A) (n : ℕ) → length (each_below f n) ≡ n
+each-below-long f zero = refl
+each-below-long f (suc n) = let e = each-below-long f n in length-append (each_below f n) (f n ∷ []) ∙ omega arith
+
+-- a lock shows a batch number for each pass
+shown-marks : (w : World) → length (shown_line w).mark ≡ length w.passes
+shown-marks w = each-below-long _ (length w.passes)
+
+pub marks_of : (a : Line) (w : World) → a ≡ shown_line w → length a.mark ≡ length w.passes
+marks_of a w e = ap (λ (x : Line). length x.mark) e ∙ shown-marks w
+
+module _ (s : ScheduleModel) (i : ℕ) (a : Lock) (is : a ≡ lock_after s i) where
+  pub passes_of : length a.world.passes ≡ length s.passes
+  passes_of = ap (λ (x : Lock). length x.world.passes) is ∙ lock-passes s i
+
+  -- what an event's move made of the lock
+  pub goes_on : (d : Event) (b : Lock) → i < length s.events → b ≡ moved a (move_in (setup_of s) a.world (get_or s.events i d)) → b ≡ lock_after s (i + 1)
+  goes_on d b lt e = e ∙ ap (λ (x : Lock). moved x (move_in (setup_of s) x.world (get_or s.events i d))) is ∙ sym (lock-moves s i d lt)
+
+  -- whether the lock admitted it
+  pub answered : (e : Event) (r : Bool) → r ≡ admitted a.world (move_in (setup_of s) a.world e) → r ≡ admitted (lock_after s i).world (move_in (setup_of s) (lock_after s i).world e)
+  answered e r was = was ∙ ap (λ (x : Lock). admitted x.world (move_in (setup_of s) x.world e)) is

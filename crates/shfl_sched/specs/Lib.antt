@@ -1,0 +1,11 @@
+pub mod Schedules
+pub mod Errors
+pub mod Lines
+pub mod Grammar
+pub mod Said
+pub mod Spelling
+pub mod Choices
+pub mod Run
+pub mod RunLaws
+pub mod ReportParts
+pub mod Report

@@ -1,0 +1,69 @@
+-- The texts of a schedule. Digits of programs may be in either case, so that a schedule has several.
+use Rattle.std.specs.Prelude.{◌≡◌, ℕ, List, [], ◌∷◌, ◌++◌, map, Option, Some, None, Ok, codes}
+use Rattle.std.specs.List.{flat_map}
+use Rattle.std.specs.Fmt.{decimal}
+use Rattle.bpf_isa.specs.declared.insn.Insn.{Insn}
+use Rattle.bpf_isa.specs.declared.insn.Profile.{Profile}
+use Rattle.bpf_isa.specs.Decoding.{decoding}
+use Rattle.shfl_line.specs.declared.words.Attr.{Attr}
+use Rattle.shfl_line.specs.declared.events.Form.{Form}
+use Rattle.shfl_line.specs.declared.events.Form.TheVariants as forms
+use Rattle.doc_text.specs.Text.{ended}
+use Rattle.doc_text.specs.Words.{spaced}
+use Rattle.doc_text.specs.Digits.{bytes_in}
+use Rattle.policy_text.specs.Attributes.{attr_line}
+use Rattle.policy_text.specs.Headings.{heading_lines}
+use Rattle.shfl_sched.specs.declared.schedule.Rule.{Rule}
+use Rattle.shfl_sched.specs.declared.schedule.Rule.TheVariants as rules
+use Rattle.shfl_sched.specs.declared.schedule.Act.{Act}
+use Rattle.shfl_sched.specs.declared.schedule.Act.TheVariants as acts
+use Rattle.shfl_sched.specs.declared.schedule.Event.{Event}
+use Rattle.shfl_sched.specs.Schedules.{ScheduleModel}
+
+abbrev pub form_word : Form → List ℕ
+form_word forms.Spin = codes "spin"
+form_word forms.Rw = codes "rw"
+form_word forms.Park = codes "park"
+form_word forms.RwPark = codes "rw-park"
+
+abbrev pub act_word : Act → List ℕ
+act_word acts.Write = codes "write"
+act_word acts.Read = codes "read"
+act_word acts.Free = codes "free"
+act_word acts.Step = codes "step"
+
+abbrev pub form_line : Form → List ℕ
+form_line form = spaced (codes "form" ∷ form_word form ∷ [])
+
+abbrev pub limit_line : ℕ → List ℕ
+limit_line limit = spaced (codes "limit" ∷ decimal limit ∷ [])
+
+abbrev pub event_line : Event → List ℕ
+event_line e = spaced (act_word e.act ∷ decimal e.pass ∷ [])
+
+-- `-` for no program, else hexadecimal digits of bytes that decode to it
+abbrev pub IsProgramWord : Profile → List ℕ → Option (List Insn) → Type 0
+IsProgramWord profile word None = word ≡ codes "-"
+IsProgramWord profile word (Some insns) = (bytes : List ℕ) × (bytes_in word ≡ Some bytes) × (decoding profile bytes ≡ Ok insns)
+
+-- a policy line of a rule
+abbrev pub IsRuleLine : Profile → List ℕ → Rule → Type 0
+IsRuleLine profile text rules.Never = text ≡ codes "policy never"
+IsRuleLine profile text rules.Always = text ≡ codes "policy always"
+IsRuleLine profile text rules.Socket = text ≡ codes "policy socket"
+IsRuleLine profile text (rules.Program policy) = (should skip : List ℕ)
+    × (text ≡ spaced (codes "policy" ∷ codes "program" ∷ should ∷ skip ∷ []))
+    × IsProgramWord profile should policy.should × IsProgramWord profile skip policy.skip
+
+-- the lines of the passes and of the events
+abbrev pub body_lines : List Attr → List Event → List (List ℕ)
+body_lines passes events = map (attr_line (codes "pass")) passes ++ (codes "events" ∷ map event_line events)
+
+-- the lines of a schedule, this policy line among them
+abbrev pub schedule_lines : ScheduleModel → List ℕ → List (List ℕ)
+schedule_lines s policy =
+    heading_lines (codes "shfl-line") s.version s.profile ++ (form_line s.form ∷ limit_line s.limit ∷ policy ∷ body_lines s.passes s.events)
+
+-- the bytes are a text of the schedule
+abbrev pub IsText : List ℕ → ScheduleModel → Type 0
+IsText bytes s = (policy : List ℕ) × IsRuleLine s.profile policy s.rule × (bytes ≡ flat_map ended (schedule_lines s policy))

@@ -1,0 +1,24 @@
+//! Schedules of a lock: their documents, read line by line, and the report of a run.
+#![tactic(auto)]
+
+mod chooser;
+mod error;
+mod events;
+mod front;
+mod passes;
+mod read;
+mod report;
+mod report_parts;
+mod rule;
+mod run;
+mod run_laws;
+mod schedule;
+#[cfg(test)]
+mod tests;
+
+pub use chooser::RuleChooser;
+pub use error::ScheduleError;
+pub use read::read_schedule;
+pub use run::run_schedule;
+pub use run_laws::runs_are_moves;
+pub use schedule::{Act, Event, Rule, Schedule};

@@ -1,0 +1,156 @@
+//! The lines of a line report, written behind what stands there.
+ghost use Rattle.std.specs.Prelude.{◌≡◌, ◌≤◌, ◌++◌, length, OnOk};
+ghost use Rattle.shfl_core.specs.ShownLine.{shown_line};
+ghost use Rattle.shfl_sched.specs.ReportParts.{parked_text};
+ghost use Rattle.shfl_sched.specs.Report.{version_text, sizes_text, heading_text, deed_text, state_text, asleep_text, row, totals_text};
+
+use crate::report_parts::{
+    act_name, answer_name, form_name, push_hand, push_hold, push_number, push_queue, push_role,
+};
+use crate::schedule::{Event, Schedule};
+use bpf_isa::Profile;
+use policy_text::push_version;
+use shfl_core::Board;
+use shfl_line::{Form, LineState, NoMemory};
+use std::alloc::AllocError;
+
+#[tactic(auto, unfolding(crate::specs::Report::version_text))]
+fn push_name(out: &mut Vec<u8>, version: u8, profile: Profile) -> Result<(), NoMemory>
+    ensures { OnOk result (out.new.items ≡ out.old.items ++ version_text version profile) }
+{
+    out.extend_from_slice(b"shfl-line")?;
+    match push_version(out, version, profile) {
+        Ok(()) => Ok(()),
+        Err(_) => Err(NoMemory),
+    }
+}
+
+#[tactic(auto, unfolding(crate::specs::Report::sizes_text))]
+fn push_sizes(out: &mut Vec<u8>, form: Form, limit: u16, passes: usize) -> Result<(), AllocError>
+    ensures { OnOk result (out.new.items ≡ out.old.items ++ sizes_text form limit passes) }
+{
+    out.extend_from_slice(b" form ")?;
+    out.extend_from_slice(form_name(form))?;
+    out.extend_from_slice(b" limit ")?;
+    push_number(out, u64::from(limit))?;
+    out.extend_from_slice(b" passes ")?;
+    push_number(out, passes as u64)?;
+    out.extend_from_slice(b"\n")
+}
+
+/// How the lock is opened: its form, its largest batch number, and how many passes it has.
+pub fn push_heading(out: &mut Vec<u8>, schedule: &Schedule) -> Result<(), NoMemory>
+    ensures { OnOk result (out.new.items ≡ out.old.items ++ heading_text schedule.now) }
+{
+    push_name(out, schedule.version, schedule.profile)?;
+    push_sizes(out, schedule.form, schedule.limit, schedule.passes.len())?;
+    Ok(())
+}
+
+#[tactic(auto, unfolding(crate::specs::Report::deed_text))]
+fn push_deed(out: &mut Vec<u8>, number: u32, event: Event, admitted: bool) -> Result<(), AllocError>
+    ensures { OnOk result (out.new.items ≡ out.old.items ++ deed_text number event admitted) }
+{
+    push_number(out, u64::from(number))?;
+    out.extend_from_slice(b" ")?;
+    out.extend_from_slice(act_name(event.act))?;
+    out.extend_from_slice(b" ")?;
+    push_number(out, u64::from(event.pass))?;
+    out.extend_from_slice(b" ")?;
+    out.extend_from_slice(answer_name(admitted))
+}
+
+#[tactic(auto, unfolding(crate::specs::Report::state_text))]
+fn push_state(out: &mut Vec<u8>, word: u64, state: &LineState) -> Result<(), AllocError>
+    ensures { OnOk result (out.new.items ≡ out.old.items ++ state_text word state.now) }
+{
+    out.extend_from_slice(b" word ")?;
+    push_number(out, word)?;
+    out.extend_from_slice(b" hold ")?;
+    push_hold(out, state.hold())?;
+    out.extend_from_slice(b" line ")?;
+    push_queue(out, state.mark(), state.line())?;
+    out.extend_from_slice(b" hand ")?;
+    push_hand(out, state.hand())?;
+    out.extend_from_slice(b" role ")?;
+    push_role(out, *state.role())
+}
+
+/// The parked passes of a lock of so many, with commas between them.
+fn push_parked<B: Board>(out: &mut Vec<u8>, board: &B, passes: u32) -> Result<(), AllocError>
+    requires { length (B.meaning board.now).world.passes ≡ passes }
+    ensures { OnOk result (out.new.items
+        ≡ out.old.items ++ parked_text (B.meaning board.now).world) }
+{
+    let mut none = true;
+    for pass in 0..passes {
+        if board.asleep(pass) {
+            if !none {
+                out.extend_from_slice(b",")?;
+            }
+            push_number(out, u64::from(pass))?;
+            none = false;
+        }
+    }
+    if none {
+        out.extend_from_slice(b"-")?;
+    }
+    Ok(())
+}
+
+#[tactic(auto, unfolding(crate::specs::Report::asleep_text))]
+fn push_asleep<B: Board>(
+    out: &mut Vec<u8>,
+    form: Form,
+    board: &B,
+    passes: u32,
+) -> Result<(), AllocError>
+    requires { length (B.meaning board.now).world.passes ≡ passes }
+    ensures { OnOk result (out.new.items
+        ≡ out.old.items ++ asleep_text form (B.meaning board.now).world) }
+{
+    match form {
+        Form::Spin | Form::Rw => Ok(()),
+        Form::Park | Form::RwPark => {
+            out.extend_from_slice(b" asleep ")?;
+            push_parked(out, board, passes)
+        }
+    }
+}
+
+/// An event with its number, whether it was admitted, and what the lock then is and shows.
+#[tactic(auto, unfolding(crate::specs::Report::row))]
+pub fn push_row<B: Board>(
+    out: &mut Vec<u8>,
+    form: Form,
+    number: u32,
+    event: Event,
+    admitted: bool,
+    board: &mut B,
+    state: &mut LineState,
+) -> Result<(), AllocError>
+    requires few { length (B.meaning board.old).world.passes ≤ 64 }
+    requires room { length state.old.mark ≡ length (B.meaning board.old).world.passes }
+    ensures text { OnOk result (out.new.items ≡ out.old.items
+        ++ row form number event admitted (B.meaning board.old).world) }
+    ensures unchanged { B.meaning board.new ≡ B.meaning board.old }
+    ensures shown { state.new ≡ shown_line (B.meaning board.old).world }
+{
+    board.show(state);
+    push_deed(out, number, event, admitted)?;
+    push_state(out, board.word(), state)?;
+    push_asleep(out, form, board, state.mark().len() as u32)?;
+    out.extend_from_slice(b"\n")
+}
+
+/// How many events were admitted, and how many weren't.
+#[tactic(auto, unfolding(crate::specs::Report::totals_text))]
+pub fn push_totals(out: &mut Vec<u8>, admitted: u32, refused: u32) -> Result<(), AllocError>
+    ensures { OnOk result (out.new.items ≡ out.old.items ++ totals_text admitted refused) }
+{
+    out.extend_from_slice(b"end yes ")?;
+    push_number(out, u64::from(admitted))?;
+    out.extend_from_slice(b" no ")?;
+    push_number(out, u64::from(refused))?;
+    out.extend_from_slice(b"\n")
+}

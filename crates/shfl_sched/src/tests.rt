@@ -1,0 +1,1 @@
+//! Documents that are schedules, and documents that aren't.
