@@ -1,0 +1,4 @@
+pub mod Facts
+pub mod Scanning
+pub mod Walking
+pub mod Moving

@@ -1,0 +1,103 @@
+-- A lawful lock stays lawful with every move, and shows the step of the line that the move names.
+use Rattle.std.proofs.Common.{◌≡◌, ℕ, suc, ◌+◌, ◌<◌, ◌≤◌, List, [], ◌∷◌, Bool, true, false, cond, length, refl, sym, ap, ◌∙◌, ⊎_elim, subst, arith}
+use Rattle.std.specs.Prelude.{slice_index, map}
+use Rattle.std.proofs.Math.ListN.{length-set}
+use Rattle.std.proofs.lemmas.List.{get_or_past}
+use Rattle.shfl_line.specs.declared.words.Attr.{Attr as AttrValue}
+use Rattle.shfl_line.specs.Line.{Line, empty}
+use Rattle.shfl_line.specs.Steps.{Admits, after}
+use Rattle.shfl_line.specs.Words.{attr_word}
+use Rattle.shfl_core.specs.declared.phase.Rules.{Rules}
+use Rattle.shfl_core.specs.declared.words.Word.TheVariants.{Attr}
+use Rattle.shfl_core.specs.Words.{look, site}
+use Rattle.shfl_core.specs.Plan.{plan, moving, is_idle, is_resting}
+use Rattle.shfl_core.specs.Take.{take, acquired, released}
+use Rattle.shfl_core.specs.Worlds.{World, known, idle_from, opening, placed_at, stepped, Move, Acquire, Release, Step, after_move}
+use Rattle.shfl_core.specs.ShownLine.{each_below, shown_line}
+use Rattle.shfl_core.specs.Lawful.{Terms, count, Lawful, Advances}
+use Rattle.shfl_core.specs.Runner.{Lock, opened, moved}
+use Rattle.shfl_core.proofs.Lists.{below-or}
+use Rattle.shfl_laws.specs.Moves.{MayMove, MayOpen, OpensLawful, move_event, terms}
+use Rattle.shfl_laws.proofs.Laws.{laws}
+use Rattle.shfl_laws.proofs.Leasts.{each-long, each-read}
+use Rattle.shfl_laws.proofs.MoveLaws.{move-law}
+use Rattle.shfl_laws.proofs.Opens.{opening-law}
+use Rattle.shfl_laws.proofs.ShownLine.{shown-line-law}
+use Rattle.shfl_laws.proofs.ShownOne.{numbers-one}
+use Rattle.shfl_world.specs.LawfulLock.{terms_of, IsLawfulLock, line_event, MovesLawfully, EveryMoveIsLawful}
+use Rattle.shfl_world.proofs.Facts.{full, shown-is}
+
+-- a list of numbers is what a function gives for each place
+each-told : (f : ℕ → ℕ) (n : ℕ) (l : List ℕ) → length l ≡ n → ((q : ℕ) → q < n → f q ≡ slice_index l q) → each_below f n ≡ l
+each-told f n l e h = numbers-one (each_below f n) l (each-long f n ∙ sym e) (λ q. ⊎_elim
+    (λ b. each-read f n q (λ over. absurd (omega arith)) ∙ h q b)
+    (λ b. get_or_past (each_below f n) q 0 (subst (λ k. k ≤ q) (sym (each-long f n)) b) ∙ sym (get_or_past l q 0 (subst (λ k. k ≤ q) (sym e) b)))
+    (below-or q n))
+
+-- what an opening fixed is what the lock's own words say
+pub lawful-lock : (t : Terms) (lock : Lock) → lock.rules ≡ t.rules → length lock.world.passes ≡ count t → Lawful t lock.world → IsLawfulLock lock
+lawful-lock t lock r e ok = subst (λ (u : Terms). Lawful u lock.world) (sym same) ok
+  where
+    attrs : each_below (λ p. look lock.world.words (Attr p)) (length lock.world.passes) ≡ t.attrs
+    attrs = each-told (λ p. look lock.world.words (Attr p)) (length lock.world.passes) t.attrs (sym e) (λ q h. ok.attrs q (subst (λ k. q < k) e h))
+
+    same : terms_of lock ≡ t
+    same = λ j. record { rules = r j; attrs = attrs j }
+
+-- no move adds a pass or takes one away
+moved-long : (r : Rules) (w : World) (m : Move) → length (after_move r w m).passes ≡ length w.passes
+moved-long r w m = by m
+  where
+    maybe : (b : Bool) (w' : World) → length w'.passes ≡ length w.passes → length (cond b w' w).passes ≡ length w.passes
+    maybe true w' e = e
+    maybe false w' e = refl
+
+    by : (m : Move) → length (after_move r w m).passes ≡ length w.passes
+    by (Acquire p mode) = let q = known w.passes p in maybe (is_idle q.phase) (placed_at w p (acquired mode q)) (length-set w.passes p (acquired mode q))
+    by (Release p) = let q = known w.passes p in maybe (is_resting q) (placed_at w p (released q)) (length-set w.passes p (released q))
+    by (Step p choice) = let q = known w.passes p in maybe (moving q) (stepped r w p q choice) (length-set w.passes p (take r p q (look w.words (site (plan r p q))) choice))
+
+pub move-lawful : EveryMoveIsLawful
+move-lawful lock m ok may = record {
+  lawful = lawful-lock t (moved lock m) refl there advance.lawful;
+  admitted = subst (λ (s : Line). Admits lock.rules.limit s (line_event lock m)) (shown-is lock ok) advance.admitted;
+  shown = sym (shown-line-law t (moved lock m).world advance.lawful there) ∙ (advance.shown ∙ ap (λ (s : Line). after s (line_event lock m)) (shown-is lock ok));
+}
+  where
+    t : Terms
+    t = terms_of lock
+
+    advance : Advances t lock.world ok (line_event lock m) (moved lock m).world
+    advance = move-law t (laws t) m lock.world ok may
+
+    there : length (moved lock m).world.passes ≡ count t
+    there = moved-long lock.rules lock.world m ∙ full lock ok
+
+idle-long : (p : ℕ) (attrs : List AttrValue) → length (idle_from p attrs) ≡ length (map attr_word attrs)
+idle-long p [] = refl
+idle-long p (a ∷ rest) = ap suc (idle-long (suc p) rest)
+
+-- a lock at its opening
+module _ (rules : Rules) (attrs : List AttrValue) (may : MayOpen rules attrs) where
+  opens : OpensLawful rules attrs
+  opens = opening-law rules attrs may
+
+  pub opened-lawful : IsLawfulLock (opened rules attrs)
+  opened-lawful = lawful-lock (terms rules attrs) (opened rules attrs) refl (idle-long 0 attrs) opens.lawful
+
+  pub opened-shows : shown_line (opening attrs) ≡ empty (length attrs)
+  opened-shows = sym (shown-line-law (terms rules attrs) (opening attrs) opens.lawful (idle-long 0 attrs)) ∙ opens.shown
+
+-- a lock that makes the move
+module _ (old now new : Lock) (m : Move) (ok : IsLawfulLock old) (same : old ≡ now) (may : MayMove now.rules.form m) (is : new ≡ moved old m) where
+  law : MovesLawfully old m
+  law = move-lawful old m ok (subst (λ (l : Lock). MayMove l.rules.form m) (sym same) may)
+
+  pub stays-lawful : IsLawfulLock new
+  stays-lawful = subst IsLawfulLock (sym is) law.lawful
+
+  pub admits-event : Admits now.rules.limit (shown_line now.world) (line_event now m)
+  admits-event = subst (λ (l : Lock). Admits l.rules.limit (shown_line l.world) (line_event l m)) same law.admitted
+
+  pub shows-event : shown_line new.world ≡ after (shown_line now.world) (line_event now m)
+  shows-event = ap (λ (l : Lock). shown_line l.world) is ∙ (law.shown ∙ (λ j. after (shown_line (same j).world) (line_event (same j) m)))

@@ -1,0 +1,13 @@
+use Rattle.std.proofs.Common.{subst}
+use Rattle.shfl_line.specs.Line.{IsWellFormed}
+use Rattle.shfl_core.specs.ShownLine.{shown_line}
+use Rattle.shfl_core.specs.Runner.{Lock}
+use Rattle.shfl_laws.specs.Headline.{Headline}
+use Rattle.shfl_world.proofs.Facts.{well-formed, plainly}
+use Rattle.shfl_world.proofs.world.World.is_lawful.Goals as goal
+
+pub returns-clause-well_formed : goal.returns-clause-well_formed
+returns-clause-well_formed g c = subst (λ (l : Lock). IsWellFormed l.rules.limit (shown_line l.world)) c.self.view_is (well-formed c.self.inside.plain c.self.invariant)
+
+pub returns-clause-headline : goal.returns-clause-headline
+returns-clause-headline g c = subst (λ (l : Lock). Headline l.rules.limit l.world (shown_line l.world).line (shown_line l.world).hand) c.self.view_is (plainly c.self.inside.plain c.self.invariant)

@@ -1,0 +1,2 @@
+pub mod LawfulLock
+pub mod Showing

@@ -1,0 +1,70 @@
+//! A lock over plain words that is lawful between any two steps.
+ghost use Rattle.std.specs.Prelude.{◌≡◌, ℕ, ◌<◌, ◌≤◌, length, IfOk};
+ghost use Rattle.shfl_core.specs.ShownLine.{shown_line};
+ghost use Rattle.shfl_core.specs.Runner.{opened};
+ghost use Rattle.shfl_core.specs.Waiting.{fresh};
+ghost use Rattle.shfl_line.specs.Line.{IsWellFormed, empty};
+ghost use Rattle.shfl_line.specs.declared.events.Form.{Form};
+ghost use Rattle.shfl_line.specs.declared.words.Attr.{Attr as AttrValue};
+ghost use Rattle.shfl_laws.specs.Headline.{Headline};
+ghost use Rattle.shfl_world.specs.LawfulLock.{IsLawfulLock};
+
+use shfl_core::{PlainWorld, Waiter};
+use shfl_line::{Attr, NoMemory};
+use std::alloc::Global;
+use std::marker::Model;
+
+/// A lock whose words are plain numbers, with all its passes. Every value of the type is lawful, whatever moves led to it.
+#[derive(Drop)]
+pub struct World<W: Waiter> {
+    pub(crate) plain: PlainWorld<W>,
+}
+
+impl<W: Waiter> Model for World<W> {
+    ghost use Rattle.shfl_core.specs.Runner.{Lock};
+    ghost use Rattle.shfl_world.specs.LawfulLock.{IsLawfulLock};
+
+    ghost Value = { Lock };
+
+    ghost view = { λ s. s.plain };
+
+    ghost invariant = { λ s. IsLawfulLock s.plain };
+}
+
+impl<W: Waiter> World<W> {
+    /// A lock with a pass for each of these attributes; `make` makes the waiter of a pass.
+    pub fn open<F: Fn(u32, Attr, u16) -> W>(
+        alloc: Global,
+        attrs: &[Attr],
+        limit: u16,
+        make: F,
+    ) -> Result<World<W>, NoMemory>
+        ghost form: { Form }
+        requires some { 0 < length attrs.now }
+        requires few { length attrs.now ≤ 64 }
+        requires limited { (0 < limit) × (limit ≤ 1024) }
+        requires callable { F.IsAlwaysCallable make }
+        requires idle { (k : ℕ) (a : AttrValue) (w : _) → F.post make k a limit w → W.meaning w ≡ fresh k a (record { limit = limit; form = form }) }
+        ensures opened { IfOk result (λ w. w ≡ opened (record { limit = limit; form = form }) attrs.now) }
+        ensures shown { IfOk result (λ w. shown_line w.world ≡ empty (length attrs.now)) }
+    {
+        let plain = PlainWorld::open(alloc, attrs, limit, make)?;
+        Ok(World { plain })
+    }
+
+    /// How many passes there are.
+    pub fn count(&self) -> usize
+        ensures { result ≡ length self.now.world.passes }
+    {
+        self.plain.count()
+    }
+
+    /// What holds of every lock of this type; the call does nothing when it runs.
+    pub fn is_lawful(&self)
+        ensures lawful { IsLawfulLock self.now }
+        ensures well_formed { IsWellFormed self.now.rules.limit (shown_line self.now.world) }
+        ensures headline { Headline self.now.rules.limit self.now.world (shown_line self.now.world).line (shown_line self.now.world).hand }
+    {
+        let _ = &self.plain;
+    }
+}
