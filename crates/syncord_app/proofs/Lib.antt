@@ -1,4 +1,1 @@
-pub mod Tell
-pub mod NoBytes
-pub mod Stages
-pub mod Turns
+pub mod Silent

@@ -34,7 +34,7 @@ fn parking_and_sharing(me: u32, attr: Attr, limit: u16) -> Parked<RwLocal>
 }
 
 /// Runs the schedule on a lock of these waiters.
-fn run_on<W: Waiter, F: Fn(u32, Attr, u16) -> W>(
+fn run_on<W: Waiter + Drop, F: Fn(u32, Attr, u16) -> W>(
     alloc: Global,
     schedule: &Schedule,
     make: F,
