@@ -1,5 +1,6 @@
 pub mod Behind
 pub mod Surveying
+pub mod Again
 pub mod Resolving
 pub mod Sound
 pub mod SoundLines

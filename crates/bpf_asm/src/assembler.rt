@@ -6,7 +6,7 @@ ghost use Rattle.bpf_isa.specs.Encoding.{encoding};
 ghost use Rattle.bpf_isa.specs.Flow.{is_half, jump_offset};
 ghost use Rattle.bpf_isa.specs.WellFormed.{IsWellFormed, IsOf};
 ghost use Rattle.bpf_asm.specs.Assembly.{Line, fits_short, fits_long, at_offset, half_at, into_half, first_offset, within, reaching, jump_to, name_at, code_at, slots_in, lines_in, assembly};
-ghost use Rattle.bpf_asm.specs.Marks.{IsSurvey};
+ghost use Rattle.bpf_asm.specs.Marks.{is_again, is_at, unless_at, marked_in, IsSurvey};
 ghost use Rattle.bpf_asm.specs.Statements.{with_short};
 ghost use Rattle.bpf_asm.specs.Views.{line_of, slots_held, GivesSlots, Gives};
 
@@ -17,7 +17,7 @@ use crate::survey::survey;
 use bpf_isa::{Insn, MAX_SLOTS, Profile};
 use doc_text::piece_at;
 use std::alloc::{AllocError, Global};
-use std::collections::BTreeMap;
+use std::collections::HashMap;
 
 /// A name that was declared before.
 const DECLARED_BEFORE: u8 = 5;
@@ -182,35 +182,38 @@ fn jump(slot: usize, insn: Insn, found: Option<Mark>) -> Result<Slots, u8>
     }
 }
 
-/// A name where its first declaration stands.
-fn name(line: u32, found: Option<Mark>) -> Result<Slots, u8>
-    ensures { GivesSlots result (name_at line found) }
+/// A name where it is declared for the first time.
+fn name(line: u32, again: Option<u32>) -> Result<Slots, u8>
+    ensures { GivesSlots result (unless_at line again) }
 {
-    match found {
-        Some(mark) => {
-            if mark.line == line {
-                Ok(Slots::Nothing)
-            } else {
+    match again {
+        Some(again) => {
+            if again == line {
                 Err(DECLARED_BEFORE)
+            } else {
+                Ok(Slots::Nothing)
             }
         }
-        None => Err(DECLARED_BEFORE),
+        None => Ok(Slots::Nothing),
     }
 }
 
-/// The slots of a line among all lines, or its lowest fault.
+/// The slots of a line among all lines, or its lowest fault. No line before it declares a name again.
 fn line_slots(
-    marks: &BTreeMap<&[u8], Mark>,
+    marks: &HashMap<&[u8], Mark>,
     halves: &[bool],
+    again: Option<u32>,
     line: u32,
     slot: usize,
     read: Result<Statement<'_>, u8>,
 ) -> Result<Slots, u8>
     requires { slot ≤ 512 }
-    ensures { (all : List Line) → IsSurvey marks.now halves.now all → GivesSlots result (slots_in all line slot (line_of read.entry)) }
+    ensures { (all : List Line) → IsSurvey marks.now halves.now again all
+        → is_again (marked_in all) line (line_of read.entry) ≡ is_at line again
+        → GivesSlots result (slots_in all line slot (line_of read.entry)) }
 {
     match read {
-        Ok(Statement::Name(found)) => name(line, mark_named(marks, found)),
+        Ok(Statement::Name(_)) => name(line, again),
         Ok(Statement::One(insn)) => code(halves, slot, Slots::One(insn)),
         Ok(Statement::Wide { dst, low, high }) => code(
             halves,
@@ -244,11 +247,12 @@ fn resolve(
     alloc: Global,
     profile: Profile,
     text: &[u8],
-    marks: &BTreeMap<&[u8], Mark>,
+    marks: &HashMap<&[u8], Mark>,
     halves: &[bool],
+    again: Option<u32>,
 ) -> Result<Vec<Insn>, AsmError>
     requires short { length text.now < 2 ^ 31 }
-    requires survey { IsSurvey marks.now halves.now (lines_in profile text.now) }
+    requires survey { IsSurvey marks.now halves.now again (lines_in profile text.now) }
     ensures { Gives (λ v. v.items) result (assembly profile text.now) }
 {
     let mut insns = Vec::new(alloc);
@@ -257,7 +261,7 @@ fn resolve(
     while !rest.is_empty() {
         let (piece, behind) = piece_at(rest);
         let read = read_line(profile, piece);
-        match line_slots(marks, halves, line, insns.len(), read) {
+        match line_slots(marks, halves, again, line, insns.len(), read) {
             Ok(slots) => push_slots(&mut insns, slots)?,
             Err(what) => return Err(AsmError::Format { line, what }),
         }
@@ -278,8 +282,8 @@ fn assemble_exactly(alloc: Global, profile: Profile, text: &[u8]) -> Result<Vec<
     requires { length text.now < 2 ^ 31 }
     ensures { Gives (λ v. v.items) result (assembly profile text.now) }
 {
-    let (marks, halves) = survey(alloc, profile, text)?;
-    resolve(alloc, profile, text, &marks, &halves)
+    let (marks, halves, again) = survey(alloc, profile, text)?;
+    resolve(alloc, profile, text, &marks, &halves, again)
 }
 
 /// The instructions of a text, one a line, or the first bad line and its lowest fault. They are those that decoding can give.

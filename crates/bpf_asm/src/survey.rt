@@ -1,8 +1,10 @@
-//! The first walk over a text: where its names stand, and which of its slots are second halves.
-ghost use Rattle.std.specs.Prelude.{◌≡◌, ◌+◌, ◌*◌, ◌^◌, ◌<◌, ◌≤◌, ◌++◌, ℕ, List, length, map, IfOk, OnOk, Result};
+//! The first walk over a text: where its names stand, which of its slots are second halves, and the first name that is declared
+//! again.
+ghost use Rattle.std.specs.Prelude.{◌≡◌, ◌+◌, ◌*◌, ◌^◌, ◌<◌, ◌≤◌, ◌++◌, ℕ, List, length, map, Option, Some, None, IfOk, OnOk, Result, if◌then◌else◌};
 ghost use Rattle.bpf_isa.specs.Flow.{is_half};
 ghost use Rattle.bpf_asm.specs.Assembly.{slots_of, layout, declares, mark_of, lines_in};
-ghost use Rattle.bpf_asm.specs.Marks.{mark_in, first_mark, IsSurvey};
+ghost use Rattle.bpf_asm.specs.Forms.{or_else};
+ghost use Rattle.bpf_asm.specs.Marks.{mark_in, first_mark, is_again, IsSurvey};
 ghost use Rattle.bpf_asm.specs.Views.{line_of};
 
 use crate::names::{Mark, note_name};
@@ -10,20 +12,35 @@ use crate::statement::{Statement, read_line};
 use bpf_isa::Profile;
 use doc_text::piece_at;
 use std::alloc::{AllocError, Global};
-use std::collections::BTreeMap;
+use std::collections::HashMap;
 
-/// Notes the name that a line declares.
+/// Notes the name that a line declares, and tells whether another line declared it.
 fn note_mark<'a>(
-    marks: &mut BTreeMap<&'a [u8], Mark>,
+    marks: &mut HashMap<&'a [u8], Mark>,
     mark: Mark,
     read: Result<Statement<'a>, u8>,
-) -> Result<(), AllocError>
-    ensures { OnOk result ((name : List ℕ) → mark_in marks.new name
+) -> Result<bool, AllocError>
+    ensures noted { OnOk result ((name : List ℕ) → mark_in marks.new name
         ≡ first_mark (mark_in marks.old name) (declares name (line_of read.entry)) mark) }
+    ensures again { IfOk result (λ again. again
+        ≡ is_again (λ name. mark_in marks.new name) mark.line (line_of read.entry)) }
 {
     match read {
-        Ok(Statement::Name(name)) => note_name(marks, name, mark),
-        _ => Ok(()),
+        Ok(Statement::Name(name)) => {
+            let found = note_name(marks, name, mark)?;
+            Ok(found.line != mark.line)
+        }
+        _ => Ok(false),
+    }
+}
+
+/// The line noted before, or this one where it counts.
+fn first_line(before: Option<u32>, counts: bool, line: u32) -> Option<u32>
+    ensures { result ≡ or_else before (if counts then Some line else None) }
+{
+    match before {
+        Some(before) => Some(before),
+        None => { if counts { Some(line) } else { None } }
     }
 }
 
@@ -52,17 +69,19 @@ fn note_slots(halves: &mut Vec<bool>, read: Result<Statement<'_>, u8>) -> Result
     }
 }
 
-/// Where the names of a text stand, and which of its slots are second halves.
+/// Where the names of a text stand, which of its slots are second halves, and the first line that declares a name again.
 pub fn survey<'a>(
     alloc: Global,
     profile: Profile,
     text: &'a [u8],
-) -> Result<(BTreeMap<&'a [u8], Mark>, Vec<bool>), AllocError>
+) -> Result<(HashMap<&'a [u8], Mark>, Vec<bool>, Option<u32>), AllocError>
     requires { length text.now < 2 ^ 31 }
-    ensures { IfOk result (λ found. IsSurvey found.0 found.1.items (lines_in profile text.now)) }
+    ensures { IfOk result (λ found. IsSurvey found.0 found.1.items found.2
+        (lines_in profile text.now)) }
 {
-    let mut marks = BTreeMap::new(alloc);
+    let mut marks = HashMap::new(alloc);
     let mut halves = Vec::new(alloc);
+    let mut again = None;
     let mut rest = text;
     let mut line: u32 = 1;
     while !rest.is_empty() {
@@ -72,10 +91,11 @@ pub fn survey<'a>(
             line,
             slot: halves.len() as u32,
         };
-        note_mark(&mut marks, mark, read)?;
+        let counts = note_mark(&mut marks, mark, read)?;
+        again = first_line(again, counts, line);
         note_slots(&mut halves, read)?;
         line += 1;
         rest = behind;
     }
-    Ok((marks, halves))
+    Ok((marks, halves, again))
 }

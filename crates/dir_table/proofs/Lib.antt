@@ -6,3 +6,4 @@ pub mod Next
 pub mod Order
 pub mod Places
 pub mod Ranges
+pub mod Shifting

@@ -23,6 +23,11 @@ gap_in_range es place zero gap = omega arith
 gap_in_range [] place (suc i) gap = absurd gap
 gap_in_range (e ∷ es) place (suc i) gap = let below = gap_in_range es place i gap.1 in omega arith
 
+pub at_place : (es : List (Place × ℕ)) (place : Place) (i : ℕ) (d : Place × ℕ) → IsAt es place i → (get_or es i d).0 ≡ place
+at_place [] place i d here = absurd here
+at_place (e ∷ es) place zero d here = sym (places_exact place e.0 here)
+at_place (e ∷ es) place (suc i) d here = at_place es place i d here.1
+
 pub find_at : (es : List (Place × ℕ)) (place : Place) (i : ℕ) (d : Place × ℕ) → IsAt es place i → find place_cmp place es ≡ Some (get_or es i d).1
 find_at [] place i d here = absurd here
 find_at (e ∷ es) place zero d here = ap (λ r. cond (is_eq r) (Some e.1) (find place_cmp place es)) here

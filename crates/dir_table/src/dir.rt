@@ -8,6 +8,7 @@ ghost use Rattle.dir_table.specs.Answers.{reply_to, after, IsLeastAfter, NoneAft
 ghost use Rattle.dir_table.specs.Meanings.{IsAdmitted};
 
 use crate::NoMemory;
+use crate::buffer::RowBuffer;
 use crate::calls::{DirReply, DirRow};
 use crate::rows::{count_of, next_of, number_of, put_row, remove_row};
 use std::alloc::Global;
@@ -16,14 +17,13 @@ use std::marker::Model;
 /// The names of 64 directories, each with the number of its file.
 #[derive(Drop)]
 pub struct Dir {
-    rows: Vec<DirRow>,
+    rows: RowBuffer,
     next_number: u64,
     room: u32,
     spare: u32,
 }
 
 impl Model for Dir {
-    ghost use Rattle.std.specs.Prelude.{vec_capacity};
     ghost use Rattle.dir_table.specs.Directory.{Directory, coded_directory};
     ghost use Rattle.dir_table.specs.Rows.{IsConsistent, names_of};
 
@@ -32,13 +32,13 @@ impl Model for Dir {
     ghost coded = { coded_directory };
 
     ghost view = { λ d. record {
-      names = names_of d.rows.items;
+      names = names_of d.rows.rows;
       next_number = d.next_number;
       room = d.room;
       spare = d.spare;
     } };
 
-    ghost invariant = { λ d. IsConsistent d.rows.items (vec_capacity d.rows)
+    ghost invariant = { λ d. IsConsistent d.rows.rows d.rows.capacity
         d.next_number d.room d.spare };
 }
 
@@ -51,7 +51,7 @@ impl Dir {
             d ≡ record { names = empty; next_number = 1; room = room; spare = calls }) }
     {
         Ok(Dir {
-            rows: Vec::with_capacity(alloc, calls as usize)?,
+            rows: RowBuffer::with_room(alloc, &[], calls as usize)?,
             next_number: 1,
             room,
             spare: calls,
@@ -62,10 +62,9 @@ impl Dir {
     pub fn copy(&self, alloc: Global) -> Result<Dir, NoMemory>
         ensures { IfOk result (λ d. d ≡ self.now) }
     {
-        let mut rows = Vec::with_capacity(alloc, self.rows.len() + self.spare as usize)?;
-        rows.extend_from_slice(&self.rows)?;
+        let rows = self.rows.as_slice();
         Ok(Dir {
-            rows,
+            rows: RowBuffer::with_room(alloc, rows, self.spare as usize)?,
             next_number: self.next_number,
             room: self.room,
             spare: self.spare,
@@ -92,7 +91,7 @@ impl Dir {
         ensures all { entries_of result.now ≡ entries self.now.names }
         ensures in_range { All (λ row. IsInRange self.now.room row.dir row.name) result.now }
     {
-        &self.rows
+        self.rows.as_slice()
     }
 
     /// Makes a file with the next number, where there is none of this name.
@@ -105,7 +104,7 @@ impl Dir {
         ensures others { OthersStay self.old self.new (dir, name) }
     {
         self.spare -= 1;
-        if number_of(&self.rows, dir, name).is_some() {
+        if number_of(self.rows.as_slice(), dir, name).is_some() {
             return DirReply::Exists;
         }
         let ino = self.next_number;
@@ -141,7 +140,7 @@ impl Dir {
     {
         self.spare -= 1;
         if dir == to_dir && name == to_name {
-            return done_if(number_of(&self.rows, dir, name).is_some());
+            return done_if(number_of(self.rows.as_slice(), dir, name).is_some());
         }
         match remove_row(&mut self.rows, dir, name) {
             Some(ino) => {
@@ -165,7 +164,7 @@ impl Dir {
         ensures reply { result ≡ reply_to self.now (DirCall.Find dir name) }
         ensures absent { (result ≡ DirReply.Absent) ↔ IsNone (get self.now.names (dir, name)) }
     {
-        match number_of(&self.rows, dir, name) {
+        match number_of(self.rows.as_slice(), dir, name) {
             Some(ino) => DirReply::Ino(ino),
             None => DirReply::Absent,
         }
@@ -176,7 +175,7 @@ impl Dir {
         requires { dir < 64 }
         ensures { result ≡ reply_to self.now (DirCall.Count dir) }
     {
-        DirReply::Number(count_of(&self.rows, dir))
+        DirReply::Number(count_of(self.rows.as_slice(), dir))
     }
 
     /// The least name of the directory above `after`, or its least name.
@@ -187,7 +186,7 @@ impl Dir {
             → IsLeastAfter self.now.names dir after name }
         ensures end { result ≡ DirReply.End → NoneAfter self.now.names dir after }
     {
-        match next_of(&self.rows, dir, after) {
+        match next_of(self.rows.as_slice(), dir, after) {
             Some(name) => DirReply::Name(name),
             None => DirReply::End,
         }

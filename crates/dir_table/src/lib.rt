@@ -1,10 +1,13 @@
 //! A directory of regular files: names with numbers, in 64 fixed directories.
 #![tactic(auto)]
 
+mod buffer;
 mod calls;
+mod cells;
 mod dir;
 mod object;
 mod rows;
+mod shifts;
 #[cfg(test)]
 mod tests;
 

@@ -1,5 +1,5 @@
-//! Rows in order of directory and name, kept in a vector.
-ghost use Rattle.std.specs.Prelude.{◌≡◌, ℕ, ◌+◌, ◌<◌, ◌≤◌, ◌^◌, ◌==◌, ◌&&◌, option_map, filter, find, IfOk, IfErr, OnSome, IfNone, length, vec_len, vec_capacity};
+//! Rows in order of directory and name.
+ghost use Rattle.std.specs.Prelude.{◌≡◌, ℕ, ◌+◌, ◌<◌, ◌≤◌, ◌^◌, ◌==◌, ◌&&◌, option_map, filter, find, IfOk, IfErr, OnSome, IfNone, length};
 ghost use Rattle.std.specs.List.Sorted.{IsSearchInRange};
 ghost use Rattle.std.specs.FinMap as map_of;
 ghost use Rattle.std.specs.FinMap.{put};
@@ -8,6 +8,7 @@ ghost use Rattle.dir_table.specs.Names.{place_cmp, is_other, entries_of};
 ghost use Rattle.dir_table.specs.Rows.{AreInOrder, IsAt, IsGapFor, BeginAfter};
 ghost use Rattle.dir_table.specs.Answers.{comes_after};
 
+use crate::buffer::RowBuffer;
 use crate::calls::DirRow;
 
 /// Where the row of the name is, or where it would go.
@@ -31,35 +32,33 @@ pub fn number_of(rows: &[DirRow], dir: u8, name: u32) -> Option<u64>
     }
 }
 
-/// Puts a row in its place, or its number where the name is there.
-pub fn put_row(rows: &mut Vec<DirRow>, row: DirRow)
-    requires in_order { AreInOrder rows.old.items }
-    requires room { vec_len rows.old < vec_capacity rows.old }
-    ensures put { entries_of rows.new.items
-        ≡ put place_cmp (row.dir, row.name) row.ino (entries_of rows.old.items) }
-    ensures len { vec_len rows.new ≤ vec_len rows.old + 1 }
-    ensures capacity { vec_capacity rows.new ≡ vec_capacity rows.old }
+/// Puts a row in its place, or in that of the row that has its name.
+pub fn put_row(rows: &mut RowBuffer, row: DirRow)
+    requires in_order { AreInOrder rows.old.rows }
+    requires room { length rows.old.rows < rows.old.capacity }
+    ensures put { entries_of rows.new.rows
+        ≡ put place_cmp (row.dir, row.name) row.ino (entries_of rows.old.rows) }
+    ensures len { length rows.new.rows ≤ length rows.old.rows + 1 }
+    ensures capacity { rows.new.capacity ≡ rows.old.capacity }
 {
-    match place_of(rows, row.dir, row.name) {
-        Ok(at) => rows[at].ino = row.ino,
-        Err(at) => {
-            let _ = rows.insert(at, row);
-        }
+    match place_of(rows.as_slice(), row.dir, row.name) {
+        Ok(at) => rows.replace(at, row),
+        Err(at) => rows.insert(at, row),
     }
 }
 
 /// Removes the row of the name, and answers its number.
-pub fn remove_row(rows: &mut Vec<DirRow>, dir: u8, name: u32) -> Option<u64>
-    requires { AreInOrder rows.old.items }
-    ensures number { result ≡ map_of.find place_cmp (dir, name) (entries_of rows.old.items) }
-    ensures removed { entries_of rows.new.items
-        ≡ where_key place_cmp (is_other (dir, name)) (entries_of rows.old.items) }
-    ensures fewer { vec_len rows.new ≤ vec_len rows.old }
-    ensures one_fewer { OnSome result (vec_len rows.new < vec_len rows.old) }
-    ensures absent { IfNone result (rows.new.items ≡ rows.old.items) }
-    ensures capacity { vec_capacity rows.new ≡ vec_capacity rows.old }
+pub fn remove_row(rows: &mut RowBuffer, dir: u8, name: u32) -> Option<u64>
+    requires { AreInOrder rows.old.rows }
+    ensures number { result ≡ map_of.find place_cmp (dir, name) (entries_of rows.old.rows) }
+    ensures removed { entries_of rows.new.rows
+        ≡ where_key place_cmp (is_other (dir, name)) (entries_of rows.old.rows) }
+    ensures fewer { length rows.new.rows ≤ length rows.old.rows }
+    ensures one_fewer { OnSome result (length rows.new.rows < length rows.old.rows) }
+    ensures absent { IfNone result (rows.new.rows ≡ rows.old.rows) }
+    ensures capacity { rows.new.capacity ≡ rows.old.capacity }
 {
-    match place_of(rows, dir, name) {
+    match place_of(rows.as_slice(), dir, name) {
         Ok(at) => Some(rows.remove(at).ino),
         Err(_) => None,
     }

@@ -96,6 +96,44 @@ fn calls_are_answered_by_the_names_that_are_there(rt: HostRuntime) -> Result<(),
     Ok(())
 }
 
+fn row(name: u32, ino: u64) -> DirRow {
+    DirRow { dir: 0, name, ino }
+}
+
+// Makes the name, where a call is left.
+fn makes(rt: &impl Abort, dir: &mut Dir, name: u32, ino: u64)
+    requires { name < dir.old.room }
+    ensures { dir.new.room ≡ dir.old.room }
+{
+    does(rt, dir, DirCall::Make { dir: 0, name }, DirReply::Ino(ino));
+}
+
+#[test]
+fn names_come_in_at_either_end_and_in_the_middle(rt: HostRuntime) -> Result<(), Fail> {
+    let mut dir = Dir::open(rt.alloc(), 8, 9)?;
+    makes(&rt, &mut dir, 7, 1);
+    makes(&rt, &mut dir, 6, 2);
+    makes(&rt, &mut dir, 4, 3);
+    makes(&rt, &mut dir, 3, 4);
+    makes(&rt, &mut dir, 1, 5);
+    makes(&rt, &mut dir, 0, 6);
+    makes(&rt, &mut dir, 5, 7);
+    makes(&rt, &mut dir, 2, 8);
+    let dropped = DirCall::Drop { dir: 0, name: 1 };
+    does(&rt, &mut dir, dropped, DirReply::Done);
+    let rows = [
+        row(0, 6),
+        row(2, 8),
+        row(3, 4),
+        row(4, 3),
+        row(5, 7),
+        row(6, 2),
+        row(7, 1),
+    ];
+    assert_eq!(rt; dir.rows(), rows.as_slice());
+    Ok(())
+}
+
 #[test]
 fn a_write_is_read_back_and_merged(rt: HostRuntime) -> Result<(), Fail> {
     let alloc = rt.alloc();

@@ -10,6 +10,7 @@ use crate::view::{CurrentWord, Declared, View};
 use atomic_table::{Seat, Table};
 use shfl_policy::Policy;
 use std::alloc::Global;
+use std::fmt;
 use std::marker::Model;
 
 /// How many places there are. Version v stands in place v modulo 8.
@@ -137,4 +138,10 @@ pub struct InUse {
     pub loaded: u64,
     pub word: u64,
     pub instance: Instance,
+}
+
+impl fmt::Display for InUse {
+    fn fmt<W: fmt::Write>(&self, f: &mut fmt::Formatter<W>) -> fmt::Result {
+        f.write_str("the place of the next version is in use")
+    }
 }

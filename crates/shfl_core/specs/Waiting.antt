@@ -44,6 +44,13 @@ fresh p attr rules = record { attr = attr; rules = rules; pass = idle p }
 abbrev pub MayUse : Form → Mode → Type 0
 MayUse form mode = shares form ≡ false → mode ≡ Write
 
+abbrev pub rules : ℕ → Form → Rules
+rules limit form = record { limit = limit; form = form }
+
+-- each waiter that may be made for a number and attributes is idle, and goes by these rules
+abbrev pub MakesIdle : {W : Type 0} → (W → Meaning) → (ℕ → Attr → W → Type 0) → Rules → Type 0
+MakesIdle {W = W} meaning made t = (p : ℕ) (a : Attr) (w : W) → made p a w → meaning w ≡ fresh p a t
+
 abbrev pub acquires : Mode → Meaning → Meaning
 acquires mode a = record a { pass = acquired mode a.pass }
 

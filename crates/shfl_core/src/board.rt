@@ -33,7 +33,8 @@ pub trait Board {
     /// What the pass asks the policy at its next step.
     fn ask(&self, pass: u32) -> Ask
         requires declared { pass < length (meaning self.now).world.passes }
-        ensures { result ≡ waiting.ask (meaning self.now).rules (known (meaning self.now).world.passes pass) };
+        ensures { result
+            ≡ waiting.ask (meaning self.now).rules (known (meaning self.now).world.passes pass) };
 
     /// The pass makes its next step; refused where it has none. The choice counts only where the pass asks.
     fn step(&mut self, pass: u32, choice: bool) -> bool

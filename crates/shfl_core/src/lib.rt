@@ -6,6 +6,7 @@ pub mod board;
 pub mod found;
 pub mod local;
 pub mod phase;
+pub mod plans;
 pub mod rows;
 #[cfg(test)]
 mod tests;

@@ -5,7 +5,8 @@ ghost use Rattle.shfl_core.specs.Waiting.{Meaning, fresh};
 
 use crate::asks::{acquire_row, ask_row, idle_pass, is_moving, is_resting, release_row, watch_row};
 use crate::phase::{Ask, Nap, PassState, Phase, Registers, Rules, Watch};
-use crate::rows::{plan_row, take_row};
+use crate::plans::plan_row;
+use crate::rows::take_row;
 use crate::waiter::Waiter;
 use crate::words::Access;
 use shfl_line::{Attr, Form, Mode};

@@ -17,7 +17,8 @@ const PLAIN: Attr = Attr {
 };
 
 fn open(alloc: Global) -> Result<PlainWorld<Local>, NoMemory>
-    ensures { IfOk result (λ lock. lock ≡ opened (record { limit = 1024; form = Spin }) (PLAIN ∷ [])) }
+    ensures { IfOk result
+        (λ lock. lock ≡ opened (record { limit = 1024; form = Spin }) (PLAIN ∷ [])) }
 {
     PlainWorld::open(alloc, &[PLAIN], 1024, Local::new)
 }

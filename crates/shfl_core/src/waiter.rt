@@ -35,7 +35,8 @@ pub trait Waiter {
 
     /// The phase, as far as parking depends on it.
     fn watch(&self) -> Watch
-        ensures { result ≡ waiting.watch_at (meaning self.now).pass.reg (meaning self.now).pass.phase };
+        ensures { result
+            ≡ waiting.watch_at (meaning self.now).pass.reg (meaning self.now).pass.phase };
 
     fn nap(&self) -> Nap
         ensures { result ≡ (meaning self.now).pass.nap };

@@ -3,10 +3,9 @@ ghost use Rattle.std.specs.Prelude.{◌≡◌, ℕ, ◌+◌, ◌*◌, ◌<◌, �
 ghost use Rattle.shfl_core.specs.Plan as plan;
 ghost use Rattle.shfl_core.specs.Runner as runner;
 ghost use Rattle.shfl_core.specs.Waiting as waiting;
-ghost use Rattle.shfl_core.specs.Waiting.{MayUse, fresh};
+ghost use Rattle.shfl_core.specs.Waiting.{MayUse, MakesIdle, rules};
 ghost use Rattle.shfl_core.specs.Runner.{opened};
 ghost use Rattle.shfl_line.specs.declared.events.Form.{Form};
-ghost use Rattle.shfl_line.specs.declared.words.Attr.{Attr as AttrValue};
 ghost use Rattle.shfl_core.specs.declared.words.Word.TheVariants.{Lock as LockWord};
 ghost use Rattle.shfl_core.specs.Words.{look, put, site, told};
 ghost use Rattle.shfl_core.specs.Words as words;
@@ -109,19 +108,21 @@ impl<W: Waiter> Model for PlainWorld<W> {
 }
 
 impl<W: Waiter> PlainWorld<W> {
-    /// A lock with a pass for each of these attributes; `make` makes the waiter of a pass.
+    /// A lock with a pass for each of these attributes; `make` makes the waiter of a pass, all of one form.
     pub fn open<F: Fn(u32, Attr, u16) -> W>(
         alloc: Global,
         attrs: &[Attr],
         limit: u16,
         make: F,
     ) -> Result<PlainWorld<W>, NoMemory>
-        ghost form: { Form }
         requires some { 0 < length attrs.now }
         requires few { length attrs.now ≤ 64 }
         requires callable { F.IsAlwaysCallable make }
-        requires idle { (k : ℕ) (a : AttrValue) (w : _) → F.post make k a limit w → W.meaning w ≡ fresh k a (record { limit = limit; form = form }) }
-        ensures { IfOk result (λ w. w ≡ opened (record { limit = limit; form = form }) attrs.now) }
+        requires idle { (form : Form)
+            × MakesIdle W.meaning (λ k a w. F.post make k a limit w) (rules limit form) }
+        ensures { (form : Form)
+            → MakesIdle W.meaning (λ k a w. F.post make k a limit w) (rules limit form)
+            → IfOk result (λ w. w ≡ opened (rules limit form) attrs.now) }
     {
         let count = attrs.len();
         let mut words = Vec::with_capacity(alloc, 4 * count + 2)?;

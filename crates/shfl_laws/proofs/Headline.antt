@@ -22,7 +22,7 @@ use Rattle.shfl_laws.proofs.Order
 use Rattle.shfl_laws.proofs.Leave
 use Rattle.shfl_laws.proofs.HoldersPlain.{holders, writer-in-word, word-has-writer, reader-in-word}
 
-link-is : (f : Phase) → is_linking f ≡ true → f ≡ Link
+pub link-is : (f : Phase) → is_linking f ≡ true → f ≡ Link
 link-is f h = grind arith
 
 pub fore-queued : (q : PassState) → is_fore q ≡ true → is_queued q ≡ true

@@ -16,7 +16,7 @@ use Rattle.shfl_laws.specs.Headline.{Holds, HoldsAs, Holders, OneWriter, Readers
 use Rattle.shfl_laws.proofs.Counts.{write-in, read-in}
 
 -- somebody who holds
-some-writer : (l : List (ℕ × Mode)) → 0 < writer_count l → (p : ℕ) × (0 < write_of p l)
+pub some-writer : (l : List (ℕ × Mode)) → 0 < writer_count l → (p : ℕ) × (0 < write_of p l)
 some-writer [] h = absurd (omega arith)
 some-writer (x ∷ xs) h = by (is_write x.1) refl (some-writer xs)
   where
@@ -61,13 +61,13 @@ module _ (t : Terms) (w : World) (ok : Lawful t w) where
       by Write e = inl (record { holds = h; mode = e })
       by Read e = inr (record { holds = h; mode = e })
 
-  writes-once : (q : ℕ) → HoldsAs w Write q → write_of q s.hold ≡ 1
+  pub writes-once : (q : ℕ) → HoldsAs w Write q → write_of q s.hold ≡ 1
   writes-once q h = ok.agrees.holding.writer q ∙ (λ j. cond (h.holds j && is_write (h.mode j)) 1 0)
 
-  reads-once : (q : ℕ) → HoldsAs w Read q → read_of q s.hold ≡ 1
+  pub reads-once : (q : ℕ) → HoldsAs w Read q → read_of q s.hold ≡ 1
   reads-once q h = ok.agrees.holding.reader q ∙ (λ j. cond (h.holds j && not (is_write (h.mode j))) 1 0)
 
-  as-writer : (q : ℕ) → 0 < write_of q s.hold → HoldsAs w Write q
+  pub as-writer : (q : ℕ) → 0 < write_of q s.hold → HoldsAs w Write q
   as-writer q h = by (is_holding (pass q).phase) (pass q).reg.mode refl refl (ok.agrees.holding.writer q)
     where
       by : (b : Bool) (m : Mode) → is_holding (pass q).phase ≡ b → (pass q).reg.mode ≡ m → write_of q s.hold ≡ cond (b && is_write m) 1 0 → HoldsAs w Write q
@@ -75,7 +75,7 @@ module _ (t : Terms) (w : World) (ok : Lawful t w) where
       by true Read e f g = absurd (omega arith)
       by false m e f g = absurd (omega arith)
 
-  as-reader : (q : ℕ) → 0 < read_of q s.hold → HoldsAs w Read q
+  pub as-reader : (q : ℕ) → 0 < read_of q s.hold → HoldsAs w Read q
   as-reader q h = by (is_holding (pass q).phase) (pass q).reg.mode refl refl (ok.agrees.holding.reader q)
     where
       by : (b : Bool) (m : Mode) → is_holding (pass q).phase ≡ b → (pass q).reg.mode ≡ m → read_of q s.hold ≡ cond (b && not (is_write m)) 1 0 → HoldsAs w Read q

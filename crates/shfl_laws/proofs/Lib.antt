@@ -70,3 +70,11 @@ pub mod Stretch
 pub mod MeasureRows
 pub mod MeasureMoves
 pub mod MeasureRounds
+pub mod PlainOwed
+pub mod PlainHolding
+pub mod PlainOrder
+pub mod PlainGrouping
+pub mod PlainRound
+pub mod Plain
+pub mod PlainMoves
+pub mod SeenAlike

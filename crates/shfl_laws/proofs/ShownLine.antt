@@ -36,7 +36,7 @@ is-both false b e = absurd (cc)
 both : (a b : Bool) → a ≡ true → b ≡ true → (a && b) ≡ true
 both a b e f = λ j. e j && f j
 
-ready-is : (f : Phase) → is_ready f ≡ true → f ≡ Ready
+pub ready-is : (f : Phase) → is_ready f ≡ true → f ≡ Ready
 ready-is f h = grind arith
 
 link-is : (f : Phase) → is_linking f ≡ true → f ≡ Link

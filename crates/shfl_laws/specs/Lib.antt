@@ -6,3 +6,9 @@ pub mod Seen
 pub mod Facts
 pub mod RoundMeasure
 pub mod Rounds
+pub mod Shows
+pub mod PlainFacts
+pub mod PlainOwed
+pub mod Plain
+pub mod PlainMoves
+pub mod SeenAlike

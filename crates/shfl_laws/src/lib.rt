@@ -8,9 +8,12 @@ pub mod seen;
 pub mod table;
 
 pub use measure::{a_round_is_short, what_is_left_of_a_round};
-pub use safety::{a_lawful_world_in_plain_words, every_run_is_safe};
+pub use safety::{
+    a_lawful_world_in_plain_words, every_move_in_plain_words, every_run_is_safe,
+    plain_words_are_the_invariant,
+};
 pub use schedules::{a_seat_is_filled, every_move, every_run, openings};
-pub use seen::{passes_as_seen, planned_words};
+pub use seen::{lawful_as_seen, passes_as_seen, planned_words};
 pub use table::{
     laws_at_the_head, laws_of_attempts, laws_of_choosing, laws_of_joining, laws_of_leaving,
     laws_of_parking, laws_of_relinking, laws_outside_the_queue,

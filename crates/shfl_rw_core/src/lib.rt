@@ -10,7 +10,8 @@ mod tests;
 use shfl_core::asks::{
     acquire_row, ask_row, idle_pass, is_moving, is_resting, release_row, watch_row,
 };
-use shfl_core::rows::{plan_row, take_row};
+use shfl_core::plans::plan_row;
+use shfl_core::rows::take_row;
 use shfl_core::{Access, Ask, Nap, PassState, Phase, Registers, Rules, Waiter, Watch};
 use shfl_line::{Attr, Form, Mode};
 use std::marker::Model;

@@ -11,3 +11,6 @@ pub mod Sections
 pub mod RuleLines
 pub mod Fronts
 pub mod Found
+pub mod Spelled
+pub mod RuleWords
+pub mod Whole

@@ -22,18 +22,21 @@ chosen-passes true v w e = e
 chosen-passes false v w e = refl
 
 -- a move leaves the lock's passes as many
-pub move-passes : (t : Rules) (w : World) (m : Move) → length (after_move t w m).passes ≡ length w.passes
+move-passes : (t : Rules) (w : World) (m : Move) → length (after_move t w m).passes ≡ length w.passes
 move-passes t w m = chosen-passes (admitted w m) (made t w m) w (made-passes t w m)
 
-pub run-passes : (t : Setup) (w : World) (events : List Event) → length (after_events t w events).passes ≡ length w.passes
+pub moved_passes : (a b : Lock) (m : Move) (n : ℕ) → b ≡ moved a m → length a.world.passes ≡ n → length b.world.passes ≡ n
+moved_passes a b m n e long = ap (λ (x : Lock). length x.world.passes) e ∙ move-passes a.rules a.world m ∙ long
+
+run-passes : (t : Setup) (w : World) (events : List Event) → length (after_events t w events).passes ≡ length w.passes
 run-passes t w [] = refl
 run-passes t w (e ∷ rest) = run-passes t (after_event t w e) rest ∙ move-passes t.rules w (move_in t w e)
 
 -- the lock of a run has a pass for each attribute
-pub lock-passes : (s : ScheduleModel) (n : ℕ) → length (lock_after s n).world.passes ≡ length s.passes
+lock-passes : (s : ScheduleModel) (n : ℕ) → length (lock_after s n).world.passes ≡ length s.passes
 lock-passes s n = run-passes (setup_of s) (opening s.passes) (take n s.events) ∙ idle-from-long 0 s.passes
 
-pub events-append : (t : Setup) (w : World) (events : List Event) (e : Event) → after_events t w (events ++ e ∷ []) ≡ after_event t (after_events t w events) e
+events-append : (t : Setup) (w : World) (events : List Event) (e : Event) → after_events t w (events ++ e ∷ []) ≡ after_event t (after_events t w events) e
 events-append t w [] e = refl
 events-append t w (x ∷ rest) e = events-append t (after_event t w x) rest e
 

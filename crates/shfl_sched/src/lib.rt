@@ -5,6 +5,7 @@ mod chooser;
 mod error;
 mod events;
 mod front;
+mod laws;
 mod passes;
 mod read;
 mod report;
@@ -18,6 +19,7 @@ mod tests;
 
 pub use chooser::RuleChooser;
 pub use error::ScheduleError;
+pub use laws::laws_of_schedules;
 pub use read::read_schedule;
 pub use run::run_schedule;
 pub use run_laws::runs_are_moves;

@@ -34,10 +34,12 @@ fn choice<B: Board>(schedule: &Schedule, board: &B, pass: u32) -> bool
     requires rules { (B.meaning board.now).rules ≡ rules_of schedule.now }
     ensures { result ≡ choice_at (setup_of schedule.now) (B.meaning board.now).world pass }
 {
-    answer(&schedule.rule, &schedule.passes[pass as usize], board.ask(pass))
+    let own = &schedule.passes[pass as usize];
+    answer(&schedule.rule, own, board.ask(pass))
 }
 
 /// Makes an event's move, where it is admitted.
+#[tactic(auto, using(crate::proofs::RunSteps::moved_passes))]
 fn make<B: Board>(schedule: &Schedule, board: &mut B, event: Event) -> bool
     requires event { IsEventOf schedule.now.form (length schedule.now.passes) event }
     requires passes { length (B.meaning board.old).world.passes ≡ length schedule.now.passes }
@@ -46,6 +48,7 @@ fn make<B: Board>(schedule: &Schedule, board: &mut B, event: Event) -> bool
         result ≡ admitted w (move_in (setup_of schedule.now) w event) }
     ensures after { let w = (B.meaning board.old).world in B.meaning board.new
         ≡ runner.moved (B.meaning board.old) (move_in (setup_of schedule.now) w event) }
+    ensures passes { length (B.meaning board.new).world.passes ≡ length schedule.now.passes }
 {
     match event.act {
         Act::Write => board.acquire(event.pass, Mode::Write),

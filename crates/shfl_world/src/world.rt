@@ -1,11 +1,10 @@
 //! A lock over plain words that is lawful between any two steps.
-ghost use Rattle.std.specs.Prelude.{◌≡◌, ℕ, ◌<◌, ◌≤◌, length, IfOk};
+ghost use Rattle.std.specs.Prelude.{◌≡◌, ◌<◌, ◌≤◌, length, IfOk};
 ghost use Rattle.shfl_core.specs.ShownLine.{shown_line};
 ghost use Rattle.shfl_core.specs.Runner.{opened};
-ghost use Rattle.shfl_core.specs.Waiting.{fresh};
+ghost use Rattle.shfl_core.specs.Waiting.{MakesIdle, rules};
 ghost use Rattle.shfl_line.specs.Line.{IsWellFormed, empty};
 ghost use Rattle.shfl_line.specs.declared.events.Form.{Form};
-ghost use Rattle.shfl_line.specs.declared.words.Attr.{Attr as AttrValue};
 ghost use Rattle.shfl_laws.specs.Headline.{Headline};
 ghost use Rattle.shfl_world.specs.LawfulLock.{IsLawfulLock};
 
@@ -44,8 +43,8 @@ impl<W: Waiter> World<W> {
         requires few { length attrs.now ≤ 64 }
         requires limited { (0 < limit) × (limit ≤ 1024) }
         requires callable { F.IsAlwaysCallable make }
-        requires idle { (k : ℕ) (a : AttrValue) (w : _) → F.post make k a limit w → W.meaning w ≡ fresh k a (record { limit = limit; form = form }) }
-        ensures opened { IfOk result (λ w. w ≡ opened (record { limit = limit; form = form }) attrs.now) }
+        requires idle { MakesIdle W.meaning (λ k a w. F.post make k a limit w) (rules limit form) }
+        ensures opened { IfOk result (λ w. w ≡ opened (rules limit form) attrs.now) }
         ensures shown { IfOk result (λ w. shown_line w.world ≡ empty (length attrs.now)) }
     {
         let plain = PlainWorld::open(alloc, attrs, limit, make)?;

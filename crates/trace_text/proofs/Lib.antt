@@ -2,5 +2,10 @@ pub mod Shapes
 pub mod Sorting
 pub mod PolicyLoop
 pub mod CallLoop
+pub mod Sections
+pub mod WorkerLines
+pub mod PolicyNames
+pub mod PolicyLines
+pub mod PolicyTexts
 pub mod Counts
 pub mod Generated

@@ -2,6 +2,8 @@ pub mod Document
 pub mod Lines
 pub mod Grammar
 pub mod Spelling
+pub mod Texts
+pub mod Limits
 pub mod Spelled
 pub mod Names
 pub mod Traces

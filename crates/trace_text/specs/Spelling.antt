@@ -29,9 +29,13 @@ act_words (attach name) = codes "attach" ∷ name ∷ []
 abbrev pub call_line : CallLine → List ℕ
 call_line c = spaced (decimal c.worker ∷ act_words c.act)
 
-abbrev pub trace_lines : Document → List (List ℕ)
-trace_lines d = heading_lines (codes "syncord-trace") d.version d.profile ++ map worker_line d.workers ++ map policy_line d.policies ++ codes "calls" ∷ map call_line d.calls
+-- the lines of a trace, with these of its policies
+abbrev pub lines_with : Document → List (List ℕ) → List (List ℕ)
+lines_with d policies = heading_lines (codes "syncord-trace") d.version d.profile ++ map worker_line d.workers ++ policies ++ codes "calls" ∷ map call_line d.calls
 
--- the one text of a trace
+abbrev pub trace_lines : Document → List (List ℕ)
+trace_lines d = lines_with d (map policy_line d.policies)
+
+-- the text of a trace, with digits in lower case
 abbrev pub spelling : Document → List ℕ
 spelling d = flat_map ended (trace_lines d)

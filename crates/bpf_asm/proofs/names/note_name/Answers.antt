@@ -1,5 +1,5 @@
 use Rattle.std.proofs.Common.{◌≡◌, ℕ, List, Bool, true, false, Option, Some, None, cond, refl, sym, ap, ◌∙◌}
-use Rattle.std.proofs.lemmas.Map.Text.{btree_map_updates_str}
+use Rattle.std.proofs.lemmas.Map.Text.{hash_map_updates_str}
 use Rattle.std.proofs.lemmas.Slice.Eq.{bytes_eq-Decides}
 use Rattle.bpf_asm.specs.declared.names.Mark.{Mark}
 use Rattle.bpf_asm.specs.Marks.{mark_in, first_mark}
@@ -17,7 +17,7 @@ placed marks name other mark absent = by (same name other) refl (marks other) re
     by false e None b = refl
     by false e (Some m) b = refl
 
-pub returns-in_ok-insert-in-None : goal.returns-in_ok-insert-in-None
-returns-in_ok-insert-in-None c = λ other.
-    btree_map_updates_str c.args.name.now c.args.marks.now c.insert.new.self _ c.in_ok-insert-in-None.ensures.updates other
+pub returns-in_ok-insert-in-None-clause-noted : goal.returns-in_ok-insert-in-None-clause-noted
+returns-in_ok-insert-in-None-clause-noted c = λ other.
+    hash_map_updates_str c.args.name.now c.args.marks.now c.insert.new.self _ c.in_ok-insert-in-None.ensures.updates other
     ∙ placed (mark_in c.args.marks.now) c.args.name.now other c.args.mark (sym c.in-None.ensures)

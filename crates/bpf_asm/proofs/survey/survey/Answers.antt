@@ -4,9 +4,10 @@ use Rattle.std.proofs.lemmas.Bool.{eqb-true}
 use Rattle.bpf_isa.specs.Flow.{is_half}
 use Rattle.bpf_asm.specs.Assembly.{Line, slots_of, layout, mark_of, lines_in}
 use Rattle.bpf_asm.specs.Forms.{or_else}
-use Rattle.bpf_asm.specs.Marks.{mark_in}
+use Rattle.bpf_asm.specs.Marks.{mark_in, first_again, marked_in}
 use Rattle.bpf_asm.specs.Statements.{line_in}
 use Rattle.bpf_asm.specs.Views.{line_of}
+use Rattle.bpf_asm.proofs.Again.{again_here, again_goes_on, again_ends}
 use Rattle.bpf_asm.proofs.Surveying.{first_line, marks_go_on, halves_go_on, is_said, marks_end, more_slots}
 use Rattle.bpf_asm.proofs.survey.survey.Goals as goal
 
@@ -20,10 +21,17 @@ loop-rest-preserved c =
     first_line c.args.profile c.loop-rest.rest.now piece behind c.piece_at.ensures.first
     ∙ ap (λ (l : Line). l ∷ lines_in c.args.profile behind) (is_said c.read_line-read.result (line_in c.args.profile piece) c.read_line-read.ensures) in
     let more : length c.note_slots.new.halves.items ≡ length front + length (slots_of read) = more_slots front c.note_slots.new.halves.items (slots_of read) c.in_ok-note_slots.ensures.slots in
+    let all : List Line = lines_in c.args.profile c.args.text.now in
+    let stands : (name : List ℕ) → or_else (mark_in c.note_mark.new.marks name) (mark_of name (c.loop-rest.line + 1) (length c.note_slots.new.halves.items) (lines_in c.args.profile behind)) ≡ mark_of name 1 0 all =
+    λ name. marks_go_on name (mark_in c.loop-rest.marks name) (mark_in c.note_mark.new.marks name) _ c.loop-rest.line (length front) _ (length c.note_slots.new.halves.items) read (lines_in c.args.profile behind)
+    (omega arith) more (c.in_ok-counts.ensures.noted name)
+    (ap (λ (ls : List Line). or_else (mark_in c.loop-rest.marks name) (mark_of name c.loop-rest.line (length front) ls)) (sym lines) ∙ c.loop-rest.invariant.marks name) in
     record {
-      marks = λ name. marks_go_on name (mark_in c.loop-rest.marks name) (mark_in c.note_mark.new.marks name) _ c.loop-rest.line (length front) _ (length c.note_slots.new.halves.items) read (lines_in c.args.profile behind)
-          (omega arith) more (c.in_ok-note_mark.ensures name)
-          (ap (λ (ls : List Line). or_else (mark_in c.loop-rest.marks name) (mark_of name c.loop-rest.line (length front) ls)) (sym lines) ∙ c.loop-rest.invariant.marks name);
+      marks = stands;
+      again = again_goes_on (marked_in all) c.loop-rest.again c.first_line-again.result _ c.loop-rest.line c.in_ok-counts.counts read (lines_in c.args.profile behind)
+          (c.in_ok-counts.ensures.again ∙ again_here (mark_in c.note_mark.new.marks) (mark_in c.loop-rest.marks) (λ name. mark_of name (c.loop-rest.line + 1) (length c.note_slots.new.halves.items) (lines_in c.args.profile behind)) (marked_in all) c.loop-rest.line _ read c.in_ok-counts.ensures.noted stands)
+          c.first_line-again.ensures
+          (ap (λ (ls : List Line). or_else c.loop-rest.again (first_again (marked_in all) c.loop-rest.line ls)) (sym lines) ∙ c.loop-rest.invariant.again);
       halves = halves_go_on front c.note_slots.new.halves.items _ read (lines_in c.args.profile behind) c.in_ok-note_slots.ensures.slots
           (ap (λ (ls : List Line). front ++ map is_half (layout ls)) (sym lines) ∙ c.loop-rest.invariant.halves);
       lines = omega arith;
@@ -37,4 +45,6 @@ returns c =
       marks_stand = λ name. marks_end name (mark_in c.loop-rest.marks name) _ c.loop-rest.line (length c.loop-rest.halves.items)
           (ap (λ (rest : List ℕ). or_else (mark_in c.loop-rest.marks name) (mark_of name c.loop-rest.line (length c.loop-rest.halves.items) (lines_in c.args.profile rest))) (sym none) ∙ c.loop-rest.invariant.marks name);
       halves_stand = sym (append-nil c.loop-rest.halves.items) ∙ ap (λ (rest : List ℕ). c.loop-rest.halves.items ++ map is_half (layout (lines_in c.args.profile rest))) (sym none) ∙ c.loop-rest.invariant.halves;
+      again_stands = again_ends (marked_in (lines_in c.args.profile c.args.text.now)) c.loop-rest.again _ c.loop-rest.line
+          (ap (λ (rest : List ℕ). or_else c.loop-rest.again (first_again (marked_in (lines_in c.args.profile c.args.text.now)) c.loop-rest.line (lines_in c.args.profile rest))) (sym none) ∙ c.loop-rest.invariant.again);
     }

@@ -2,13 +2,14 @@ use Rattle.std.proofs.Common.{◌≡◌, ◌+◌, ◌*◌, ◌≤◌, ◌++◌, 
 use Rattle.bpf_isa.specs.Flow.{is_half}
 use Rattle.bpf_asm.specs.Assembly.{layout, mark_of, lines_in}
 use Rattle.bpf_asm.specs.Forms.{or_else}
-use Rattle.bpf_asm.specs.Marks.{mark_in}
+use Rattle.bpf_asm.specs.Marks.{mark_in, first_again, marked_in}
 use Rattle.bpf_asm.proofs.survey.survey.Given as goal
 
 abbrev pub invariant-loop-rest : goal.invariant-loop-rest
 invariant-loop-rest l = record {
   marks : (name : List ℕ) → or_else (mark_in l.marks name) (mark_of name l.line (length l.halves.items) (lines_in l.profile l.rest)) ≡ mark_of name 1 0 (lines_in l.profile l.text);
   halves : l.halves.items ++ map is_half (layout (lines_in l.profile l.rest)) ≡ map is_half (layout (lines_in l.profile l.text));
+  again : or_else l.again (first_again (marked_in (lines_in l.profile l.text)) l.line (lines_in l.profile l.rest)) ≡ first_again (marked_in (lines_in l.profile l.text)) 1 (lines_in l.profile l.text);
   lines : l.line + length l.rest ≤ 1 + length l.text;
   slots : length l.halves.items + 2 * length l.rest ≤ 2 * length l.text;
 }

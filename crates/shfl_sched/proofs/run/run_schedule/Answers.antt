@@ -15,28 +15,6 @@ pub make-admitted-requires-clause-passes : goal.make-admitted-requires-clause-pa
 make-admitted-requires-clause-passes g c =
     passes_of c.args.schedule.now c.loop-event.event-index (g.B.Board.meaning c.loop-event.board) c.loop-event.invariant.lock
 
-pub push_row-requires-clause-room : goal.push_row-requires-clause-room
-push_row-requires-clause-room g c =
-    let s = c.args.schedule.now in
-    let i = c.loop-event.event-index in
-    let before = g.B.Board.meaning c.loop-event.board in
-    let made = g.B.Board.meaning c.make-admitted.new.board in
-    let inside : i < length s.events = grind (arith, common_steps) in
-    let items = c.deref-event-items.ensures.value ∙ ap (λ (x : ScheduleModel). x.events) c.schedule.view_is in
-    let after : made ≡ lock_after s (i + 1) = goes_on s i before c.loop-event.invariant.lock _ made inside (rw items at c.make-admitted.ensures.after) in
-    c.loop-event.invariant.marks ∙ sym (passes_of s (i + 1) made after)
-
-pub push_row-requires-clause-few : goal.push_row-requires-clause-few
-push_row-requires-clause-few g c =
-    let s = c.args.schedule.now in
-    let i = c.loop-event.event-index in
-    let before = g.B.Board.meaning c.loop-event.board in
-    let made = g.B.Board.meaning c.make-admitted.new.board in
-    let inside : i < length s.events = grind (arith, common_steps) in
-    let items = c.deref-event-items.ensures.value ∙ ap (λ (x : ScheduleModel). x.events) c.schedule.view_is in
-    let after : made ≡ lock_after s (i + 1) = goes_on s i before c.loop-event.invariant.lock _ made inside (rw items at c.make-admitted.ensures.after) in
-    omega (arith, passes_of s (i + 1) made after, c.requires.within.passes)
-
 pub returns-in_err-push_row-clause-part : goal.returns-in_err-push_row-clause-part
 returns-in_err-push_row-clause-part g c =
     let s = c.args.schedule.now in
@@ -65,7 +43,7 @@ loop-event-preserved g c =
     let form : c.schedule.inside.form ≡ s.form = ap (λ (x : ScheduleModel). x.form) c.schedule.view_is in
     let item : Event = get_or s.events i (record { act = Write; pass = 0 }) in
     let wrote : c.push_row.new.out.items ≡ c.loop-event.text.items ++ row s.form (c.loop-event.yes + c.loop-event.no + 1) item c.make-admitted.result (lock_after s (i + 1)).world =
-        rw (form, after) at (rw items at c.in_ok-push_row.ensures.text) in
+    rw (form, after) at (rw items at c.in_ok-push_row.ensures.text) in
     let rows = rows_go_on (setup_of s) _ s.events i _ s.form _ _ _ _ _ _ inside moves answer wrote c.loop-event.invariant.text in
     elim c.if-admitted.branch [
       | then-admitted w ↦ let yes = sym answer ∙ w.if-admitted.true in record {

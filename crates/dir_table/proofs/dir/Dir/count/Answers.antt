@@ -7,11 +7,11 @@ use Rattle.dir_table.proofs.NamesKept.{entries_names}
 use Rattle.dir_table.proofs.dir.Dir.count.Goals as goal
 
 pub count_of-requires-clause-few : goal.count_of-requires-clause-few
-count_of-requires-clause-few c = let made = c.self.invariant.made in let numbered = c.self.invariant.numbered in omega (arith, ap length c.deref.ensures.value)
+count_of-requires-clause-few c = let made = c.self.invariant.made in let numbered = c.self.invariant.numbered in omega (arith, ap length c.as_slice.ensures)
 
 pub returns : goal.returns
 returns c =
     ap Number (c.count_of.ensures
-    ∙ ap (λ rs. length (filter (λ e. eqb e.0.0 c.args.dir) (entries_of rs))) c.deref.ensures.value
-    ∙ ap (λ es. length (filter (λ e. eqb e.0.0 c.args.dir) es)) (sym (entries_names c.self.inside.rows.items c.self.invariant.in_order))
+    ∙ ap (λ rs. length (filter (λ e. eqb e.0.0 c.args.dir) (entries_of rs))) c.as_slice.ensures
+    ∙ ap (λ es. length (filter (λ e. eqb e.0.0 c.args.dir) es)) (sym (entries_names c.self.inside.rows.rows c.self.invariant.in_order))
     ∙ ap (λ d. count_in d.names c.args.dir) c.self.view_is)

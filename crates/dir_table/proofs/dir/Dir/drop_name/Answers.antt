@@ -16,11 +16,9 @@ invariant_of-self c =
     let i = c.self.inside in
     let inv = c.self.invariant in
     let removed = c.remove_row.ensures.removed in
-    let counted = c.remove_row.new.rows.ok.0 in
-    let counted_before = i.rows.ok.0 in
     record {
-      in_order = removal_in_order i.rows.items c.remove_row.new.rows.items inv.in_order (c.args.dir, c.args.name) removed;
-      in_range = removal_in_range i.room i.rows.items c.remove_row.new.rows.items (c.args.dir, c.args.name) inv.in_range removed;
+      in_order = removal_in_order i.rows.rows c.remove_row.new.rows.rows inv.in_order (c.args.dir, c.args.name) removed;
+      in_range = removal_in_range i.room i.rows.rows c.remove_row.new.rows.rows (c.args.dir, c.args.name) inv.in_range removed;
       made = omega (arith, c.remove_row.ensures.fewer);
       reserved = omega (arith, c.remove_row.ensures.fewer);
       numbered = omega arith;
@@ -31,7 +29,7 @@ returns-clause-reply c =
     let i = c.self.inside in
     subst (λ d. c.done_if.result ≡ reply_to d (Drop c.args.dir c.args.name)) c.self.view_is
     (c.done_if.ensures ∙ ap (λ b. cond b Done Absent) c.is_some.ensures
-    ∙ drop_reply i.rows.items i.next_number i.room i.spare c.self.invariant.in_order c.args.dir c.args.name c.remove_row.result c.remove_row.ensures.number)
+    ∙ drop_reply i.rows.rows i.next_number i.room i.spare c.self.invariant.in_order c.args.dir c.args.name c.remove_row.result c.remove_row.ensures.number)
 
 pub returns-clause-absent : goal.returns-clause-absent
 returns-clause-absent c =
@@ -41,8 +39,8 @@ returns-clause-absent c =
 pub returns-clause-after : goal.returns-clause-after
 returns-clause-after c =
     let i = c.self.inside in
-    subst (λ d. record { names = names_of c.remove_row.new.rows.items; next_number = i.next_number; room = i.room; spare = i.spare - 1 } ≡ spent (after d (Drop c.args.dir c.args.name))) c.self.view_is
-    (dropped i.rows.items i.next_number i.room i.spare c.self.invariant.in_order c.remove_row.new.rows.items c.args.dir c.args.name c.remove_row.ensures.removed)
+    subst (λ d. record { names = names_of c.remove_row.new.rows.rows; next_number = i.next_number; room = i.room; spare = i.spare - 1 } ≡ spent (after d (Drop c.args.dir c.args.name))) c.self.view_is
+    (dropped i.rows.rows i.next_number i.room i.spare c.self.invariant.in_order c.remove_row.new.rows.rows c.args.dir c.args.name c.remove_row.ensures.removed)
 
 pub returns-clause-others : goal.returns-clause-others
 returns-clause-others c other differs =

@@ -12,8 +12,8 @@ pub returns-in-Some-clause-reply : goal.returns-in-Some-clause-reply
 returns-in-Some-clause-reply c =
     let i = c.self.inside in
     subst (λ d. Ino c.in-Some.ino ≡ reply_to d (Find c.args.dir c.args.name)) c.self.view_is
-    (ap number_reply (sym c.in-Some.is) ∙ find_reply i.rows.items i.next_number i.room i.spare c.self.invariant.in_order c.args.dir c.args.name c.number_of.result
-    (c.number_of.ensures ∙ ap (λ rs. find place_cmp (c.args.dir, c.args.name) (entries_of rs)) c.deref.ensures.value))
+    (ap number_reply (sym c.in-Some.is) ∙ find_reply i.rows.rows i.next_number i.room i.spare c.self.invariant.in_order c.args.dir c.args.name c.number_of.result
+    (c.number_of.ensures ∙ ap (λ rs. find place_cmp (c.args.dir, c.args.name) (entries_of rs)) c.as_slice.ensures))
 
 pub returns-in-Some-clause-absent : goal.returns-in-Some-clause-absent
 returns-in-Some-clause-absent c =
@@ -23,8 +23,8 @@ pub returns-in-None-clause-reply : goal.returns-in-None-clause-reply
 returns-in-None-clause-reply c =
     let i = c.self.inside in
     subst (λ d. Absent ≡ reply_to d (Find c.args.dir c.args.name)) c.self.view_is
-    (ap number_reply (sym c.in-None.is) ∙ find_reply i.rows.items i.next_number i.room i.spare c.self.invariant.in_order c.args.dir c.args.name c.number_of.result
-    (c.number_of.ensures ∙ ap (λ rs. find place_cmp (c.args.dir, c.args.name) (entries_of rs)) c.deref.ensures.value))
+    (ap number_reply (sym c.in-None.is) ∙ find_reply i.rows.rows i.next_number i.room i.spare c.self.invariant.in_order c.args.dir c.args.name c.number_of.result
+    (c.number_of.ensures ∙ ap (λ rs. find place_cmp (c.args.dir, c.args.name) (entries_of rs)) c.as_slice.ensures))
 
 pub returns-in-None-clause-absent : goal.returns-in-None-clause-absent
 returns-in-None-clause-absent c =

@@ -18,8 +18,8 @@ returns-then-is_some-clause-reply c =
     let i = c.self.inside in
     subst (λ d. Exists ≡ reply_to d (Make c.args.dir c.args.name)) c.self.view_is
     (ap (λ b. cond b Exists (Ino i.next_number)) (sym c.if-is_some.true ∙ c.is_some.ensures)
-    ∙ make_reply i.rows.items i.next_number i.room i.spare c.self.invariant.in_order c.args.dir c.args.name c.number_of.result
-    (c.number_of.ensures ∙ ap (λ rs. find place_cmp (c.args.dir, c.args.name) (entries_of rs)) c.deref.ensures.value))
+    ∙ make_reply i.rows.rows i.next_number i.room i.spare c.self.invariant.in_order c.args.dir c.args.name c.number_of.result
+    (c.number_of.ensures ∙ ap (λ rs. find place_cmp (c.args.dir, c.args.name) (entries_of rs)) c.as_slice.ensures))
 
 pub returns-then-is_some-clause-exists : goal.returns-then-is_some-clause-exists
 returns-then-is_some-clause-exists c =
@@ -29,9 +29,9 @@ returns-then-is_some-clause-exists c =
 pub returns-then-is_some-clause-after : goal.returns-then-is_some-clause-after
 returns-then-is_some-clause-after c =
     let i = c.self.inside in
-    subst (λ d. record { names = names_of i.rows.items; next_number = i.next_number; room = i.room; spare = i.spare - 1 } ≡ spent (after d (Make c.args.dir c.args.name))) c.self.view_is
-    (made_none i.rows.items i.next_number i.room i.spare c.self.invariant.in_order c.args.dir c.args.name c.number_of.result
-    (c.number_of.ensures ∙ ap (λ rs. find place_cmp (c.args.dir, c.args.name) (entries_of rs)) c.deref.ensures.value)
+    subst (λ d. record { names = names_of i.rows.rows; next_number = i.next_number; room = i.room; spare = i.spare - 1 } ≡ spent (after d (Make c.args.dir c.args.name))) c.self.view_is
+    (made_none i.rows.rows i.next_number i.room i.spare c.self.invariant.in_order c.args.dir c.args.name c.number_of.result
+    (c.number_of.ensures ∙ ap (λ rs. find place_cmp (c.args.dir, c.args.name) (entries_of rs)) c.as_slice.ensures)
     (sym c.is_some.ensures ∙ c.if-is_some.true))
 
 -- the name is new
@@ -42,11 +42,9 @@ invariant_of-self-2 c =
     let left : 0 < i.spare = subst (λ d. 0 < d.spare) (sym c.self.view_is) c.requires.left in
     let range : IsInRange i.room c.args.dir c.args.name = subst (λ d. IsInRange d.room c.args.dir c.args.name) (sym c.self.view_is) c.requires.in_range in
     let put = c.put_row.ensures.put in
-    let counted = c.put_row.new.rows.ok.0 in
-    let counted_before = i.rows.ok.0 in
     record {
-      in_order = put_in_order i.rows.items c.put_row.new.rows.items inv.in_order (c.args.dir, c.args.name) i.next_number put;
-      in_range = put_in_range i.room i.rows.items c.put_row.new.rows.items (c.args.dir, c.args.name) i.next_number inv.in_range range put;
+      in_order = put_in_order i.rows.rows c.put_row.new.rows.rows inv.in_order (c.args.dir, c.args.name) i.next_number put;
+      in_range = put_in_range i.room i.rows.rows c.put_row.new.rows.rows (c.args.dir, c.args.name) i.next_number inv.in_range range put;
       made = omega arith;
       reserved = omega arith;
       numbered = omega arith;
@@ -57,8 +55,8 @@ returns-clause-reply c =
     let i = c.self.inside in
     subst (λ d. Ino i.next_number ≡ reply_to d (Make c.args.dir c.args.name)) c.self.view_is
     (ap (λ b. cond b Exists (Ino i.next_number)) (sym c.if-is_some.false ∙ c.is_some.ensures)
-    ∙ make_reply i.rows.items i.next_number i.room i.spare c.self.invariant.in_order c.args.dir c.args.name c.number_of.result
-    (c.number_of.ensures ∙ ap (λ rs. find place_cmp (c.args.dir, c.args.name) (entries_of rs)) c.deref.ensures.value))
+    ∙ make_reply i.rows.rows i.next_number i.room i.spare c.self.invariant.in_order c.args.dir c.args.name c.number_of.result
+    (c.number_of.ensures ∙ ap (λ rs. find place_cmp (c.args.dir, c.args.name) (entries_of rs)) c.as_slice.ensures))
 
 pub returns-clause-exists : goal.returns-clause-exists
 returns-clause-exists c =
@@ -68,9 +66,9 @@ returns-clause-exists c =
 pub returns-clause-after : goal.returns-clause-after
 returns-clause-after c =
     let i = c.self.inside in
-    subst (λ d. record { names = names_of c.put_row.new.rows.items; next_number = i.next_number + 1; room = i.room; spare = i.spare - 1 } ≡ spent (after d (Make c.args.dir c.args.name))) c.self.view_is
-    (made_one i.rows.items i.next_number i.room i.spare c.self.invariant.in_order c.put_row.new.rows.items c.args.dir c.args.name c.number_of.result
-    (c.number_of.ensures ∙ ap (λ rs. find place_cmp (c.args.dir, c.args.name) (entries_of rs)) c.deref.ensures.value)
+    subst (λ d. record { names = names_of c.put_row.new.rows.rows; next_number = i.next_number + 1; room = i.room; spare = i.spare - 1 } ≡ spent (after d (Make c.args.dir c.args.name))) c.self.view_is
+    (made_one i.rows.rows i.next_number i.room i.spare c.self.invariant.in_order c.put_row.new.rows.rows c.args.dir c.args.name c.number_of.result
+    (c.number_of.ensures ∙ ap (λ rs. find place_cmp (c.args.dir, c.args.name) (entries_of rs)) c.as_slice.ensures)
     (sym c.is_some.ensures ∙ c.if-is_some.false) c.put_row.ensures.put)
 
 pub returns-clause-others : goal.returns-clause-others

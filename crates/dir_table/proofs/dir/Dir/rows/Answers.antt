@@ -6,4 +6,4 @@ use Rattle.dir_table.proofs.dir.Dir.rows.Goals as goal
 
 pub returns-clause-all : goal.returns-clause-all
 returns-clause-all c =
-    ap entries_of c.deref.ensures.value ∙ sym (entries_names c.self.inside.rows.items c.self.invariant.in_order) ∙ ap (λ d. entries d.names) c.self.view_is
+    ap entries_of c.as_slice.ensures ∙ sym (entries_names c.self.inside.rows.rows c.self.invariant.in_order) ∙ ap (λ d. entries d.names) c.self.view_is
