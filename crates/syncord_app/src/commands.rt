@@ -16,6 +16,10 @@ pub enum Command {
     Replay,
     /// Replays the trace that a seed makes, and sums it up.
     Bulk(BulkWords),
+    /// Assembles a policy program.
+    Assemble { profile: Profile },
+    /// Lists a policy program as assembly.
+    Disassemble { profile: Profile },
 }
 
 impl Command {
@@ -33,6 +37,14 @@ impl Command {
             })
         } else if is_same(word, b"replay") {
             Some(Command::Replay)
+        } else if is_same(word, b"asm") {
+            Some(Command::Assemble {
+                profile: Profile::One,
+            })
+        } else if is_same(word, b"disasm") {
+            Some(Command::Disassemble {
+                profile: Profile::One,
+            })
         } else {
             None
         }
@@ -42,10 +54,16 @@ impl Command {
         ensures exact { result ≡ words_in word.now number.now }
         ensures possible { IfSome result IsPossible }
     {
-        if is_same(word, b"verify") && is_same(number, b"2") {
-            Some(Command::Verify {
-                profile: Profile::Two,
-            })
+        if !is_same(number, b"2") {
+            return None;
+        }
+        let profile = Profile::Two;
+        if is_same(word, b"verify") {
+            Some(Command::Verify { profile })
+        } else if is_same(word, b"asm") {
+            Some(Command::Assemble { profile })
+        } else if is_same(word, b"disasm") {
+            Some(Command::Disassemble { profile })
         } else {
             None
         }

@@ -16,6 +16,7 @@ mod top;
 
 pub use bpf_isa::Profile;
 pub use line::run_line;
+pub use syncord_asm::{run_asm, run_disasm};
 pub use syncord_replay::{run_bulk, run_replay};
 pub use syncord_verify::run_verify;
 pub use top::syncord;

@@ -228,7 +228,7 @@ fn called<Rt: Threads + Wait + Sync>(
 fn other_words_are_refused_and_nothing_is_read(rt: HostRuntime) -> Result<(), Fail> {
     let alloc = rt.alloc();
     let mut src = SureSource::new(joined(alloc, HEADING, FOUR_EVENTS)?);
-    let refused: [&[&str]; 15] = [
+    let refused: [&[&str]; 17] = [
         &["line", "x"],
         &["help"],
         &[],
@@ -239,6 +239,8 @@ fn other_words_are_refused_and_nothing_is_read(rt: HostRuntime) -> Result<(), Fa
         &["2"],
         &["-h"],
         &["replay", "2"],
+        &["asm", "1"],
+        &["disasm", "2", "2"],
         &["bulk"],
         &["bulk", "7", "17", "5"],
         &["bulk", "07", "1", "5"],
@@ -274,7 +276,7 @@ const MOVE: &str = "bf00080000000000\n9500000000000000\n";
 fn the_words_of_a_command_lead_to_it(rt: HostRuntime) -> Result<(), Fail> {
     let alloc = rt.alloc();
     let accepted = "b700000001000000\n9500000000000000\n";
-    let cases: [(&[&str], &str, u8, &str, &str); 7] = [
+    let cases: [(&[&str], &str, u8, &str, &str); 11] = [
         (&["verify"], accepted, 0, "accepted slots 2\n", ""),
         (&["verify", "2"], accepted, 0, "accepted slots 2\n", ""),
         (&["verify"], MOVE, 6, "", "syncord: refused 6 at slot 0\n"),
@@ -288,6 +290,10 @@ fn the_words_of_a_command_lead_to_it(rt: HostRuntime) -> Result<(), Fail> {
         (&["replay"], ONE_CALL, 0, ONE_CALL_REPORT, ""),
         (&["replay"], "", 1, "", "syncord: line 1: fault 2\n"),
         (&["bulk", "1", "1", "3"], "", 0, SUMMARY, ""),
+        (&["asm", "2"], "le 16 r0\n", 0, "d400000010000000\n", ""),
+        (&["asm"], "le 16 r0\n", 1, "", "syncord: line 1: fault 2\n"),
+        (&["disasm", "2"], "d400000010000000", 0, "le 16 r0\n", ""),
+        (&["disasm"], MOVE, 6, "", "syncord: refused 6 at slot 0\n"),
     ];
     for (words, input, status, report, message) in cases {
         let mut src = SureSource::new(Vec::from_slice(alloc, input.as_bytes())?);

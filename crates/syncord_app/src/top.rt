@@ -1,9 +1,11 @@
 //! The top call: words and bytes in, a status, a report and an error line out.
 ghost use Rattle.std.specs.Prelude.{◌≡◌, map, string_bytes, codes, Some, None};
-ghost use Rattle.syncord_app.specs.declared.commands.Command.TheVariants.{Line, Verify, Replay, Bulk};
+ghost use Rattle.syncord_app.specs.declared.commands.Command.TheVariants.{Line, Verify, Replay, Bulk, Assemble, Disassemble};
 ghost use Rattle.bpf_isa.specs.declared.insn.Profile.{Profile as ProfileValue};
 ghost use Rattle.syncord_endings.specs.Traffic.{traffic as handled};
 ghost use Rattle.syncord_verify.specs.Verdicts.{Verifies};
+ghost use Rattle.syncord_asm.specs.Assemblies.{Assembles};
+ghost use Rattle.syncord_asm.specs.Listings.{Disassembles};
 ghost use Rattle.syncord_replay.specs.declared.words.BulkWords.{BulkWords as Numbers};
 ghost use Rattle.syncord_replay.specs.Replays.{Reports, Refuses};
 ghost use Rattle.syncord_app.specs.Outcomes.{Performs, SumsUp};
@@ -18,6 +20,7 @@ use std::alloc::Global;
 use std::sync::Wait;
 use std::thread::Threads;
 use syn_outer::{Gate, Sink, Source};
+use syncord_asm::{run_asm, run_disasm};
 use syncord_replay::{BulkWords, run_bulk, run_replay};
 use syncord_verify::run_verify;
 
@@ -68,6 +71,20 @@ pub fn syncord<Rt: Threads + Wait + Sync, R: Source, W: Sink, E: Sink, G: Gate +
         (handled (E.held err.old) (E.held err.new) (E.faults err.old) (E.faults err.new)) result }
     ensures unread { (numbers : Numbers) →
         command_in (map string_bytes words.now) ≡ Some (Bulk numbers) → src.new ≡ src.old }
+
+    // `asm` assembles a text, or ends otherwise with its cause.
+    ensures asm { (profile : ProfileValue) →
+        command_in (map string_bytes words.now) ≡ Some (Assemble profile) → Assembles profile
+        (handled (R.left src.old) (R.left src.new) (R.faults src.old) (R.faults src.new))
+        (handled (W.held out.old) (W.held out.new) (W.faults out.old) (W.faults out.new))
+        (handled (E.held err.old) (E.held err.new) (E.faults err.old) (E.faults err.new)) result }
+
+    // `disasm` lists a program, or ends otherwise with its cause.
+    ensures disasm { (profile : ProfileValue) →
+        command_in (map string_bytes words.now) ≡ Some (Disassemble profile) → Disassembles profile
+        (handled (R.left src.old) (R.left src.new) (R.faults src.old) (R.faults src.new))
+        (handled (W.held out.old) (W.held out.new) (W.faults out.old) (W.faults out.new))
+        (handled (E.held err.old) (E.held err.new) (E.faults err.old) (E.faults err.new)) result }
 {
     match Command::of(words) {
         Some(Command::Line) => run_line(alloc, src, out, err),
@@ -81,6 +98,8 @@ pub fn syncord<Rt: Threads + Wait + Sync, R: Source, W: Sink, E: Sink, G: Gate +
             } = numbers;
             run_bulk(alloc, seed, workers, calls, out, err)
         }
+        Some(Command::Assemble { profile }) => run_asm(alloc, profile, src, out, err),
+        Some(Command::Disassemble { profile }) => run_disasm(alloc, profile, src, out, err),
         None => {
             tell(err, b"syncord: words\n");
             2
