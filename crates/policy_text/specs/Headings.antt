@@ -1,5 +1,5 @@
 -- The first line of a document, which names its version, and in version 2 the line that names the profile.
-use Rattle.std.specs.Prelude.{ℕ, List, [], ◌∷◌, Option, Some, None, Result, Ok, ◌==◌, if◌then◌else◌, codes}
+use Rattle.std.specs.Prelude.{◌≡◌, ◌⊎◌, ℕ, List, [], ◌∷◌, Option, Some, None, Result, Ok, ◌==◌, if◌then◌else◌, codes}
 use Rattle.bpf_isa.specs.declared.insn.Profile.{Profile}
 use Rattle.bpf_isa.specs.declared.insn.Profile.TheVariants as profile
 use Rattle.doc_text.specs.declared.fault.Fault.{Fault}
@@ -41,3 +41,7 @@ heading_lines title version profile = if version == 1 then spaced (title ∷ cod
 -- the version, and in version 2 the profile, as a report names them
 abbrev pub version_words : ℕ → Profile → List (List ℕ)
 version_words version profile = if version == 1 then codes "1" ∷ [] else codes "2" ∷ codes "profile" ∷ profile_word profile ∷ []
+
+-- the versions that there are: version 1 has profile 1
+abbrev pub IsVersion : ℕ → Profile → Type 0
+IsVersion version named = ((version ≡ 1) × (named ≡ profile.One)) ⊎ (version ≡ 2)

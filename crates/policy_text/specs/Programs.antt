@@ -1,6 +1,6 @@
 -- The programs of a policy as words.
-use Rattle.std.specs.Prelude.{ℕ, List, Option, Some, None, if◌then◌else◌, codes}
-use Rattle.hex.specs.Hex.{encode_lower}
+use Rattle.std.specs.Prelude.{◌≡◌, ℕ, List, Option, Some, None, Ok, if◌then◌else◌, codes}
+use Rattle.hex.specs.Hex.{encode_lower, decode_of, IsBytes}
 use Rattle.shfl_policy.specs.Loading.{SourceModel}
 use Rattle.doc_text.specs.Words.{same, ◌>>?◌}
 use Rattle.doc_text.specs.Digits.{bytes_in}
@@ -17,3 +17,13 @@ source_in should skip = program_in should >>? λ a. program_in skip >>? λ b. So
 abbrev pub program_word : Option (List ℕ) → List ℕ
 program_word None = codes "-"
 program_word (Some program) = encode_lower program
+
+-- a word that writes the program: `-` for none, else its digits, in either case
+abbrev pub IsProgramWord : Option (List ℕ) → List ℕ → Type 0
+IsProgramWord None word = word ≡ codes "-"
+IsProgramWord (Some bytes) word = decode_of word ≡ Ok bytes
+
+-- a program that is there is made of bytes
+abbrev pub IsBytesOf : Option (List ℕ) → Type 0
+IsBytesOf None = Unit {0}
+IsBytesOf (Some bytes) = IsBytes bytes

@@ -8,7 +8,7 @@ use Rattle.doc_text.specs.Words.{words, same}
 use Rattle.doc_text.specs.Faults.{fault, ◌>>=◌, or_fault, fixed_due, lines_from, section_from}
 use Rattle.trace_text.specs.Document.{CallLine, PolicyLine, Document}
 use Rattle.policy_text.specs.Attributes.{attr_in}
-use Rattle.policy_text.specs.Headings.{heading_in}
+use Rattle.policy_text.specs.Headings.{Heading, heading_in}
 use Rattle.policy_text.specs.Accepted.{Judged}
 use Rattle.trace_text.specs.Lines.{begins, policy_in, programs_in, is_declared, call_in, is_in_range, may_do, is_full}
 
@@ -80,8 +80,12 @@ pub record Front : Type 0 where
   pub workers : List Attr
   pub rest : List (List ℕ)
 
+-- the version and the profile; a bad or missing profile line is fault 15
+unfoldable pub trace_heading : List (List ℕ) → Result Heading Fault
+trace_heading ps = heading_in (codes "syncord-trace") 15 ps
+
 unfoldable pub front_in : List (List ℕ) → Result Front Fault
-front_in ps = heading_in (codes "syncord-trace") 15 ps >>= λ h. workers_in (h.version + 1) h.rest >>= λ w. Ok (record { version = h.version; profile = h.profile; workers = w.0; rest = w.1 })
+front_in ps = trace_heading ps >>= λ h. workers_in (h.version + 1) h.rest >>= λ w. Ok (record { version = h.version; profile = h.profile; workers = w.0; rest = w.1 })
 
 -- the line where the policies begin
 abbrev pub policies_line : Front → ℕ

@@ -1,7 +1,9 @@
 ghost use Rattle.std.specs.Prelude.{◌≡◌, ◌≤◌, length, map, IfOk};
 ghost use Rattle.doc_text.specs.Text.{pieces};
+ghost use Rattle.doc_text.specs.Faults.{Gives};
+ghost use Rattle.policy_text.specs.Headings.{heading};
 ghost use Rattle.trace_text.specs.Errors.{fault_of, Allows};
-ghost use Rattle.trace_text.specs.Grammar.{front_in, ReadsTrace};
+ghost use Rattle.trace_text.specs.Grammar.{trace_heading, front_in, ReadsTrace};
 ghost use Rattle.trace_text.specs.Names.{AreRisingBy, SameMembers};
 ghost use Rattle.trace_text.specs.Spelled.{call_names};
 ghost use Rattle.trace_text.specs.Traces.{document_of, names_of, IsWithin};
@@ -13,8 +15,18 @@ use crate::numbering::{names_in, numbered};
 use crate::policies::policies_of;
 use crate::trace::Trace;
 use crate::workers::workers_of;
+use bpf_isa::Profile;
+use doc_text::Fault;
 use policy_text::heading_of;
 use std::alloc::Global;
+
+#[tactic(auto, unfolding(crate::specs::Grammar::trace_heading))]
+fn trace_heading(bytes: &[u8]) -> Result<(u8, Profile, &[u8]), Fault>
+    ensures exact { Gives (λ x. heading x.0 x.1 (pieces x.2.now)) result (trace_heading (pieces bytes.now)) }
+    ensures known { IfOk result (λ x. x.0 ≤ 2) }
+{
+    heading_of(b"syncord-trace", 15, bytes)
+}
 
 /// Reads a trace, or names the first bad line and the lowest fault on it.
 #[tactic(auto, unfolding(crate::specs::Grammar::front_in, crate::specs::Grammar::document_in))]
@@ -24,7 +36,7 @@ pub fn read_trace(alloc: Global, bytes: &[u8]) -> Result<Trace, TraceError>
     ensures within { IfOk result IsWithin }
     ensures named { IfOk result (λ t. SameMembers (call_names (document_of t).calls) (names_of t)) }
 {
-    let (version, profile, rest) = heading_of(b"syncord-trace", 15, bytes)?;
+    let (version, profile, rest) = trace_heading(bytes)?;
     let line = u32::from(version) + 1;
     let (workers, rest) = workers_of(alloc, rest, line)?;
     let line = line + workers.len() as u32;
