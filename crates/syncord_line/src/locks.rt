@@ -1,8 +1,7 @@
 //! The run of a schedule on a lock of its form.
-ghost use Rattle.std.specs.Prelude.{◌≡◌, ℕ, IfOk};
+ghost use Rattle.std.specs.Prelude.{◌≡◌, IfOk};
 ghost use Rattle.shfl_line.specs.declared.events.Form.TheVariants.{Rw, Park, RwPark};
-ghost use Rattle.shfl_line.specs.declared.words.Attr.{Attr as AttrValue};
-ghost use Rattle.shfl_core.specs.Waiting.{fresh};
+ghost use Rattle.shfl_core.specs.Waiting.{fresh, MakesIdle};
 ghost use Rattle.shfl_sched.specs.Schedules.{IsWithin};
 ghost use Rattle.shfl_sched.specs.Run.{rules_of};
 ghost use Rattle.shfl_sched.specs.Report.{line_report};
@@ -41,8 +40,8 @@ fn run_on<W: Waiter + Drop, F: Fn(u32, Attr, u16) -> W>(
 ) -> Result<Vec<u8>, NoMemory>
     requires within { IsWithin schedule.now }
     requires callable { F.IsAlwaysCallable make }
-    requires idle { (k : ℕ) (a : AttrValue) (w : _) → F.post make k a schedule.now.limit w
-        → W.meaning w ≡ fresh k a (rules_of schedule.now) }
+    requires idle { MakesIdle W.meaning (λ k a w. F.post make k a schedule.now.limit w)
+        (rules_of schedule.now) }
     ensures { IfOk result (λ text. text.items ≡ line_report schedule.now) }
 {
     let mut lock = World::open(alloc, schedule.passes.as_slice(), schedule.limit, make)?;
