@@ -30,11 +30,6 @@ pub fn note_name<'a>(
         ≡ first_mark (mark_in marks.old other) (same name.now other) mark) }
     ensures stands { IfOk result (λ found. mark_in marks.new name.now ≡ Some found) }
 {
-    match mark_named(marks, name) {
-        Some(found) => Ok(found),
-        None => {
-            marks.insert(name, mark)?;
-            Ok(mark)
-        }
-    }
+    let found = marks.entry(name)?.or_insert(mark);
+    Ok(*found)
 }

@@ -10,7 +10,7 @@ use Rattle.hex.specs.Hex.{decode_of, is_hex_digit}
 use Rattle.hex.specs.declared.error.FromHexError.{FromHexError}
 use Rattle.hex.proofs.HexLemmas.{decode_of-ok, decode_of-encode_lower}
 use Rattle.bpf_isa.specs.declared.insn.Profile.{Profile}
-use Rattle.shfl_policy.specs.Loading.{SourceModel}
+use Rattle.policy_source.specs.Source.{SourceModel}
 use Rattle.doc_text.specs.Text.{is_plain}
 use Rattle.doc_text.specs.Words.{same, is_word, ◌>>?◌}
 use Rattle.doc_text.specs.Digits.{bytes_in}

@@ -4,7 +4,7 @@ use Rattle.bpf_isa.specs.declared.insn.Insn.{Insn}
 use Rattle.bpf_isa.specs.declared.insn.Profile.{Profile}
 use Rattle.bpf_isa.specs.Decoding.{decoding}
 use Rattle.bpf_verifier.specs.Acceptance.{IsAccepted}
-use Rattle.shfl_policy.specs.Loading.{SourceModel}
+use Rattle.policy_source.specs.Source.{SourceModel}
 
 -- the bytes decode in the profile, and what they decode to is accepted
 abbrev pub IsProgram : Profile → List ℕ → Type 0

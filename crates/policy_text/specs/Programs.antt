@@ -1,7 +1,7 @@
 -- The programs of a policy as words.
 use Rattle.std.specs.Prelude.{◌≡◌, ℕ, List, Option, Some, None, Ok, if◌then◌else◌, codes}
 use Rattle.hex.specs.Hex.{encode_lower, decode_of, IsBytes}
-use Rattle.shfl_policy.specs.Loading.{SourceModel}
+use Rattle.policy_source.specs.Source.{SourceModel}
 use Rattle.doc_text.specs.Words.{same, ◌>>?◌}
 use Rattle.doc_text.specs.Digits.{bytes_in}
 

@@ -6,7 +6,7 @@ ghost use Rattle.policy_text.specs.Accepted.{IsProgram, AcceptsProgram, AcceptsS
 use crate::error::NoMemory;
 use bpf_isa::{IsaError, Profile, decode};
 use bpf_verifier::{Refusal, verify};
-use shfl_policy::PolicySource;
+use policy_source::PolicySource;
 use std::alloc::Global;
 
 // That a program is refused, unless it was want of memory.

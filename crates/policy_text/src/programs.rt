@@ -5,7 +5,7 @@ ghost use Rattle.policy_text.specs.Programs.{program_in, program_word, source_in
 use crate::error::NoMemory;
 use crate::writing::push_word;
 use doc_text::{hex_bytes, is_same, push_hex};
-use shfl_policy::PolicySource;
+use policy_source::PolicySource;
 use std::alloc::Global;
 
 fn program_of(alloc: Global, word: &[u8]) -> Result<Option<Option<Vec<u8>>>, NoMemory>

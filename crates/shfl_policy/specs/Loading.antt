@@ -12,12 +12,8 @@ use Rattle.shfl_policy.specs.declared.error.ProgramFault.{ProgramFault}
 use Rattle.shfl_policy.specs.declared.error.ProgramFault.TheVariants.{Isa, Refused}
 use Rattle.shfl_policy.specs.declared.error.LoadError.{LoadError}
 use Rattle.shfl_policy.specs.declared.error.LoadError.TheVariants.{Bad, NoMemory}
+use Rattle.policy_source.specs.Source.{SourceModel}
 use Rattle.shfl_policy.specs.Policies.{PolicyModel}
-
--- the bytes of a policy's programs, where it has them
-pub record SourceModel : Type 0 where
-  pub should : Option (List ℕ)
-  pub skip : Option (List ℕ)
 
 -- the bytes decode to these instructions, which are accepted; where there are no bytes there is no program
 abbrev pub Loads : Profile → Option (List ℕ) → Option (List Insn) → Type 0

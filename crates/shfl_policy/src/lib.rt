@@ -11,7 +11,8 @@ mod same;
 pub use asked::context;
 pub use error::{Hook, LoadError, ProgramFault};
 pub use loading::load;
-pub use policy::{Policy, PolicySource};
+pub use policy::Policy;
+pub use policy_source::PolicySource;
 pub use running::Running;
 
 #[cfg(test)]

@@ -4,9 +4,10 @@ ghost use Rattle.shfl_policy.specs.declared.error.LoadError.TheVariants.{NoMemor
 ghost use Rattle.shfl_policy.specs.Loading.{Loads, IsLoaded, IsLoadError, IsProgramError};
 
 use crate::error::{Hook, LoadError, ProgramFault};
-use crate::policy::{Policy, PolicySource};
+use crate::policy::Policy;
 use bpf_isa::{IsaError, Profile, decode};
 use bpf_verifier::{Program, Refusal, verify};
+use policy_source::PolicySource;
 use std::alloc::Global;
 
 /// The program of these bytes, decoded and verified, where there are bytes.

@@ -8,22 +8,6 @@ use shfl_line::NoMemory;
 use std::alloc::Global;
 use std::marker::Model;
 
-/// The bytes of a policy's programs. A missing program answers no.
-#[derive(Drop)]
-pub struct PolicySource {
-    pub should: Option<Vec<u8>>,
-    pub skip: Option<Vec<u8>>,
-}
-
-impl Model for PolicySource {
-    ghost use Rattle.std.specs.Prelude.{option_map};
-    ghost use Rattle.shfl_policy.specs.Loading.{SourceModel};
-
-    ghost Value = { SourceModel };
-
-    ghost view = { λ s. record { should = option_map (λ v. v.items) s.should; skip = option_map (λ v. v.items) s.skip } };
-}
-
 /// Two accepted programs under a name.
 #[derive(Drop)]
 pub struct Policy {

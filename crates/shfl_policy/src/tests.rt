@@ -2,9 +2,10 @@
 use crate::asked::context;
 use crate::error::{Hook, LoadError, ProgramFault};
 use crate::loading::load;
-use crate::policy::{Policy, PolicySource};
+use crate::policy::Policy;
 use bpf_isa::{IsaError, Profile};
 use bpf_verifier::Refusal;
+use policy_source::PolicySource;
 use shfl_line::{Attr, Chooser};
 use std::alloc::{AllocError, Global};
 use std::test::Fail;

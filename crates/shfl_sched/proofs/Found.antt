@@ -1,5 +1,5 @@
--- What is read is the value whose text the bytes are.
-use Rattle.std.proofs.Common.{◌≡◌, ℕ, ◌+◌, ◌<◌, ◌≤◌, List, [], ◌∷◌, ◌++◌, length, map, Bool, true, false, cond, Option, Some, None, Result, Ok, Err, eqb, leb, refl, sym, ap, ◌∙◌, subst, append_assoc, arith}
+-- What is read is the some-same whose text the bytes are.
+use Rattle.std.proofs.Common.{◌≡◌, ℕ, ◌+◌, ◌<◌, ◌≤◌, List, [], ◌∷◌, ◌++◌, length, map, Bool, true, false, cond, Option, Some, None, Result, Ok, Err, eqb, leb, refl, sym, ap, ◌∙◌, subst, arith}
 use Rattle.std.specs.Prelude.{codes}
 use Rattle.std.specs.List.{flat_map, AllByRecursion}
 use Rattle.std.proofs.lemmas.Bool.Decides.{nat_tests}
@@ -9,24 +9,23 @@ use Rattle.shfl_line.specs.declared.events.Form.{Form}
 use Rattle.doc_text.specs.declared.fault.Fault.{Fault}
 use Rattle.doc_text.specs.Text.{pieces, ended}
 use Rattle.doc_text.specs.Words.{words, same}
-use Rattle.doc_text.specs.Faults.{fault, ◌>>=◌, or_fault, fixed_due, lines_from, section_from}
+use Rattle.doc_text.specs.Faults.{fault, ◌>>=◌, or_fault, fixed_due, lines_from}
 use Rattle.doc_text.proofs.Joining.{joined, joined-pieces}
 use Rattle.doc_text.proofs.Due.{bind-some, or_fault-some, fixed_due-some}
-use Rattle.policy_text.specs.Attributes.{attr_in, attr_line}
+use Rattle.policy_text.specs.Attributes.{attr_in, attr_line, IsAttr}
 use Rattle.policy_text.specs.Headings.{heading_lines}
+use Rattle.policy_text.proofs.AttrLines.{attr-text}
+use Rattle.policy_text.proofs.Chains.{some-same, ok-same}
 use Rattle.shfl_sched.specs.declared.schedule.Rule.{Rule}
 use Rattle.shfl_sched.specs.declared.schedule.Event.{Event}
-use Rattle.shfl_sched.specs.Schedules.{ScheduleModel, IsAttr, IsEventOf, IsWithin}
+use Rattle.shfl_sched.specs.Schedules.{ScheduleModel, IsEventOf, IsWithin}
 use Rattle.shfl_sched.specs.Lines.{event_in}
 use Rattle.shfl_sched.specs.Grammar.{Front, front_in, policy_line, Then, ReadsRule, pass_says, passes_in, event_says, events_in, schedule_in, ReadsSchedule}
-use Rattle.shfl_sched.specs.Spelling.{form_line, limit_line, event_line, body_lines, schedule_lines, IsText}
-use Rattle.shfl_sched.proofs.Wording.{value, attr-some, event-some}
-use Rattle.shfl_sched.proofs.Sections.{Lined, lines-some, section-some}
+use Rattle.shfl_sched.specs.Spelling.{form_line, limit_line, event_line, body_lines, IsRuleLine, IsText}
+use Rattle.shfl_sched.proofs.Wording.{event-some}
+use Rattle.shfl_sched.proofs.Sections.{lines-some, section-some}
 use Rattle.shfl_sched.proofs.RuleLines.{rule-some}
 use Rattle.shfl_sched.proofs.Fronts.{FrontLines, front-some}
-
-ok-value : {A : Type 0} (x y : A) → ◌≡◌ {A = Result A Fault} (Ok x) (Ok y) → x ≡ y
-ok-value x y h = cc
 
 -- ---- the passes
 
@@ -39,7 +38,7 @@ pass-tells done line t a h = by_tests (same t (codes "events")) (eqb (length don
   where
     by_room : (b : Attr) (v : Bool) → leb 64 (length done) ≡ v → ◌≡◌ {A = Result (Option Attr) Fault} (cond v (fault line 7) (Ok (Some b))) (Ok (Some a)) → (b ≡ a) × (length done < 64)
     by_room b true e k = cc
-    by_room b false e k = let is : Some b ≡ Some a = cc in let lt : length done < 64 = grind (arith, nat_tests) in (value b a is, lt)
+    by_room b false e k = let is : Some b ≡ Some a = cc in let lt : length done < 64 = grind (arith, nat_tests) in (some-same b a is, lt)
 
     by_tests : (v w : Bool) → ◌≡◌ {A = Result (Option Attr) Fault} (cond v (cond w (fault line 7) (Ok None)) (or_fault line 7 (attr_in (codes "pass") (words t)) >>= or_full done line)) (Ok (Some a)) → (t ≡ attr_line (codes "pass") a) × IsAttr a × (length done < 64)
     by_tests true true k = cc
@@ -47,7 +46,7 @@ pass-tells done line t a h = by_tests (same t (codes "events")) (eqb (length don
     by_tests false w k =
         let r = bind-some (or_fault line 7 (attr_in (codes "pass") (words t))) (or_full done line) (Some a) k in
         let b = by_room r.0 (leb 64 (length done)) refl r.2 in
-        let s = attr-some (codes "pass") t r.0 (or_fault-some line 7 (attr_in (codes "pass") (words t)) r.0 r.1) in
+        let s = attr-text (codes "pass") t r.0 (or_fault-some line 7 (attr_in (codes "pass") (words t)) r.0 r.1) in
         (s.0 ∙ ap (attr_line (codes "pass")) b.0, subst IsAttr b.0 s.1, b.1)
 
 pass-stops : (done : List Attr) (line : ℕ) (t : List ℕ) → pass_says done line t ≡ Ok None → 0 < length done
@@ -86,7 +85,7 @@ event-tells form passes done line t e h =
   where
     by_room : (d : Event) (v : Bool) → leb 65536 (length done) ≡ v → ◌≡◌ {A = Result Event Fault} (cond v (fault line 9) (Ok d)) (Ok e) → (d ≡ e) × (length done < 65536)
     by_room d true f k = cc
-    by_room d false f k = let lt : length done < 65536 = grind (arith, nat_tests) in (ok-value d e k, lt)
+    by_room d false f k = let lt : length done < 65536 = grind (arith, nat_tests) in (ok-same d e k, lt)
 
 abbrev Events : Form → ℕ → List Event → List (List ℕ) → Type 0
 Events form passes events ps = (ps ≡ ended (codes "events") ∷ map ended (map event_line events)) × AllByRecursion (IsEventOf form passes) events × (length events ≤ 65536)
@@ -117,33 +116,46 @@ with_rule f rule = passes_in (policy_line f + 1) f.rest >>= with_passes f rule
 abbrev IsFound : List ℕ → ScheduleModel → Type 0
 IsFound bytes s = IsText bytes s × IsWithin s
 
+-- the lines behind a front
+whole-text : (bytes : List ℕ) (f : Front) (passes : List Attr) (events : List Event) (qs : List (List ℕ)) → FrontLines (pieces bytes) f → Passes passes f.rest qs → Events f.form (length passes) events qs
+    → bytes ≡ flat_map ended (heading_lines (codes "shfl-line") f.version f.profile ++ (form_line f.form ∷ limit_line f.limit ∷ f.policy ∷ body_lines passes events))
+whole-text bytes f passes events qs front p e =
+    let heads = heading_lines (codes "shfl-line") f.version f.profile in
+    let passing = map (attr_line (codes "pass")) passes in
+    let behind = form_line f.form ∷ limit_line f.limit ∷ f.policy ∷ body_lines passes events in
+    let tail : f.rest ≡ map ended (body_lines passes events) =
+    p.0 ∙ ap (λ (ps : List (List ℕ)). map ended passing ++ ps) e.0 ∙ sym (map-append ended passing (codes "events" ∷ map event_line events)) in
+    let all : pieces bytes ≡ map ended (heads ++ behind) =
+    front.lines ∙ ap (λ (ps : List (List ℕ)). map ended heads ++ ended (form_line f.form) ∷ ended (limit_line f.limit) ∷ ended f.policy ∷ ps) tail ∙ sym (map-append ended heads behind) in
+    sym (joined-pieces bytes) ∙ ap joined all ∙ joined-lines (heads ++ behind)
+
+whole-parts : (bytes : List ℕ) (f : Front) (rule : Rule) (passes : List Attr) (events : List Event) (qs : List (List ℕ)) (s : ScheduleModel) → FrontLines (pieces bytes) f
+    → IsRuleLine f.profile f.policy rule → Passes passes f.rest qs → Events f.form (length passes) events qs → with_events f rule passes events ≡ Ok s → IsFound bytes s
+whole-parts bytes f rule passes events qs s front line p e k =
+    let parts : ScheduleModel = record { version = f.version; profile = f.profile; form = f.form; limit = f.limit; rule = rule; passes = passes; events = events } in
+    let is = ok-same parts s k in
+    subst (IsFound bytes) is (
+      (f.policy, line, whole-text bytes f passes events qs front p e),
+      record {
+        version = front.version;
+        limit = front.limit;
+        passes = (p.2, p.3);
+        attrs = p.1;
+        few = e.2;
+        events = e.1;
+      },
+    )
+
 behind-front : (bytes : List ℕ) (f : Front) (rule : Result Rule Fault) (s : ScheduleModel) → FrontLines (pieces bytes) f → ReadsRule f.profile (policy_line f) f.policy rule → schedule_in f rule ≡ Ok s → IsFound bytes s
 unfolding schedule_in
 behind-front bytes f rule s front reads h =
     let r = bind-some rule (with_rule f) s h in
     let p = bind-some (passes_in (policy_line f + 1) f.rest) (with_passes f r.0) s r.2 in
     let e = bind-some (events_in f.form (length p.0.0) (policy_line f + 1 + length p.0.0) p.0.1) (with_events f r.0 p.0.0) s p.2 in
-    let is = ok-value (record { version = f.version; profile = f.profile; form = f.form; limit = f.limit; rule = r.0; passes = p.0.0; events = e.0 }) s e.2 in
     let line = rule-some f.profile (policy_line f) f.policy r.0 (subst (ReadsRule f.profile (policy_line f) f.policy) r.1 reads) in
     let passes = passes-some (policy_line f + 1) f.rest p.0.1 p.0.0 p.1 in
     let events = events-some f.form (length p.0.0) (policy_line f + 1 + length p.0.0) p.0.1 e.0 e.1 in
-    let heads = heading_lines (codes "shfl-line") f.version f.profile in
-    let passing = map (attr_line (codes "pass")) p.0.0 in
-    let tail : f.rest ≡ map ended (body_lines p.0.0 e.0) =
-    passes.0 ∙ ap (λ (qs : List (List ℕ)). map ended passing ++ qs) events.0 ∙ sym (map-append ended passing (codes "events" ∷ map event_line e.0)) in
-    let behind = form_line f.form ∷ limit_line f.limit ∷ f.policy ∷ body_lines p.0.0 e.0 in
-    let all : pieces bytes ≡ map ended (heads ++ behind) =
-    front.lines ∙ ap (λ (qs : List (List ℕ)). map ended heads ++ ended (form_line f.form) ∷ ended (limit_line f.limit) ∷ ended f.policy ∷ qs) tail ∙ sym (map-append ended heads behind) in
-    let text : bytes ≡ flat_map ended (heads ++ behind) = sym (joined-pieces bytes) ∙ ap joined all ∙ joined-lines (heads ++ behind) in
-    subst (IsFound bytes) is ((f.policy, line.0, text), record {
-      version = front.version;
-      limit = front.limit;
-      rule = line.1;
-      passes = (passes.2, passes.3);
-      attrs = passes.1;
-      few = events.2;
-      events = events.1;
-    })
+    whole-parts bytes f r.0 p.0.0 e.0 p.0.1 s front line passes events e.2
 
 pub found : (bytes : List ℕ) (s : ScheduleModel) → ReadsSchedule bytes (Ok s) → IsText bytes s × IsWithin s
 found bytes s h = by_front (front_in (pieces bytes)) refl h

@@ -1,14 +1,14 @@
 -- A policy that isn't loaded is none.
-use Rattle.std.proofs.Common.{◌≡◌, ◌≢◌, ℕ, List, Option, Some, None, Result, Ok, Err, refl, sym, ◌∙◌, subst}
+use Rattle.std.proofs.Common.{ℕ, List, Option, Some, None}
 use Rattle.bpf_isa.specs.declared.insn.Insn.{Insn}
 use Rattle.bpf_isa.specs.declared.insn.Profile.{Profile}
-use Rattle.bpf_isa.specs.Decoding.{decoding}
 use Rattle.shfl_policy.specs.declared.error.Hook.{Hook}
 use Rattle.shfl_policy.specs.declared.error.Hook.TheVariants.{Should, Skip}
 use Rattle.shfl_policy.specs.declared.error.ProgramFault.{ProgramFault}
 use Rattle.shfl_policy.specs.declared.error.ProgramFault.TheVariants.{Isa, Refused}
 use Rattle.shfl_policy.specs.declared.error.LoadError.TheVariants.{Bad}
-use Rattle.shfl_policy.specs.Loading.{SourceModel, Loads, HasFault, IsLoaded, IsLoadError}
+use Rattle.policy_source.specs.Source.{SourceModel}
+use Rattle.shfl_policy.specs.Loading.{Loads, HasFault, IsLoaded, IsLoadError}
 use Rattle.shfl_policy.specs.Policies.{PolicyModel}
 use Rattle.policy_text.proofs.Verdicts.{not_a_program}
 

@@ -1,13 +1,13 @@
 -- Bytes have one reading.
-use Rattle.std.proofs.Common.{◌≡◌, ℕ, List, Option, Some, None, Result, Ok, Err, refl, sym, ap, ◌∙◌, subst}
+use Rattle.std.proofs.Common.{◌≡◌, ℕ, List, Option, Some, None, Result, Ok, Err, refl, sym, ap, ◌∙◌}
 use Rattle.bpf_isa.specs.declared.insn.Insn.{Insn}
 use Rattle.bpf_isa.specs.declared.insn.Profile.{Profile}
-use Rattle.bpf_isa.specs.Decoding.{decoding}
 use Rattle.doc_text.specs.declared.fault.Fault.{Fault}
 use Rattle.doc_text.specs.Text.{pieces}
 use Rattle.doc_text.specs.Words.{words}
 use Rattle.doc_text.specs.Faults.{or_fault}
-use Rattle.shfl_policy.specs.Loading.{SourceModel, Loads, IsLoaded}
+use Rattle.policy_source.specs.Source.{SourceModel}
+use Rattle.shfl_policy.specs.Loading.{Loads, IsLoaded}
 use Rattle.shfl_policy.specs.Policies.{PolicyModel}
 use Rattle.shfl_sched.specs.declared.schedule.Rule.{Rule}
 use Rattle.shfl_sched.specs.declared.schedule.Rule.TheVariants as rules

@@ -11,8 +11,8 @@ use Rattle.shfl_sched.specs.declared.schedule.Act.{Act}
 use Rattle.shfl_sched.specs.declared.schedule.Act.TheVariants.{Write, Read, Free, Step}
 use Rattle.shfl_sched.specs.declared.schedule.Event.{Event}
 use Rattle.shfl_sched.specs.Schedules.{ScheduleModel, is_act_of, IsEventOf, IsWithin}
-use Rattle.shfl_sched.specs.Run.{Setup, setup_of, rules_of, Moment, move_of, move_in, choice_at, after_event, moment_of, moments, moments_of}
-use Rattle.shfl_sched.specs.RunLaws.{MayMake, moves}
+use Rattle.shfl_sched.specs.Run.{Setup, setup_of, rules_of, Moment, move_of, move_in, choice_at, after_event, moment_of, moments, moments_of, moves, lock_after}
+use Rattle.shfl_sched.specs.RunLaws.{MayMake}
 
 moments-run : (t : Setup) (w : World) (events : List Event) (k : ℕ) (m : Moment) → get_elem? (moments t w events) k ≡ some m
     → m.after ≡ run t.rules w (moves (take (suc k) (moments t w events)))
@@ -20,8 +20,7 @@ moments-run t w [] k m e = absurd (some-ne-none m (sym e))
 moments-run t w (x ∷ rest) zero m e = ap (λ (n : Moment). n.after) (sym (some-injective (moment_of t w x) m e))
 moments-run t w (x ∷ rest) (suc k) m e = moments-run t (after_event t w x) rest k m e
 
-pub moments_are_run : (s : ScheduleModel) (k : ℕ) (m : Moment) → get_elem? (moments_of s) k ≡ some m
-    → m.after ≡ run (rules_of s) (opening s.passes) (moves (take (suc k) (moments_of s)))
+pub moments_are_run : (s : ScheduleModel) (k : ℕ) (m : Moment) → get_elem? (moments_of s) k ≡ some m → m.after ≡ (lock_after s (suc k)).world
 moments_are_run s k m e = moments-run (setup_of s) (opening s.passes) s.events k m e
 
 -- no test is both

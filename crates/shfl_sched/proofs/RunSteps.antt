@@ -1,15 +1,15 @@
 -- One event more of a run: the lock after it, and what its lock still has.
 use Rattle.std.proofs.Common.{◌≡◌, ℕ, zero, suc, ◌+◌, ◌<◌, Bool, true, false, cond, List, [], ◌∷◌, ◌++◌, length, get_or, take, set, length-set, length-append, refl, sym, ap, ◌∙◌, arith}
-use Rattle.std.proofs.lemmas.List.{take_more, take_all}
+use Rattle.std.proofs.lemmas.List.{take_more}
 use Rattle.shfl_line.specs.Line.{Line}
 use Rattle.shfl_core.specs.declared.phase.Rules.{Rules}
 use Rattle.shfl_core.specs.Runner.{Lock, moved}
 use Rattle.shfl_core.specs.ShownLine.{each_below, shown_line}
-use Rattle.shfl_core.specs.Worlds.{World, Move, Acquire, Release, Step, admitted, made, after_move, opening}
+use Rattle.shfl_core.specs.Worlds.{World, Move, Acquire, Release, Step, admitted, made, after_move, opening, run}
 use Rattle.shfl_core.proofs.Opening.{idle-from-long}
 use Rattle.shfl_sched.specs.declared.schedule.Event.{Event}
 use Rattle.shfl_sched.specs.Schedules.{ScheduleModel}
-use Rattle.shfl_sched.specs.Run.{Setup, setup_of, rules_of, move_in, after_event, after_events, lock_after}
+use Rattle.shfl_sched.specs.Run.{Setup, setup_of, rules_of, move_in, after_event, moments, moves, lock_after}
 
 made-passes : (t : Rules) (w : World) (m : Move) → length (made t w m).passes ≡ length w.passes
 made-passes t w (Acquire p mode) = length-set w.passes p _
@@ -28,27 +28,39 @@ move-passes t w m = chosen-passes (admitted w m) (made t w m) w (made-passes t w
 pub moved_passes : (a b : Lock) (m : Move) (n : ℕ) → b ≡ moved a m → length a.world.passes ≡ n → length b.world.passes ≡ n
 moved_passes a b m n e long = ap (λ (x : Lock). length x.world.passes) e ∙ move-passes a.rules a.world m ∙ long
 
-run-passes : (t : Setup) (w : World) (events : List Event) → length (after_events t w events).passes ≡ length w.passes
-run-passes t w [] = refl
-run-passes t w (e ∷ rest) = run-passes t (after_event t w e) rest ∙ move-passes t.rules w (move_in t w e)
+-- the world after events, event by event
+abbrev after_events : Setup → World → List Event → World
+after_events t w [] = w
+after_events t w (e ∷ rest) = after_events t (after_event t w e) rest
 
--- the lock of a run has a pass for each attribute
-lock-passes : (s : ScheduleModel) (n : ℕ) → length (lock_after s n).world.passes ≡ length s.passes
-lock-passes s n = run-passes (setup_of s) (opening s.passes) (take n s.events) ∙ idle-from-long 0 s.passes
+run-is-events : (t : Setup) (w : World) (n : ℕ) (events : List Event) → run t.rules w (moves (take n (moments t w events))) ≡ after_events t w (take n events)
+run-is-events t w zero events = refl
+run-is-events t w (suc n) [] = refl
+run-is-events t w (suc n) (e ∷ rest) = run-is-events t (after_event t w e) n rest
+
+events-passes : (t : Setup) (w : World) (events : List Event) → length (after_events t w events).passes ≡ length w.passes
+events-passes t w [] = refl
+events-passes t w (e ∷ rest) = events-passes t (after_event t w e) rest ∙ move-passes t.rules w (move_in t w e)
 
 events-append : (t : Setup) (w : World) (events : List Event) (e : Event) → after_events t w (events ++ e ∷ []) ≡ after_event t (after_events t w events) e
 events-append t w [] e = refl
 events-append t w (x ∷ rest) e = events-append t (after_event t w x) rest e
 
--- the lock after one event more
-lock-moves : (s : ScheduleModel) (i : ℕ) (d : Event) → i < length s.events
-    → lock_after s (i + 1) ≡ moved (lock_after s i) (move_in (setup_of s) (lock_after s i).world (get_or s.events i d))
-lock-moves s i d lt =
-    let e = ap (after_events (setup_of s) (opening s.passes)) (take_more s.events i d lt) ∙ events-append (setup_of s) (opening s.passes) (take i s.events) (get_or s.events i d) in
-    ap (λ (w : World). record { rules = rules_of s; world = w }) e
+module _ (s : ScheduleModel) where
+  world-is : (n : ℕ) → (lock_after s n).world ≡ after_events (setup_of s) (opening s.passes) (take n s.events)
+  world-is n = run-is-events (setup_of s) (opening s.passes) n s.events
 
-pub world_moves : (s : ScheduleModel) (i : ℕ) (d : Event) → i < length s.events → (lock_after s (i + 1)).world ≡ after_event (setup_of s) (lock_after s i).world (get_or s.events i d)
-world_moves s i d lt = ap (λ (x : Lock). x.world) (lock-moves s i d lt)
+  -- the lock of a run has a pass for each attribute
+  lock-passes : (n : ℕ) → length (lock_after s n).world.passes ≡ length s.passes
+  lock-passes n = ap (λ (w : World). length w.passes) (world-is n) ∙ events-passes (setup_of s) (opening s.passes) (take n s.events) ∙ idle-from-long 0 s.passes
+
+  -- the world after one event more
+  pub world_moves : (i : ℕ) (d : Event) → i < length s.events → (lock_after s (i + 1)).world ≡ after_event (setup_of s) (lock_after s i).world (get_or s.events i d)
+  world_moves i d lt = world-is (i + 1) ∙ ap (after_events (setup_of s) (opening s.passes)) (take_more s.events i d lt)
+      ∙ events-append (setup_of s) (opening s.passes) (take i s.events) (get_or s.events i d) ∙ ap (λ (w : World). after_event (setup_of s) w (get_or s.events i d)) (sym (world-is i))
+
+  lock-moves : (i : ℕ) (d : Event) → i < length s.events → lock_after s (i + 1) ≡ moved (lock_after s i) (move_in (setup_of s) (lock_after s i).world (get_or s.events i d))
+  lock-moves i d lt = ap (λ (w : World). record { rules = rules_of s; world = w }) (world_moves i d lt)
 
 each-below-long : {A : Type 0} (f : ℕ → A) (n : ℕ) → length (each_below f n) ≡ n
 each-below-long f zero = refl

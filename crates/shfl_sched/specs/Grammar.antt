@@ -1,9 +1,10 @@
 -- The grammar of schedules: the schedule that bytes are, or the first bad line and the lowest fault on it.
-use Rattle.std.specs.Prelude.{◌≡◌, ℕ, ◌+◌, List, [], ◌∷◌, length, Option, Some, None, Result, Ok, Err, nat_le, ◌==◌, if◌then◌else◌, codes}
+use Rattle.std.specs.Prelude.{◌≡◌, ℕ, ◌+◌, List, [], length, Option, Some, None, Result, Ok, Err, nat_le, ◌==◌, if◌then◌else◌, codes}
 use Rattle.bpf_isa.specs.declared.insn.Profile.{Profile}
 use Rattle.shfl_line.specs.declared.words.Attr.{Attr}
 use Rattle.shfl_line.specs.declared.events.Form.{Form}
-use Rattle.shfl_policy.specs.Loading.{SourceModel, IsLoaded}
+use Rattle.policy_source.specs.Source.{SourceModel}
+use Rattle.shfl_policy.specs.Loading.{IsLoaded}
 use Rattle.shfl_policy.specs.Policies.{PolicyModel}
 use Rattle.doc_text.specs.declared.fault.Fault.{Fault}
 use Rattle.doc_text.specs.Text.{pieces}

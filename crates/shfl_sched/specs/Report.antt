@@ -17,8 +17,8 @@ use Rattle.shfl_sched.specs.ReportParts.{form_text, act_text, answer_text, hold_
 use Rattle.shfl_sched.specs.Run.{Moment, moments_of}
 
 -- `K EVENT P yes|no`
-unfoldable pub deed_text : ℕ → Event → Bool → List ℕ
-deed_text k event admitted = decimal k ++ codes " " ++ act_text event.act ++ codes " " ++ decimal event.pass
+unfoldable pub event_text : ℕ → Event → Bool → List ℕ
+event_text k event admitted = decimal k ++ codes " " ++ act_text event.act ++ codes " " ++ decimal event.pass
     ++ codes " " ++ answer_text admitted
 
 -- ` word W hold H line L hand D role R`
@@ -32,7 +32,7 @@ asleep_text form w = if parks form then codes " asleep " ++ parked_text w else [
 
 -- `K EVENT P yes|no word W hold H line L hand D role R`, and ` asleep A` where waiters park: all after the event
 unfoldable pub row : Form → ℕ → Event → Bool → World → List ℕ
-row form k event admitted after = deed_text k event admitted ++ state_text (look after.words Lock) (shown_line after)
+row form k event admitted after = event_text k event admitted ++ state_text (look after.words Lock) (shown_line after)
     ++ asleep_text form after ++ codes "\n"
 
 -- the rows of these moments, the first of them with this number

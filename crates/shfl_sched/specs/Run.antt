@@ -1,5 +1,5 @@
 -- A schedule's run: each event is a move of its pass, and each moment has the lock after it.
-use Rattle.std.specs.Prelude.{ℕ, List, [], ◌∷◌, Bool, slice_index_or, take}
+use Rattle.std.specs.Prelude.{ℕ, List, [], ◌∷◌, map, Bool, slice_index_or, take}
 use Rattle.shfl_line.specs.declared.events.Mode.TheVariants.{Write as Alone, Read as Beside}
 use Rattle.shfl_line.specs.declared.words.Attr.{Attr}
 use Rattle.shfl_core.specs.declared.phase.Rules.{Rules}
@@ -71,14 +71,13 @@ moments t w (e ∷ rest) = moment_of t w e ∷ moments t (after_event t w e) res
 abbrev pub moments_of : ScheduleModel → List Moment
 moments_of s = moments (setup_of s) (opening s.passes) s.events
 
--- the world after events, in their order
-abbrev pub after_events : Setup → World → List Event → World
-after_events t w [] = w
-after_events t w (e ∷ rest) = after_events t (after_event t w e) rest
+-- the moves of moments, in their order
+abbrev pub moves : List Moment → List Move
+moves ms = map (λ m. m.move) ms
 
--- the lock after so many events of a schedule
+-- the lock after so many events of a schedule: the run of their moves, from the opening on
 abbrev pub lock_after : ScheduleModel → ℕ → Lock
 lock_after s n = record {
   rules = rules_of s;
-  world = after_events (setup_of s) (opening s.passes) (take n s.events);
+  world = run (rules_of s) (opening s.passes) (moves (take n (moments_of s)));
 }

@@ -1,14 +1,13 @@
 -- A schedule as contracts see it.
-use Rattle.std.specs.Prelude.{◌≡◌, ◌⊎◌, ◌≤◌, ◌<◌, ℕ, List, Bool, true, false, IsTrue, IfSome, length}
+use Rattle.std.specs.Prelude.{◌≤◌, ◌<◌, ℕ, List, Bool, true, IsTrue, length}
 use Rattle.std.specs.List.{AllByRecursion}
 use Rattle.bpf_isa.specs.declared.insn.Profile.{Profile}
-use Rattle.bpf_isa.specs.declared.insn.Profile.TheVariants as profile
 use Rattle.shfl_line.specs.declared.words.Attr.{Attr}
 use Rattle.shfl_line.specs.declared.events.Form.{Form}
 use Rattle.shfl_core.specs.Plan.{shares}
-use Rattle.bpf_verifier.specs.Acceptance.{IsAccepted}
+use Rattle.policy_text.specs.Attributes.{IsAttr}
+use Rattle.policy_text.specs.Headings.{IsVersion}
 use Rattle.shfl_sched.specs.declared.schedule.Rule.{Rule}
-use Rattle.shfl_sched.specs.declared.schedule.Rule.TheVariants as rules
 use Rattle.shfl_sched.specs.declared.schedule.Act.{Act}
 use Rattle.shfl_sched.specs.declared.schedule.Act.TheVariants as acts
 use Rattle.shfl_sched.specs.declared.schedule.Event.{Event}
@@ -35,29 +34,10 @@ pub record IsEventOf (form : Form) (passes : ℕ) (e : Event) : Type 0 where
   pub act : IsTrue (is_act_of form e.act)
   pub pass : e.pass < passes
 
--- each attribute is a number of 16 bits
-pub record IsAttr (a : Attr) : Type 0 where
-  pub socket : a.socket ≤ 65535
-  pub prio : a.prio ≤ 65535
-  pub class : a.class ≤ 65535
-  pub kind : a.kind ≤ 65535
-
--- a policy has the name 0, and its programs are accepted
-abbrev pub IsRule : Rule → Type 0
-IsRule rules.Never = Unit {0}
-IsRule rules.Always = Unit {0}
-IsRule rules.Socket = Unit {0}
-IsRule (rules.Program policy) = (policy.name ≡ 0) × IfSome policy.should IsAccepted × IfSome policy.skip IsAccepted
-
--- version 1 has profile one, and version 2 either
-abbrev pub IsVersion : ℕ → Profile → Type 0
-IsVersion version called = ((version ≡ 1) × (called ≡ profile.One)) ⊎ (version ≡ 2)
-
 -- a schedule within the limits, whose events name passes that it has
 pub record IsWithin (s : ScheduleModel) : Type 0 where
   pub version : IsVersion s.version s.profile
   pub limit : (0 < s.limit) × (s.limit ≤ 1024)
-  pub rule : IsRule s.rule
   pub passes : (0 < length s.passes) × (length s.passes ≤ 64)
   pub attrs : AllByRecursion IsAttr s.passes
   pub few : length s.events ≤ 65536

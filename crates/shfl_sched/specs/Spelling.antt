@@ -1,18 +1,18 @@
 -- The texts of a schedule. Digits of programs may be in either case, so that a schedule has several.
-use Rattle.std.specs.Prelude.{◌≡◌, ℕ, List, [], ◌∷◌, ◌++◌, map, Option, Some, None, Ok, codes}
+use Rattle.std.specs.Prelude.{◌≡◌, ℕ, List, [], ◌∷◌, ◌++◌, map, codes}
 use Rattle.std.specs.List.{flat_map}
 use Rattle.std.specs.Fmt.{decimal}
-use Rattle.bpf_isa.specs.declared.insn.Insn.{Insn}
 use Rattle.bpf_isa.specs.declared.insn.Profile.{Profile}
-use Rattle.bpf_isa.specs.Decoding.{decoding}
 use Rattle.shfl_line.specs.declared.words.Attr.{Attr}
 use Rattle.shfl_line.specs.declared.events.Form.{Form}
 use Rattle.shfl_line.specs.declared.events.Form.TheVariants as forms
 use Rattle.doc_text.specs.Text.{ended}
 use Rattle.doc_text.specs.Words.{spaced}
-use Rattle.doc_text.specs.Digits.{bytes_in}
+use Rattle.policy_source.specs.Source.{SourceModel}
+use Rattle.shfl_policy.specs.Loading.{IsLoaded}
 use Rattle.policy_text.specs.Attributes.{attr_line}
 use Rattle.policy_text.specs.Headings.{heading_lines}
+use Rattle.policy_text.specs.Programs.{IsProgramWord}
 use Rattle.shfl_sched.specs.declared.schedule.Rule.{Rule}
 use Rattle.shfl_sched.specs.declared.schedule.Rule.TheVariants as rules
 use Rattle.shfl_sched.specs.declared.schedule.Act.{Act}
@@ -41,19 +41,14 @@ limit_line limit = spaced (codes "limit" ∷ decimal limit ∷ [])
 abbrev pub event_line : Event → List ℕ
 event_line e = spaced (act_word e.act ∷ decimal e.pass ∷ [])
 
--- `-` for no program, else hexadecimal digits of bytes that decode to it
-abbrev pub IsProgramWord : Profile → List ℕ → Option (List Insn) → Type 0
-IsProgramWord profile word None = word ≡ codes "-"
-IsProgramWord profile word (Some insns) = (bytes : List ℕ) × (bytes_in word ≡ Some bytes) × (decoding profile bytes ≡ Ok insns)
-
--- a policy line of a rule
+-- a policy line of a rule; the policy has the name 0, and is loaded from the programs that two words write
 abbrev pub IsRuleLine : Profile → List ℕ → Rule → Type 0
 IsRuleLine profile text rules.Never = text ≡ codes "policy never"
 IsRuleLine profile text rules.Always = text ≡ codes "policy always"
 IsRuleLine profile text rules.Socket = text ≡ codes "policy socket"
-IsRuleLine profile text (rules.Program policy) = (should skip : List ℕ)
+IsRuleLine profile text (rules.Program policy) = (source : SourceModel) × (should skip : List ℕ)
     × (text ≡ spaced (codes "policy" ∷ codes "program" ∷ should ∷ skip ∷ []))
-    × IsProgramWord profile should policy.should × IsProgramWord profile skip policy.skip
+    × IsProgramWord source.should should × IsProgramWord source.skip skip × IsLoaded 0 profile source policy
 
 -- the lines of the passes and of the events
 abbrev pub body_lines : List Attr → List Event → List (List ℕ)

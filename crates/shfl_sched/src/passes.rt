@@ -35,7 +35,11 @@ fn pass_says(before: &[Attr], line: u32, text: &[u8]) -> Result<Option<Attr>, Fa
 
 /// The passes of a schedule, and the bytes from the line `events` on.
 #[tactic(auto, unfolding(crate::specs::Grammar::passes_in))]
-pub fn passes_of(alloc: Global, bytes: &[u8], first: u32) -> Result<(Vec<Attr>, &[u8]), ScheduleError>
+pub fn passes_of(
+    alloc: Global,
+    bytes: &[u8],
+    first: u32,
+) -> Result<(Vec<Attr>, &[u8]), ScheduleError>
     requires { first < 10 }
     ensures exact { GivesOrWants fault_of (λ x. (x.0.items, pieces x.1.now)) result
         (passes_in first (pieces bytes.now)) }

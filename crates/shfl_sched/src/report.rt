@@ -2,7 +2,7 @@
 ghost use Rattle.std.specs.Prelude.{◌≡◌, ◌≤◌, ◌++◌, length, OnOk};
 ghost use Rattle.shfl_core.specs.ShownLine.{shown_line};
 ghost use Rattle.shfl_sched.specs.ReportParts.{parked_text};
-ghost use Rattle.shfl_sched.specs.Report.{version_text, sizes_text, heading_text, deed_text, state_text, asleep_text, row, totals_text};
+ghost use Rattle.shfl_sched.specs.Report.{version_text, sizes_text, heading_text, event_text, state_text, asleep_text, row, totals_text};
 
 use crate::report_parts::{
     act_name, answer_name, form_name, push_hand, push_hold, push_number, push_queue, push_role,
@@ -47,9 +47,14 @@ pub fn push_heading(out: &mut Vec<u8>, schedule: &Schedule) -> Result<(), NoMemo
     Ok(())
 }
 
-#[tactic(auto, unfolding(crate::specs::Report::deed_text))]
-fn push_deed(out: &mut Vec<u8>, number: u32, event: Event, admitted: bool) -> Result<(), AllocError>
-    ensures { OnOk result (out.new.items ≡ out.old.items ++ deed_text number event admitted) }
+#[tactic(auto, unfolding(crate::specs::Report::event_text))]
+fn push_event(
+    out: &mut Vec<u8>,
+    number: u32,
+    event: Event,
+    admitted: bool,
+) -> Result<(), AllocError>
+    ensures { OnOk result (out.new.items ≡ out.old.items ++ event_text number event admitted) }
 {
     push_number(out, u64::from(number))?;
     out.extend_from_slice(b" ")?;
@@ -137,7 +142,7 @@ pub fn push_row<B: Board>(
     ensures shown { state.new ≡ shown_line (B.meaning board.old).world }
 {
     board.show(state);
-    push_deed(out, number, event, admitted)?;
+    push_event(out, number, event, admitted)?;
     push_state(out, board.word(), state)?;
     push_asleep(out, form, board, state.mark().len() as u32)?;
     out.extend_from_slice(b"\n")

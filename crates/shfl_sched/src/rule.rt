@@ -9,8 +9,9 @@ use crate::error::ScheduleError;
 use crate::schedule::Rule;
 use bpf_isa::Profile;
 use doc_text::{four_words, is_same, two_words};
+use policy_source::PolicySource;
 use policy_text::{NoMemory, source_of};
-use shfl_policy::{LoadError, PolicySource, load};
+use shfl_policy::{LoadError, load};
 use std::alloc::Global;
 
 /// What a policy line says, the programs as their bytes.

@@ -79,7 +79,11 @@ const BAD_LINES: [(&str, u32, u8); 19] = [
     ("policy always\npass 0 0 0\n", 5, 7),
     ("policy always\npass 0 0 0 65536\n", 5, 7),
     ("policy always\npass 0 0 0 0\nread 0\n", 6, 7),
-    ("policy always\npass 0 0 0 0\nevents\nread 0\nread 1\n", 8, 8),
+    (
+        "policy always\npass 0 0 0 0\nevents\nread 0\nread 1\n",
+        8,
+        8,
+    ),
     ("policy always\npass 0 0 0 0\nevents\nwrite 00\n", 7, 8),
     ("policy always\npass 0 0 0 0\nevents\nfree 0 \n", 7, 8),
     ("policy always\npass 0 0 0 0\nevents\nstep\n", 7, 8),

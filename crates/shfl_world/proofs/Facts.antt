@@ -1,13 +1,12 @@
 -- What a lawful lock says of its words, its passes and the line state that it shows.
-use Rattle.std.proofs.Common.{◌≡◌, ◌≢◌, ℕ, zero, suc, ◌+◌, ◌*◌, ◌<◌, ◌≤◌, Bool, true, false, cond, length, refl, sym, ap, ◌∙◌, subst, arith}
-use Rattle.std.specs.Prelude.{Option, Some, None, IfSome, slice_index}
+use Rattle.std.proofs.Common.{◌≡◌, ℕ, zero, suc, ◌<◌, ◌≤◌, true, cond, length, refl, sym, ap, ◌∙◌, subst, arith}
+use Rattle.std.specs.Prelude.{Option, Some, None, IfSome}
 use Rattle.std.proofs.lemmas.Bool.Decides.{nat_tests}
 use Rattle.shfl_line.specs.Line.{Line, mark_of, IsOfPasses, IsWellFormed}
 use Rattle.shfl_line.specs.Words.{link_word, batch_of, IsStateWord}
 use Rattle.shfl_line.specs.Passes.{times}
 use Rattle.shfl_core.specs.declared.phase.Phase.{Phase}
 use Rattle.shfl_core.specs.declared.phase.Phase.TheVariants.{Link}
-use Rattle.shfl_core.specs.declared.words.Word.{Word}
 use Rattle.shfl_core.specs.declared.words.Word.TheVariants.{Next, State, Attr}
 use Rattle.shfl_core.specs.Words.{look, index, wide}
 use Rattle.shfl_core.specs.Phases.{is_queued, is_linking}

@@ -1,5 +1,5 @@
 -- A lawful lock stays lawful with every move, and shows the step of the line that the move names.
-use Rattle.std.proofs.Common.{◌≡◌, ℕ, suc, ◌+◌, ◌<◌, ◌≤◌, List, [], ◌∷◌, Bool, true, false, cond, length, refl, sym, ap, ◌∙◌, ⊎_elim, subst, arith}
+use Rattle.std.proofs.Common.{◌≡◌, ℕ, suc, ◌<◌, ◌≤◌, List, [], ◌∷◌, Bool, true, false, cond, length, refl, sym, ap, ◌∙◌, ⊎_elim, subst, arith}
 use Rattle.std.specs.Prelude.{slice_index, map}
 use Rattle.std.proofs.Math.ListN.{length-set}
 use Rattle.std.proofs.lemmas.List.{get_or_past}
@@ -17,14 +17,14 @@ use Rattle.shfl_core.specs.ShownLine.{each_below, shown_line}
 use Rattle.shfl_core.specs.Lawful.{Terms, count, Lawful, Advances}
 use Rattle.shfl_core.specs.Runner.{Lock, opened, moved}
 use Rattle.shfl_core.proofs.Lists.{below-or}
-use Rattle.shfl_laws.specs.Moves.{MayMove, MayOpen, OpensLawful, move_event, terms}
+use Rattle.shfl_laws.specs.Moves.{MayMove, MayOpen, OpensLawful, terms}
 use Rattle.shfl_laws.proofs.Laws.{laws}
 use Rattle.shfl_laws.proofs.Leasts.{each-long, each-read}
 use Rattle.shfl_laws.proofs.MoveLaws.{move-law}
 use Rattle.shfl_laws.proofs.Opens.{opening-law}
 use Rattle.shfl_laws.proofs.ShownLine.{shown-line-law}
 use Rattle.shfl_laws.proofs.ShownOne.{numbers-one}
-use Rattle.shfl_world.specs.LawfulLock.{terms_of, IsLawfulLock, line_event, MovesLawfully, EveryMoveIsLawful}
+use Rattle.shfl_world.specs.LawfulLock.{terms_of, IsLawfulLock, line_event, MovesLawfully}
 use Rattle.shfl_world.proofs.Facts.{full, shown-is}
 
 -- a list of numbers is what a function gives for each place
@@ -57,7 +57,7 @@ moved-long r w m = by m
     by (Release p) = let q = known w.passes p in maybe (is_resting q) (placed_at w p (released q)) (length-set w.passes p (released q))
     by (Step p choice) = let q = known w.passes p in maybe (moving q) (stepped r w p q choice) (length-set w.passes p (take r p q (look w.words (site (plan r p q))) choice))
 
-pub move-lawful : EveryMoveIsLawful
+pub move-lawful : (lock : Lock) (m : Move) → IsLawfulLock lock → MayMove lock.rules.form m → MovesLawfully lock m
 move-lawful lock m ok may = record {
   lawful = lawful-lock t (moved lock m) refl there advance.lawful;
   admitted = subst (λ (s : Line). Admits lock.rules.limit s (line_event lock m)) (shown-is lock ok) advance.admitted;

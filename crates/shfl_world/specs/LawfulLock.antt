@@ -1,7 +1,7 @@
 -- A lock over plain words that is lawful with all its passes, and what a move of it shows.
-use Rattle.std.specs.Prelude.{◌≡◌, ℕ, length}
+use Rattle.std.specs.Prelude.{◌≡◌, length}
 use Rattle.shfl_line.specs.declared.events.LineEvent.{LineEvent}
-use Rattle.shfl_line.specs.Line.{IsWellFormed}
+use Rattle.shfl_line.specs.Line.{Line, IsWellFormed}
 use Rattle.shfl_line.specs.Steps.{Admits, after}
 use Rattle.shfl_core.specs.declared.words.Word.TheVariants.{Attr}
 use Rattle.shfl_core.specs.Words.{look}
@@ -9,16 +9,30 @@ use Rattle.shfl_core.specs.Worlds.{Move}
 use Rattle.shfl_core.specs.ShownLine.{each_below, shown_line}
 use Rattle.shfl_core.specs.Lawful.{Terms, Lawful}
 use Rattle.shfl_core.specs.Runner.{Lock, moved}
-use Rattle.shfl_laws.specs.Moves.{MayMove, move_event}
+use Rattle.shfl_laws.specs.Moves.{move_event}
 use Rattle.shfl_laws.specs.Headline.{Headline}
 
 -- what the lock's opening fixed: its rules, and the attribute word of each pass
 abbrev pub terms_of : Lock → Terms
-terms_of lock = record { rules = lock.rules; attrs = each_below (λ p. look lock.world.words (Attr p)) (length lock.world.passes) }
+terms_of lock = record {
+  rules = lock.rules;
+  attrs = each_below (λ p. look lock.world.words (Attr p)) (length lock.world.passes);
+}
 
--- the lock's words and passes agree with a line state, and every pass has its attribute word
+-- the lock's words and passes agree with a line state, and every seat has its pass
 abbrev pub IsLawfulLock : Lock → Type 0
 IsLawfulLock lock = Lawful (terms_of lock) lock.world
+
+-- the line state that the lock shows
+abbrev pub shown_by : Lock → Line
+shown_by lock = shown_line lock.world
+
+abbrev pub ShowsWellFormed : Lock → Type 0
+ShowsWellFormed lock = IsWellFormed lock.rules.limit (shown_by lock)
+
+-- the plain words hold, with the line and the detached waiter that the lock shows
+abbrev pub ShowsHeadline : Lock → Type 0
+ShowsHeadline lock = Headline lock.rules.limit lock.world (shown_by lock).line (shown_by lock).hand
 
 -- what the line shows of a move: a step's own event, and nothing of any other move
 abbrev pub line_event : Lock → Move → LineEvent
@@ -27,15 +41,5 @@ line_event lock m = move_event lock.rules lock.world m
 -- the move leads to a lawful lock, and the shown states are one admitted step of the line apart, the move's own
 pub record MovesLawfully (lock : Lock) (m : Move) : Type 0 where
   pub lawful : IsLawfulLock (moved lock m)
-  pub admitted : Admits lock.rules.limit (shown_line lock.world) (line_event lock m)
-  pub shown : shown_line (moved lock m).world ≡ after (shown_line lock.world) (line_event lock m)
-
-abbrev pub EveryMoveIsLawful : Type 0
-EveryMoveIsLawful = (lock : Lock) (m : Move) → IsLawfulLock lock → MayMove lock.rules.form m → MovesLawfully lock m
-
-abbrev pub ShowsWellFormedLine : Type 0
-ShowsWellFormedLine = (lock : Lock) → IsLawfulLock lock → IsWellFormed lock.rules.limit (shown_line lock.world)
-
--- the plain words hold of the line and the detached waiter that the lock shows
-abbrev pub ShowsHeadline : Type 0
-ShowsHeadline = (lock : Lock) → IsLawfulLock lock → Headline lock.rules.limit lock.world (shown_line lock.world).line (shown_line lock.world).hand
+  pub admitted : Admits lock.rules.limit (shown_by lock) (line_event lock m)
+  pub shown : shown_by (moved lock m) ≡ after (shown_by lock) (line_event lock m)

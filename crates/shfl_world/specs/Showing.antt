@@ -19,7 +19,8 @@ pub record Finds (w : World) (n : ℕ) (g : Glance) : Type 0 where
   pub walker : g.walker ≡ least (λ p. is_round (known w.passes p).phase) n
   pub flagged : g.flagged ≡ least (λ p. is_queued (known w.passes p) && shuffler_of (look w.words (State p))) n
   -- for each pass, who has yet to write its next word
-  pub linkers : (a : ℕ) → a < 64 → slice_index g.linkers a ≡ least (λ p. is_linking (known w.passes p).phase && ((known w.passes p).reg.before == a)) n
+  pub linkers : (a : ℕ) → a < 64
+      → slice_index g.linkers a ≡ least (λ p. is_linking (known w.passes p).phase && ((known w.passes p).reg.before == a)) n
 
 -- a pass plus 1 where none was found before and the pass passes the test
 abbrev pub first_found : ℕ → Bool → ℕ → ℕ
@@ -33,4 +34,5 @@ pub record Sees (old new : Glance) (p : ℕ) (q : PassState) (node : NodeState) 
   pub relinker : new.relinker ≡ first_found old.relinker (has_hand q.phase) p
   pub walker : new.walker ≡ first_found old.walker (is_round q.phase) p
   pub flagged : new.flagged ≡ first_found old.flagged (is_queued q && node.shuffler) p
-  pub linkers : (a : ℕ) → a < 64 → slice_index new.linkers a ≡ first_found (slice_index old.linkers a) (is_linking q.phase && (q.reg.before == a)) p
+  pub linkers : (a : ℕ) → a < 64
+      → slice_index new.linkers a ≡ first_found (slice_index old.linkers a) (is_linking q.phase && (q.reg.before == a)) p

@@ -1,14 +1,13 @@
-//! The moves of the lock: each is that of its pass, and changes what the lock shows by the step of the line that it names.
+//! The moves of the lock: each changes what the lock shows by the step of the line that it names.
 ghost use Rattle.std.specs.Prelude.{◌≡◌, ◌<◌, length};
 ghost use Rattle.shfl_core.specs.declared.words.Word.TheVariants.{Lock as LockWord};
 ghost use Rattle.shfl_core.specs.Runner as runner;
-ghost use Rattle.shfl_core.specs.ShownLine.{shown_line};
 ghost use Rattle.shfl_core.specs.Waiting.{MayUse};
 ghost use Rattle.shfl_core.specs.Words.{look};
 ghost use Rattle.shfl_core.specs.Worlds.{Acquire, Release, Step, admitted};
 ghost use Rattle.shfl_line.specs.Line.{IsWellFormed};
 ghost use Rattle.shfl_line.specs.Steps.{Admits, after};
-ghost use Rattle.shfl_world.specs.LawfulLock.{line_event};
+ghost use Rattle.shfl_world.specs.LawfulLock.{line_event, shown_by};
 
 use crate::showing;
 use crate::world::World;
@@ -23,7 +22,7 @@ impl<W: Waiter> Board for World<W> {
         requires mode { MayUse self.old.rules.form mode }
         ensures answer { result ≡ admitted self.old.world (Acquire pass mode) }
         ensures after { self.new ≡ runner.moved self.old (Acquire pass mode) }
-        ensures shown { shown_line self.new.world ≡ shown_line self.old.world }
+        ensures shown { shown_by self.new ≡ shown_by self.old }
     {
         self.plain.acquire(pass, mode)
     }
@@ -32,7 +31,7 @@ impl<W: Waiter> Board for World<W> {
         requires declared { pass < length self.old.world.passes }
         ensures answer { result ≡ admitted self.old.world (Release pass) }
         ensures after { self.new ≡ runner.moved self.old (Release pass) }
-        ensures shown { shown_line self.new.world ≡ shown_line self.old.world }
+        ensures shown { shown_by self.new ≡ shown_by self.old }
     {
         self.plain.release(pass)
     }
@@ -45,8 +44,10 @@ impl<W: Waiter> Board for World<W> {
         requires declared { pass < length self.old.world.passes }
         ensures answer { result ≡ admitted self.old.world (Step pass choice) }
         ensures after { self.new ≡ runner.moved self.old (Step pass choice) }
-        ensures event { Admits self.old.rules.limit (shown_line self.old.world) (line_event self.old (Step pass choice)) }
-        ensures shown { shown_line self.new.world ≡ after (shown_line self.old.world) (line_event self.old (Step pass choice)) }
+        ensures event { Admits self.old.rules.limit (shown_by self.old)
+            (line_event self.old (Step pass choice)) }
+        ensures shown { shown_by self.new
+            ≡ after (shown_by self.old) (line_event self.old (Step pass choice)) }
     {
         self.plain.step(pass, choice)
     }
@@ -57,7 +58,7 @@ impl<W: Waiter> Board for World<W> {
 
     fn show(&mut self, out: &mut LineState)
         requires room { length out.old.mark ≡ length self.old.world.passes }
-        ensures shown { out.new ≡ shown_line self.old.world }
+        ensures shown { out.new ≡ shown_by self.old }
         ensures unchanged { self.new ≡ self.old }
         ensures well_formed { IsWellFormed self.old.rules.limit out.new }
     {

@@ -47,7 +47,7 @@ impl Glance {
         }
     }
 
-    /// Sees a pass, with what its state word says. Where it is the first to pass a test, it is who was found.
+    /// Sees a pass, with what its state word says. Where it is the first to pass a test, it is found.
     pub fn see(&mut self, pass: u32, own: PassState, node: NodeState)
         requires few { pass < 64 }
         requires linked { phases.is_linking own.phase ≡ true → own.reg.before < 64 }

@@ -1,14 +1,20 @@
-//! What every lawful lock shows, and what a move of it keeps. The functions do nothing when they run: their contracts are the laws.
-ghost use Rattle.shfl_world.specs.LawfulLock.{EveryMoveIsLawful, ShowsWellFormedLine, ShowsHeadline};
+//! What every lawful lock shows, and what a move of it keeps. The functions do nothing: their contracts are the laws.
+ghost use Rattle.shfl_core.specs.Runner.{Lock};
+ghost use Rattle.shfl_core.specs.Worlds.{Move};
+ghost use Rattle.shfl_laws.specs.Moves.{MayMove};
+ghost use Rattle.shfl_world.specs.LawfulLock.{IsLawfulLock, ShowsWellFormed, ShowsHeadline};
+ghost use Rattle.shfl_world.specs.LawfulLock.{MovesLawfully};
 
-/// The shown state is well formed, and is what the plain words say: who holds, who waits where, and who shuffles.
+/// The shown state is well formed, and is what the plain words say: who holds, who waits where, and
+/// who shuffles.
 pub fn what_a_world_shows()
-    ensures well_formed { ShowsWellFormedLine }
-    ensures headline { ShowsHeadline }
+    ensures well_formed { (lock : Lock) → IsLawfulLock lock → ShowsWellFormed lock }
+    ensures headline { (lock : Lock) → IsLawfulLock lock → ShowsHeadline lock }
 {}
 
-/// An acquire, a release or a step of any pass, with any answer of the policy, keeps the lock lawful; the shown states are
-/// one admitted step of the line apart, the one that is named.
+/// An acquire, a release or a step of any pass, with any answer of the policy, keeps the lock lawful;
+/// the shown states are one admitted step of the line apart, the one that is named.
 pub fn every_move_of_a_world()
-    ensures law { EveryMoveIsLawful }
+    ensures law { (lock : Lock) (m : Move) → IsLawfulLock lock → MayMove lock.rules.form m
+        → MovesLawfully lock m }
 {}

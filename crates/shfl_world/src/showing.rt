@@ -2,9 +2,8 @@
 ghost use Rattle.std.specs.Prelude.{◌≡◌, ℕ, ◌<◌, ◌≤◌, [], ◌∷◌, ◌++◌, cond, length};
 ghost use Rattle.shfl_core.specs.declared.words.Word.TheVariants.{State};
 ghost use Rattle.shfl_core.specs.Phases as phases;
-ghost use Rattle.shfl_core.specs.ShownLine.{shown_line, holders, head_of, successor_of, role_of};
+ghost use Rattle.shfl_core.specs.ShownLine.{shown_line, head_of, successor_of, role_of};
 ghost use Rattle.shfl_core.specs.Words.{look};
-ghost use Rattle.shfl_core.specs.Worlds.{known};
 ghost use Rattle.shfl_line.specs.Line.{empty, holds};
 ghost use Rattle.shfl_line.specs.Words.{state_of};
 ghost use Rattle.shfl_world.specs.LawfulLock.{IsLawfulLock};
@@ -49,7 +48,7 @@ fn show_holder(out: &mut LineState, pass: u32, own: PassState)
 fn scan<W: Waiter>(lock: &PlainWorld<W>, out: &mut LineState) -> Glance
     requires lawful { IsLawfulLock lock.now }
     requires blank { out.old ≡ empty (length lock.now.world.passes) }
-    ensures hold { out.new ≡ record out.old { hold = holders (known lock.now.world.passes) (length lock.now.world.passes) } }
+    ensures hold { out.new ≡ record out.old { hold = (shown_line lock.now.world).hold } }
     ensures found { Finds lock.now.world (length lock.now.world.passes) result }
 {
     let mut found = Glance::nobody();
@@ -70,10 +69,14 @@ fn head<W: Waiter>(lock: &PlainWorld<W>, found: &Glance) -> u64
         let own = lock.standing(found.granter - 1);
         return own.reg.heir as u64 + 1;
     }
-    if found.fore > 0 { found.fore as u64 } else { found.called as u64 }
+    if found.fore > 0 {
+        found.fore as u64
+    } else {
+        found.called as u64
+    }
 }
 
-// The successor of a pass plus 1, or 0: whom its next word names, else who has yet to write that word.
+// The successor of a pass plus 1, or 0: whom its next word names, else who has yet to write it.
 fn successor<W: Waiter>(lock: &PlainWorld<W>, found: &Glance, pass: u32) -> u64
     requires lawful { IsLawfulLock lock.now }
     requires found { Finds lock.now.world (length lock.now.world.passes) found.now }
@@ -134,7 +137,8 @@ fn role(found: &Glance) -> Role
     }
 }
 
-/// Fills a state that was opened for as many passes with what the lock shows. The time is linear in the passes.
+/// Fills a state that was opened for as many passes with what the lock shows. The time is linear in
+/// the passes.
 pub fn show<W: Waiter>(lock: &PlainWorld<W>, out: &mut LineState)
     requires lawful { IsLawfulLock lock.now }
     requires room { length out.old.mark ≡ length lock.now.world.passes }

@@ -1,19 +1,19 @@
 //! A lock over plain words that is lawful between any two steps.
 ghost use Rattle.std.specs.Prelude.{◌≡◌, ◌<◌, ◌≤◌, length, IfOk};
-ghost use Rattle.shfl_core.specs.ShownLine.{shown_line};
 ghost use Rattle.shfl_core.specs.Runner.{opened};
 ghost use Rattle.shfl_core.specs.Waiting.{MakesIdle, rules};
-ghost use Rattle.shfl_line.specs.Line.{IsWellFormed, empty};
+ghost use Rattle.shfl_line.specs.Line.{empty};
 ghost use Rattle.shfl_line.specs.declared.events.Form.{Form};
-ghost use Rattle.shfl_laws.specs.Headline.{Headline};
-ghost use Rattle.shfl_world.specs.LawfulLock.{IsLawfulLock};
+ghost use Rattle.shfl_world.specs.LawfulLock.{IsLawfulLock, ShowsWellFormed, ShowsHeadline};
+ghost use Rattle.shfl_world.specs.LawfulLock.{shown_by};
 
 use shfl_core::{PlainWorld, Waiter};
 use shfl_line::{Attr, NoMemory};
 use std::alloc::Global;
 use std::marker::Model;
 
-/// A lock whose words are plain numbers, with all its passes. Every value of the type is lawful, whatever moves led to it.
+/// A lock whose words are plain numbers, with all its passes. Every value of the type is lawful,
+/// whatever moves led to it.
 #[derive(Drop)]
 pub struct World<W: Waiter> {
     pub(crate) plain: PlainWorld<W>,
@@ -43,9 +43,9 @@ impl<W: Waiter> World<W> {
         requires few { length attrs.now ≤ 64 }
         requires limited { (0 < limit) × (limit ≤ 1024) }
         requires callable { F.IsAlwaysCallable make }
-        requires idle { MakesIdle W.meaning (λ k a w. F.post make k a limit w) (rules limit form) }
+        requires idle { MakesIdle W.meaning (λ p a w. F.post make p a limit w) (rules limit form) }
         ensures opened { IfOk result (λ w. w ≡ opened (rules limit form) attrs.now) }
-        ensures shown { IfOk result (λ w. shown_line w.world ≡ empty (length attrs.now)) }
+        ensures shown { IfOk result (λ w. shown_by w ≡ empty (length attrs.now)) }
     {
         let plain = PlainWorld::open(alloc, attrs, limit, make)?;
         Ok(World { plain })
@@ -61,8 +61,8 @@ impl<W: Waiter> World<W> {
     /// What holds of every lock of this type; the call does nothing when it runs.
     pub fn is_lawful(&self)
         ensures lawful { IsLawfulLock self.now }
-        ensures well_formed { IsWellFormed self.now.rules.limit (shown_line self.now.world) }
-        ensures headline { Headline self.now.rules.limit self.now.world (shown_line self.now.world).line (shown_line self.now.world).hand }
+        ensures well_formed { ShowsWellFormed self.now }
+        ensures headline { ShowsHeadline self.now }
     {
         let _ = &self.plain;
     }

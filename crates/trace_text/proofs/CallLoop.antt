@@ -15,8 +15,20 @@ fold-push : (n : ℕ) (calls : List CallLine) (c : CallLine) → fold counts n (
 fold-push n [] c = refl
 fold-push n (d ∷ ds) c = fold-push (n + cond (is_attach d.act) 1 0) ds c
 
-attach_count-push : (calls : List CallLine) (c : CallLine) → attach_count (calls ++ c ∷ []) ≡ attach_count calls + cond (is_attach c.act) 1 0
+pub attach_count-push : (calls : List CallLine) (c : CallLine) → attach_count (calls ++ c ∷ []) ≡ attach_count calls + cond (is_attach c.act) 1 0
 attach_count-push calls c = fold-push 0 calls c
+
+fold-grows : (n : ℕ) (calls : List CallLine) → n ≤ fold counts n calls
+fold-grows n [] = omega arith
+fold-grows n (d ∷ ds) = omega (arith, fold-grows (n + cond (is_attach d.act) 1 0) ds)
+
+fold-at : (n : ℕ) (done more : List CallLine) (c : CallLine) → fold counts n done + cond (is_attach c.act) 1 0 ≤ fold counts n (done ++ c ∷ more)
+fold-at n [] more c = fold-grows (n + cond (is_attach c.act) 1 0) more
+fold-at n (d ∷ ds) more c = fold-at (n + cond (is_attach d.act) 1 0) ds more c
+
+-- with one among them
+pub attach_count-at : (done more : List CallLine) (c : CallLine) → attach_count done + cond (is_attach c.act) 1 0 ≤ attach_count (done ++ c ∷ more)
+attach_count-at done more c = fold-at 0 done more c
 
 pub counted-more : (calls : List SpelledCall) (c : SpelledCall) (n : ℕ) → n ≡ attach_count (map call_said calls) → n + cond (is_attach (act_said c.act)) 1 0 ≡ attach_count (map call_said (calls ++ c ∷ []))
 counted-more calls c n e = rw (map-append call_said calls (c ∷ []), attach_count-push (map call_said calls) (call_said c)) (ap (λ (k : ℕ). k + cond (is_attach (act_said c.act)) 1 0) e)

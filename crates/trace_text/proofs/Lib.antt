@@ -7,5 +7,10 @@ pub mod WorkerLines
 pub mod PolicyNames
 pub mod PolicyLines
 pub mod PolicyTexts
+pub mod CallWords
+pub mod CallLines
+pub mod CallTexts
 pub mod Counts
 pub mod Generated
+pub mod Found
+pub mod Only

@@ -6,7 +6,7 @@ use Rattle.std.proofs.lemmas.Bool.{and_parts, or_parts, or_from, leb-false, lt-l
 use Rattle.std.proofs.lemmas.Bool.Decides.{nat_tests}
 use Rattle.std.proofs.lemmas.List.{append-nil}
 use Rattle.bpf_isa.specs.declared.insn.Profile.{Profile}
-use Rattle.shfl_policy.specs.Loading.{SourceModel}
+use Rattle.policy_source.specs.Source.{SourceModel}
 use Rattle.doc_text.specs.declared.fault.Fault.{Fault}
 use Rattle.doc_text.specs.Text.{pieces, text_in, is_plain, IsPlain, ended}
 use Rattle.doc_text.specs.Words.{words, spaced, same, four, is_word, HasNoBlank}

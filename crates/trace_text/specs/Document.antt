@@ -2,7 +2,7 @@
 use Rattle.std.specs.Prelude.{ℕ, List, Option}
 use Rattle.shfl_line.specs.declared.words.Attr.{Attr}
 use Rattle.bpf_isa.specs.declared.insn.Profile.{Profile}
-use Rattle.shfl_policy.specs.Loading.{SourceModel}
+use Rattle.policy_source.specs.Source.{SourceModel}
 
 -- what a worker does: a call on the directory, or the attachment of a policy
 pub data Act : Type 0 where

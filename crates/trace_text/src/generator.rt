@@ -10,9 +10,9 @@ use crate::numbering::{names_in, numbered};
 use crate::spelled::{SpelledAct, SpelledCall};
 use crate::trace::{NamedSource, Trace};
 use bpf_isa::Profile;
+use policy_source::PolicySource;
 use policy_text::NoMemory;
 use shfl_line::Attr;
-use shfl_policy::PolicySource;
 use std::alloc::Global;
 
 // How many states the generator has, and by which numbers it goes from one to the next.

@@ -1,7 +1,7 @@
 use bpf_isa::Profile;
 use dir_table::DirCall;
+use policy_source::PolicySource;
 use shfl_line::Attr;
-use shfl_policy::PolicySource;
 
 /// What a worker does.
 #[derive(Clone, Copy, Debug, PartialEq, Eq)]

@@ -1,4 +1,4 @@
-use Rattle.std.proofs.Common.{◌≡◌, ℕ, List, Result, Ok, Err, IfOk}
+use Rattle.std.proofs.Common.{ℕ, List, Result, Ok, Err, IfOk}
 use Rattle.shfl_sched.specs.declared.error.ScheduleError.{ScheduleError}
 use Rattle.shfl_sched.specs.declared.error.ScheduleError.TheVariants as errors
 use Rattle.doc_text.specs.Faults.{GivesOrWants}

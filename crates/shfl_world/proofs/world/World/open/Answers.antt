@@ -1,5 +1,4 @@
-use Rattle.std.proofs.Common.{◌≡◌, ◌∙◌, sym, ap, subst}
-use Rattle.shfl_line.specs.declared.words.Attr.{Attr}
+use Rattle.std.proofs.Common.{◌∙◌, sym, ap, subst}
 use Rattle.shfl_core.specs.ShownLine.{shown_line}
 use Rattle.shfl_core.specs.Runner.{Lock}
 use Rattle.shfl_core.specs.Waiting.{rules}
