@@ -1,10 +1,11 @@
 //! The run of a schedule on a lock of its form.
-ghost use Rattle.std.specs.Prelude.{◌≡◌, IfOk};
+ghost use Rattle.std.specs.Prelude.{◌≡◌, IfOk, OnOk};
 ghost use Rattle.shfl_line.specs.declared.events.Form.TheVariants.{Rw, Park, RwPark};
 ghost use Rattle.shfl_core.specs.Waiting.{fresh, MakesIdle};
 ghost use Rattle.shfl_sched.specs.Schedules.{IsWithin};
 ghost use Rattle.shfl_sched.specs.Run.{rules_of};
 ghost use Rattle.shfl_sched.specs.Report.{line_report};
+ghost use Rattle.syncord_line.specs.Safety.{IsAlwaysSafe};
 
 use shfl_core::{Local, Waiter};
 use shfl_line::{Attr, Form, NoMemory};
@@ -42,16 +43,19 @@ fn run_on<W: Waiter + Drop, F: Fn(u32, Attr, u16) -> W>(
     requires callable { F.IsAlwaysCallable make }
     requires idle { MakesIdle W.meaning (λ k a w. F.post make k a schedule.now.limit w)
         (rules_of schedule.now) }
-    ensures { IfOk result (λ text. text.items ≡ line_report schedule.now) }
+    ensures told { IfOk result (λ text. text.items ≡ line_report schedule.now) }
+    ensures safe { OnOk result (IsAlwaysSafe schedule.now) }
 {
     let mut lock = World::open(alloc, schedule.passes.as_slice(), schedule.limit, make)?;
-    run_schedule(alloc, schedule, &mut lock)
+    let text = run_schedule(alloc, schedule, &mut lock)?;
+    Ok(text)
 }
 
 /// The line report of the schedule, run on a lock of its form.
 pub fn report_of(alloc: Global, schedule: &Schedule) -> Result<Vec<u8>, NoMemory>
     requires { IsWithin schedule.now }
-    ensures { IfOk result (λ text. text.items ≡ line_report schedule.now) }
+    ensures told { IfOk result (λ text. text.items ≡ line_report schedule.now) }
+    ensures safe { OnOk result (IsAlwaysSafe schedule.now) }
 {
     match schedule.form {
         Form::Spin => run_on(alloc, schedule, Local::new),
