@@ -46,7 +46,8 @@ pub fn syncord<Rt: Threads + Wait + Sync, R: Source, W: Sink, E: Sink, G: Gate +
         (traffic (W.held out.old) (W.held out.new) (W.faults out.old) (W.faults out.new)) [] }
 
     // `line` reports a schedule, or ends otherwise with its cause.
-    ensures line { command_in (map string_bytes words.now) ≡ Some Line → Performs line.Reports line.Refuses
+    ensures line { command_in (map string_bytes words.now) ≡ Some Line →
+        Performs line.Reports line.Refuses
         (traffic (R.left src.old) (R.left src.new) (R.faults src.old) (R.faults src.new))
         (traffic (W.held out.old) (W.held out.new) (W.faults out.old) (W.faults out.new))
         (traffic (E.held err.old) (E.held err.new) (E.faults err.old) (E.faults err.new)) result }
@@ -59,7 +60,8 @@ pub fn syncord<Rt: Threads + Wait + Sync, R: Source, W: Sink, E: Sink, G: Gate +
         (traffic (E.held err.old) (E.held err.new) (E.faults err.old) (E.faults err.new)) result }
 
     // `replay` reports a trace, or ends otherwise with its cause.
-    ensures replay { command_in (map string_bytes words.now) ≡ Some Replay → Performs replay.Reports replay.Refuses
+    ensures replay { command_in (map string_bytes words.now) ≡ Some Replay →
+        Performs replay.Reports replay.Refuses
         (traffic (R.left src.old) (R.left src.new) (R.faults src.old) (R.faults src.new))
         (traffic (W.held out.old) (W.held out.new) (W.faults out.old) (W.faults out.new))
         (traffic (E.held err.old) (E.held err.new) (E.faults err.old) (E.faults err.new)) result }
