@@ -1,6 +1,6 @@
 #!/usr/bin/env bash
 # Compares what the built program does with each example: NAME.line with `line`, NAME.hex with `verify`, NAME.hex2 with
-# `verify 2`. Beside NAME.SUFFIX stand what it writes (.out), what it says on standard error (.err) and its status
+# `verify 2`, NAME.trace with `replay`. Beside NAME.SUFFIX stand what it writes (.out), what it says on standard error (.err) and its status
 # (.status); where one isn't there, nothing is written, nothing is said, and the status is 0.
 set -u
 top="$(cd "$(dirname "$(readlink -f "${BASH_SOURCE[0]}")")/.." && pwd)"
@@ -36,6 +36,7 @@ compare() {
 for document in "$top"/examples/*.line; do compare "$document" line; done
 for document in "$top"/examples/*.hex "$top"/examples/policies/*.hex; do compare "$document" verify; done
 for document in "$top"/examples/*.hex2; do compare "$document" verify 2; done
+for document in "$top"/examples/*.trace; do compare "$document" replay; done
 
 # The three forms of a policy say one program: the assembly and the listing of the digits have the digits' slots, and the C
 # compiles to them, where a clang for BPF stands ready.

@@ -1,19 +1,36 @@
 -- The words of the program.
-use Rattle.std.specs.Prelude.{ℕ, List, [], ◌∷◌, Option, Some, None, codes, ◌&&◌, if◌then◌else◌}
-use Rattle.doc_text.specs.Words.{same}
+use Rattle.std.specs.Prelude.{ℕ, List, [], ◌∷◌, Option, Some, None, codes, if◌then◌else◌}
+use Rattle.doc_text.specs.Words.{same, ◌>>?◌}
 use Rattle.bpf_isa.specs.declared.insn.Profile.TheVariants.{One, Two}
+use Rattle.syncord_replay.specs.Numbers.{AreInRange, words_in as bulk_words_in}
 use Rattle.syncord_app.specs.declared.commands.Command.{Command}
-use Rattle.syncord_app.specs.declared.commands.Command.TheVariants.{Line, Verify}
+use Rattle.syncord_app.specs.declared.commands.Command.TheVariants.{Line, Verify, Replay, Bulk, Assemble, Disassemble}
+
+-- the numbers of `bulk` are in range
+abbrev pub IsPossible : Command → Type 0
+IsPossible (Bulk numbers) = AreInRange numbers
+IsPossible command = Unit {0}
 
 abbrev pub word_in : List ℕ → Option Command
 word_in word = if same word (codes "line") then Some Line
-    else if same word (codes "verify") then Some (Verify One) else None
+    else if same word (codes "verify") then Some (Verify One)
+    else if same word (codes "replay") then Some Replay
+    else if same word (codes "asm") then Some (Assemble One)
+    else if same word (codes "disasm") then Some (Disassemble One) else None
 
 abbrev pub words_in : List ℕ → List ℕ → Option Command
-words_in word number = if same word (codes "verify") && same number (codes "2") then Some (Verify Two) else None
+words_in word number = if same number (codes "2") then
+    (if same word (codes "verify") then Some (Verify Two)
+    else if same word (codes "asm") then Some (Assemble Two)
+    else if same word (codes "disasm") then Some (Disassemble Two) else None) else None
 
--- the command, where the words are just those of one: `line`, `verify` or `verify 2`
+abbrev pub bulk_in : List ℕ → List (List ℕ) → Option Command
+bulk_in word numbers = if same word (codes "bulk") then (bulk_words_in numbers >>? λ b. Some (Bulk b)) else None
+
+-- the command, where the words are just those of one: `line`, `verify`, `verify 2`, `replay`, `bulk SEED WORKERS CALLS`,
+-- `asm`, `asm 2`, `disasm` or `disasm 2`
 abbrev pub command_in : List (List ℕ) → Option Command
 command_in (word ∷ []) = word_in word
 command_in (word ∷ number ∷ []) = words_in word number
-command_in ws = None
+command_in (word ∷ numbers) = bulk_in word numbers
+command_in [] = None

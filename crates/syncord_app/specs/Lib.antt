@@ -1,10 +1,2 @@
-pub mod Schedule
-pub mod Reading
-pub mod Rows
-pub mod Shown
-pub mod Report
-pub mod Lone
-pub mod Run
-pub mod Traffic
-pub mod Ending
+pub mod Outcomes
 pub mod Commands

@@ -2,19 +2,13 @@
 #![tactic(auto)]
 
 mod commands;
-mod ending;
-mod line;
-mod parts;
-mod reading;
-mod report;
-mod run;
-mod schedule;
-mod telling;
 #[cfg(test)]
 mod tests;
 mod top;
 
 pub use bpf_isa::Profile;
-pub use line::run_line;
+pub use syncord_asm::{run_asm, run_disasm};
+pub use syncord_line::run_line;
+pub use syncord_replay::{run_bulk, run_replay};
 pub use syncord_verify::run_verify;
 pub use top::syncord;

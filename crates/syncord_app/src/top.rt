@@ -1,20 +1,26 @@
 //! The top call: words and bytes in, a status, a report and an error line out.
-ghost use Rattle.std.specs.Prelude.{◌≡◌, map, string_bytes, codes, Some, None};
-ghost use Rattle.syncord_app.specs.declared.commands.Command.TheVariants.{Line, Verify};
+ghost use Rattle.std.specs.Prelude.{◌≡◌, ◌≢◌, [], map, string_bytes, codes, Some, None};
+ghost use Rattle.syncord_app.specs.declared.commands.Command.TheVariants.{Line, Verify, Replay, Bulk, Assemble, Disassemble};
 ghost use Rattle.bpf_isa.specs.declared.insn.Profile.{Profile as ProfileValue};
-ghost use Rattle.syncord_endings.specs.Traffic.{traffic as handled};
+ghost use Rattle.syncord_endings.specs.Traffic.{traffic, Takes, Told};
+ghost use Rattle.syncord_line.specs.Reports as line;
 ghost use Rattle.syncord_verify.specs.Verdicts.{Verifies};
+ghost use Rattle.syncord_asm.specs.Assemblies.{Assembles};
+ghost use Rattle.syncord_asm.specs.Listings.{Disassembles};
+ghost use Rattle.syncord_replay.specs.declared.words.BulkWords.{BulkWords as Numbers};
+ghost use Rattle.syncord_replay.specs.Replays as replay;
+ghost use Rattle.syncord_app.specs.Outcomes.{Performs, SumsUp};
 ghost use Rattle.syncord_app.specs.Commands.{command_in};
-ghost use Rattle.syncord_app.specs.Traffic.{traffic, Told};
-ghost use Rattle.syncord_app.specs.Ending.{AnswersLine, ReportsSchedules};
 
 use crate::commands::Command;
-use crate::line::run_line;
-use crate::telling::tell;
 use std::alloc::Global;
 use std::sync::Wait;
 use std::thread::Threads;
 use syn_outer::{Gate, Sink, Source};
+use syncord_asm::{run_asm, run_disasm};
+use syncord_endings::tell;
+use syncord_line::run_line;
+use syncord_replay::{BulkWords, run_bulk, run_replay};
 use syncord_verify::run_verify;
 
 /// Does what the words behind the program's name say, and answers the status.
@@ -35,25 +41,67 @@ pub fn syncord<Rt: Threads + Wait + Sync, R: Source, W: Sink, E: Sink, G: Gate +
         Told (traffic (E.held err.old) (E.held err.new) (E.faults err.old) (E.faults err.new))
         (codes "syncord: words\n") }
 
-    // `line` is done, or ends otherwise with its cause.
-    ensures line { command_in (map string_bytes words.now) ≡ Some Line → AnswersLine
+    // With each other status than 0 and 4 nothing is written.
+    ensures silent { result ≢ 0 → result ≢ 4 → Takes
+        (traffic (W.held out.old) (W.held out.new) (W.faults out.old) (W.faults out.new)) [] }
+
+    // `line` reports a schedule, or ends otherwise with its cause.
+    ensures line { command_in (map string_bytes words.now) ≡ Some Line →
+        Performs line.Reports line.Refuses
         (traffic (R.left src.old) (R.left src.new) (R.faults src.old) (R.faults src.new))
         (traffic (W.held out.old) (W.held out.new) (W.faults out.old) (W.faults out.new))
         (traffic (E.held err.old) (E.held err.new) (E.faults err.old) (E.faults err.new)) result }
-    ensures complete { command_in (map string_bytes words.now) ≡ Some Line → ReportsSchedules
-        (traffic (R.left src.old) (R.left src.new) (R.faults src.old) (R.faults src.new))
-        (traffic (W.held out.old) (W.held out.new) (W.faults out.old) (W.faults out.new)) result }
 
     // `verify` accepts or refuses the program, or ends otherwise with its cause.
     ensures verify { (profile : ProfileValue) →
         command_in (map string_bytes words.now) ≡ Some (Verify profile) → Verifies profile
-        (handled (R.left src.old) (R.left src.new) (R.faults src.old) (R.faults src.new))
-        (handled (W.held out.old) (W.held out.new) (W.faults out.old) (W.faults out.new))
-        (handled (E.held err.old) (E.held err.new) (E.faults err.old) (E.faults err.new)) result }
+        (traffic (R.left src.old) (R.left src.new) (R.faults src.old) (R.faults src.new))
+        (traffic (W.held out.old) (W.held out.new) (W.faults out.old) (W.faults out.new))
+        (traffic (E.held err.old) (E.held err.new) (E.faults err.old) (E.faults err.new)) result }
+
+    // `replay` reports a trace, or ends otherwise with its cause.
+    ensures replay { command_in (map string_bytes words.now) ≡ Some Replay →
+        Performs replay.Reports replay.Refuses
+        (traffic (R.left src.old) (R.left src.new) (R.faults src.old) (R.faults src.new))
+        (traffic (W.held out.old) (W.held out.new) (W.faults out.old) (W.faults out.new))
+        (traffic (E.held err.old) (E.held err.new) (E.faults err.old) (E.faults err.new)) result }
+
+    // `bulk` sums up the trace that its numbers make, and reads nothing.
+    ensures bulk { (numbers : Numbers) →
+        command_in (map string_bytes words.now) ≡ Some (Bulk numbers) → SumsUp numbers
+        (traffic (W.held out.old) (W.held out.new) (W.faults out.old) (W.faults out.new))
+        (traffic (E.held err.old) (E.held err.new) (E.faults err.old) (E.faults err.new)) result }
+    ensures unread { (numbers : Numbers) →
+        command_in (map string_bytes words.now) ≡ Some (Bulk numbers) → src.new ≡ src.old }
+
+    // `asm` assembles a text, or ends otherwise with its cause.
+    ensures asm { (profile : ProfileValue) →
+        command_in (map string_bytes words.now) ≡ Some (Assemble profile) → Assembles profile
+        (traffic (R.left src.old) (R.left src.new) (R.faults src.old) (R.faults src.new))
+        (traffic (W.held out.old) (W.held out.new) (W.faults out.old) (W.faults out.new))
+        (traffic (E.held err.old) (E.held err.new) (E.faults err.old) (E.faults err.new)) result }
+
+    // `disasm` lists a program, or ends otherwise with its cause.
+    ensures disasm { (profile : ProfileValue) →
+        command_in (map string_bytes words.now) ≡ Some (Disassemble profile) → Disassembles profile
+        (traffic (R.left src.old) (R.left src.new) (R.faults src.old) (R.faults src.new))
+        (traffic (W.held out.old) (W.held out.new) (W.faults out.old) (W.faults out.new))
+        (traffic (E.held err.old) (E.held err.new) (E.faults err.old) (E.faults err.new)) result }
 {
     match Command::of(words) {
         Some(Command::Line) => run_line(alloc, src, out, err),
         Some(Command::Verify { profile }) => run_verify(alloc, profile, src, out, err),
+        Some(Command::Replay) => run_replay(alloc, src, out, err),
+        Some(Command::Bulk(numbers)) => {
+            let BulkWords {
+                seed,
+                workers,
+                calls,
+            } = numbers;
+            run_bulk(alloc, seed, workers, calls, out, err)
+        }
+        Some(Command::Assemble { profile }) => run_asm(alloc, profile, src, out, err),
+        Some(Command::Disassemble { profile }) => run_disasm(alloc, profile, src, out, err),
         None => {
             tell(err, b"syncord: words\n");
             2

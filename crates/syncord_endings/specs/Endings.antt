@@ -5,11 +5,10 @@ use Rattle.syn_outer.specs.Bytes.{ReadsWhole, ConsumesMoreThan}
 use Rattle.syncord_endings.specs.declared.ending.Ending.{Ending}
 use Rattle.syncord_endings.specs.declared.ending.Ending.TheVariants.{Done, NoReport, TooLarge, ReadFault, WriteFault}
 use Rattle.syncord_endings.specs.declared.ending.Refusal.{Refusal}
-use Rattle.syncord_endings.specs.declared.ending.Refusal.TheVariants.{Document, Line, Program, Slot, Register, NoMemory}
+use Rattle.syncord_endings.specs.declared.ending.Refusal.TheVariants.{Line, Program, Slot, Register, NoMemory}
 use Rattle.syncord_endings.specs.Traffic.{Traffic, Failed, Takes, Told}
 
 abbrev pub status_of_refusal : Refusal → ℕ
-status_of_refusal Document = 1
 status_of_refusal (Line line what) = 1
 status_of_refusal (Program number) = 6
 status_of_refusal (Slot number slot) = 6
@@ -30,7 +29,6 @@ abbrev pub at_slot : ℕ → List ℕ
 at_slot slot = codes " at slot " ++ decimal slot
 
 abbrev pub refusal_message : Refusal → List ℕ
-refusal_message Document = codes "syncord: document\n"
 refusal_message (Line line what) =
     codes "syncord: line " ++ decimal line ++ codes ": fault " ++ decimal what ++ codes "\n"
 refusal_message (Program number) = refused number ++ codes "\n"

@@ -4,8 +4,6 @@ ghost use Rattle.std.specs.Prelude.{◌≡◌};
 /// Why a command has no report.
 #[derive(Clone, Copy, Debug, PartialEq, Eq)]
 pub enum Refusal {
-    /// The bytes are no document of the command.
-    Document,
     /// The first bad line, and the lowest fault on it.
     Line { line: u32, what: u8 },
     /// The program as a whole has the fault of this number.
@@ -24,7 +22,6 @@ impl Refusal {
         ensures { result ≡ status_of_refusal self }
     {
         match self {
-            Refusal::Document => 1,
             Refusal::Line { .. } => 1,
             Refusal::Program { .. } => 6,
             Refusal::Slot { .. } => 6,

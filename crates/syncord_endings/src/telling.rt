@@ -76,7 +76,6 @@ fn tell_refusal<E: Sink>(err: &mut E, refusal: Refusal)
         (refusal_message refusal) }
 {
     match refusal {
-        Refusal::Document => tell(err, b"syncord: document\n"),
         Refusal::Line { line, what } => {
             tell_numbers(
                 err,

@@ -32,7 +32,7 @@ impl Work for Only {
 fn a_report_is_written(rt: HostRuntime) -> Result<(), Fail> {
     let alloc = rt.alloc();
     let only = Only {
-        refusal: Refusal::Document,
+        refusal: Refusal::Program { number: 1 },
     };
     let mut src = SureSource::new(Vec::from_slice(alloc, b"copy")?);
     let mut out = SureSink::open(alloc, 100).ok().ok_or("memory")?;
@@ -47,10 +47,9 @@ fn a_report_is_written(rt: HostRuntime) -> Result<(), Fail> {
 fn each_refusal_has_its_line(rt: HostRuntime) -> Result<(), Fail> {
     let alloc = rt.alloc();
     let cases = [
-        (Refusal::Document, 1u8, "syncord: document\n"),
         (
             Refusal::Line { line: 12, what: 3 },
-            1,
+            1u8,
             "syncord: line 12: fault 3\n",
         ),
         (Refusal::Program { number: 2 }, 6, "syncord: refused 2\n"),
@@ -89,7 +88,7 @@ fn each_refusal_has_its_line(rt: HostRuntime) -> Result<(), Fail> {
 fn faults_of_source_and_sink_are_told(rt: HostRuntime) -> Result<(), Fail> {
     let alloc = rt.alloc();
     let only = Only {
-        refusal: Refusal::Document,
+        refusal: Refusal::Program { number: 1 },
     };
     let bytes = Vec::from_slice(alloc, b"copy")?;
     let mut src = MemSource::new(bytes, 16, vec![in alloc; 2u32]?);

@@ -4,7 +4,7 @@ use Rattle.std.proofs.lemmas.List.{length-append}
 use Rattle.syncord_endings.specs.declared.ending.Ending.{Ending}
 use Rattle.syncord_endings.specs.declared.ending.Ending.TheVariants.{Done, NoReport, TooLarge, ReadFault, WriteFault}
 use Rattle.syncord_endings.specs.declared.ending.Refusal.{Refusal}
-use Rattle.syncord_endings.specs.declared.ending.Refusal.TheVariants.{Document, Line, Program, Slot, Register, NoMemory}
+use Rattle.syncord_endings.specs.declared.ending.Refusal.TheVariants.{Line, Program, Slot, Register, NoMemory}
 use Rattle.syncord_endings.specs.Endings.{Ends, EndsRefused, Answers, Decides}
 use Rattle.syncord_endings.specs.Traffic.{Traffic, traffic, Failed, Takes}
 use Rattle.syncord_replay.specs.Sums.{RunsOut, Writes, Concludes}
@@ -15,7 +15,6 @@ nothing_read = traffic (Some []) (Some []) 0 0
 
 runs_out : (output : Traffic) (r : Refusal) → EndsRefused (λ _ _. ⊥) nothing_read r → Takes output [] → RunsOut output r
 runs_out output NoMemory ends takes = takes
-runs_out output Document ends takes = ends.2
 runs_out output (Line line what) ends takes = ends.2
 runs_out output (Program number) ends takes = ends.2
 runs_out output (Slot number slot) ends takes = ends.2

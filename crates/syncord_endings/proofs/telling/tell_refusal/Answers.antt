@@ -3,9 +3,6 @@ use Rattle.std.specs.Fmt.{decimal}
 use Rattle.std.proofs.lemmas.List.{append_assoc}
 use Rattle.syncord_endings.proofs.telling.tell_refusal.Goals as goal
 
-pub returns-in-Document : goal.returns-in-Document
-returns-in-Document g c = rw c.in-Document.is c.tell.ensures
-
 pub returns-in-Line : goal.returns-in-Line
 returns-in-Line g c = rw c.in-Line.is (rw (c.from.ensures, c.from-in-Line.ensures) at c.tell_numbers.ensures)
 

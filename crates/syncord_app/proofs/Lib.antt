@@ -1,4 +1,0 @@
-pub mod Tell
-pub mod NoBytes
-pub mod Stages
-pub mod Turns

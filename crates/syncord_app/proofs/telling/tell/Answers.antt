@@ -1,9 +1,0 @@
-use Rattle.std.proofs.Common.{[]}
-use Rattle.syncord_app.proofs.Tell.{begins, told}
-use Rattle.syncord_app.proofs.telling.tell.Goals as goal
-
-pub returns : goal.returns
-returns g c =
-    let held = g.E.Sink.held c.args.err.now in
-    let faults = g.E.Sink.faults c.args.err.now in
-    told _ _ _ _ _ _ (c.say-all.ensures.told held faults [] (begins held faults))
