@@ -24,7 +24,7 @@ use Rattle.bench.proofs.publish_all.Given as goal
 abbrev pub invariant-loop-version : goal.invariant-loop-version
 invariant-loop-version g l = record {
   registry : l.publisher.registry ≡ l.registry;
-  rows : length l.publisher.rows + 1 ≡ l.version-counter;
+  rows : length l.publisher.rows + 1 ≡ l.version;
 }
 PROOF
 cat >"$bench/proofs/use_often/Invariants.antt" <<'PROOF'

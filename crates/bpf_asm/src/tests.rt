@@ -109,7 +109,7 @@ fn each_form_is_read(rt: HostRuntime) -> Result<(), Fail> {
 
 #[test]
 fn the_first_bad_line_is_named_with_its_lowest_fault(rt: HostRuntime) {
-    let table: [(&[u8], u32, u8); 28] = [
+    let table: [(&[u8], u32, u8); 29] = [
         (b"exit", 1, 1),
         (b"exit\n\texit\n", 2, 1),
         (b"exit \n", 1, 2),
@@ -130,6 +130,7 @@ fn the_first_bad_line_is_named_with_its_lowest_fault(rt: HostRuntime) {
         (b"wide r1 -1\n", 1, 4),
         (b"wide r1 18446744073709551616\n", 1, 4),
         (b":a\nexit\n:a\n", 3, 5),
+        (b":a\n:b\nexit\n:b\n:a\n", 4, 5),
         (b"ja @a\nexit\n", 1, 6),
         (b"ja @a\nmov64 r0 x\n:a\n", 2, 2),
         (b"ja @a\nmov64 r0 x\n", 1, 6),

@@ -68,6 +68,11 @@ fn a_seed_is_summed_up(rt: HostRuntime) -> Result<(), Fail> {
         b"bulk seed 1 workers 1 calls 3 attaches 0\nino 1 done 0 exists 0 absent 1 number 1 name 0 end 0\nleft 1\n";
     assert_eq!(rt; out.bytes(), expected.as_slice());
     let mut out = sink(alloc)?;
+    assert_eq!(rt; run_bulk(alloc, 0, 1, 0, &mut out, &mut err), 0);
+    let expected =
+        b"bulk seed 0 workers 1 calls 0 attaches 0\nino 0 done 0 exists 0 absent 0 number 0 name 0 end 0\nleft 0\n";
+    assert_eq!(rt; out.bytes(), expected.as_slice());
+    let mut out = sink(alloc)?;
     assert_eq!(rt; run_bulk(alloc, 7, 8, 20000, &mut out, &mut err), 0);
     let expected =
         b"bulk seed 7 workers 8 calls 20000 attaches 20\nino 4798 done 2704 exists 4122 absent 3457 number 2442 name 2362 end 115\nleft 1299\n";
@@ -117,11 +122,21 @@ fn other_words_are_refused(rt: HostRuntime) -> Result<(), Fail> {
         ["7", "1", "65001"],
         ["18446744073709551616", "1", "5"],
         ["-7", "1", "5"],
+        ["+7", "1", "5"],
+        ["7", "01", "5"],
+        ["7", "1", "00"],
         ["7", "", "5"],
+        ["seven", "1", "5"],
     ];
     for words in refused {
         assert_eq!(rt; asked(alloc, words)?, None);
     }
     assert_eq!(rt; bulk_words(&[]), None);
+    let least = BulkWords {
+        seed: 0,
+        workers: 1,
+        calls: 0,
+    };
+    assert_eq!(rt; asked(alloc, ["0", "1", "0"])?, Some(least));
     Ok(())
 }

@@ -1,29 +1,24 @@
 -- The calls that were read stand there as lines.
-use Rattle.std.proofs.Common.{◌≡◌, ◌<◌, ◌≤◌, ◌^◌, ◌⊎◌, inl, inr, ℕ, ◌+◌, List, [], ◌∷◌, ◌++◌, length, map, Bool, true, false, cond, not, eqb, leb, ltb, ◌&&◌, ◌||◌, Option, Some, None, Result, Ok, Err, refl, sym, ap, ◌∙◌, subst, arith, length-append}
-use Rattle.std.specs.Prelude.{codes, min}
-use Rattle.std.specs.List.{flat_map, AllByRecursion}
+use Rattle.std.proofs.Common.{◌≡◌, ◌<◌, ◌≤◌, ℕ, ◌+◌, List, [], ◌∷◌, ◌++◌, length, map, Bool, true, false, cond, not, leb, ◌&&◌, Some, Ok, refl, sym, ap, ◌∙◌, subst, arith, length-append}
+use Rattle.std.specs.Prelude.{codes}
+use Rattle.std.specs.List.{AllByRecursion}
 use Rattle.std.specs.Fmt.{decimal}
-use Rattle.std.proofs.lemmas.Bool.{and_parts, and_cases, and_from, or_parts, or_from, and_left, and_right, leb-false, lt-leb, ltb-true, not-false, not_from_true}
-use Rattle.std.proofs.lemmas.Bool.Decides.{nat_tests}
-use Rattle.doc_text.specs.declared.fault.Fault.{Fault}
-use Rattle.doc_text.specs.Text.{pieces, IsPlain, ended}
-use Rattle.doc_text.specs.Words.{words, spaced, same, is_word, one, two, four, HasNoBlank, ◌>>?◌}
-use Rattle.doc_text.specs.Numbers.{capped_in, is_decimal, value_on}
-use Rattle.doc_text.specs.Faults.{fault, ◌>>=◌, or_fault, fixed_due, lines_from}
-use Rattle.doc_text.proofs.Counting.{decimal-value, is_decimal-decimal}
-use Rattle.doc_text.proofs.Joining.{same-true, decimal-word}
-use Rattle.doc_text.proofs.Due.{bind-some, or_fault-some, fixed_due-some, fixed_due-ended}
-use Rattle.doc_text.proofs.Loops.{lines_from-joined}
-use Rattle.policy_text.proofs.Chains.{then-some, test-some, unless-ok, ok-same, some-same, one-some, two-some, four-some}
-use Rattle.policy_text.proofs.Parts.{IsPart, line-plain, line-words, text-spaced, words-parts}
-use Rattle.trace_text.specs.Document.{Act, make, drop_name, rename, find, count, next, attach, CallLine, PolicyLine}
-use Rattle.trace_text.specs.Lines.{dir_in, name_in, entry_in, rename_in, count_in, after_in, next_in, attach_in, act_in, call_in, is_entry, is_in_range, may_do, is_attach, attach_count, is_full}
+use Rattle.std.proofs.lemmas.Bool.{or_parts, leb-false, not-false}
+use Rattle.doc_text.specs.Text.{IsPlain, ended}
+use Rattle.doc_text.specs.Words.{words}
+use Rattle.doc_text.specs.Numbers.{capped_in}
+use Rattle.doc_text.specs.Faults.{or_fault, fixed_due}
+use Rattle.doc_text.proofs.Due.{bind-some, or_fault-some, fixed_due-some}
+use Rattle.policy_text.proofs.Chains.{then-some, unless-ok, ok-same, some-same}
+use Rattle.policy_text.proofs.Parts.{IsPart, text-spaced, words-parts}
+use Rattle.trace_text.specs.Document.{CallLine, PolicyLine}
+use Rattle.trace_text.specs.Lines.{act_in, call_in, is_in_range, may_do, is_attach, attach_count, is_full}
 use Rattle.trace_text.specs.Grammar.{call_says, calls_in}
 use Rattle.trace_text.specs.Spelling.{act_words, call_line}
 use Rattle.trace_text.specs.Limits.{IsName, spelled_names, IsCall}
-use Rattle.trace_text.proofs.CallLoop.{all-push, attach_count-push, attach_count-at}
-use Rattle.trace_text.proofs.Sections.{lines_from-read, all-at}
-use Rattle.trace_text.proofs.CallWords.{capped-some, capped-decimal, Says, act-some, small, entry-range}
+use Rattle.trace_text.proofs.CallLoop.{all-push, attach_count-push}
+use Rattle.trace_text.proofs.Sections.{lines_from-read}
+use Rattle.trace_text.proofs.CallWords.{capped-some, act-some}
 
 -- the words of a call line
 call_in-some : (ws : List (List ℕ)) (c : CallLine) → call_in ws ≡ Some c → AllByRecursion IsPart ws → c.worker < 16 → is_in_range c.act ≡ true → (ws ≡ decimal c.worker ∷ act_words c.act) × AllByRecursion IsName (spelled_names c.act)

@@ -1,29 +1,26 @@
 -- Lines of calls are read as them.
-use Rattle.std.proofs.Common.{◌≡◌, ◌<◌, ◌≤◌, ◌^◌, ◌⊎◌, inl, inr, ℕ, ◌+◌, List, [], ◌∷◌, ◌++◌, length, map, Bool, true, false, cond, not, eqb, leb, ltb, ◌&&◌, ◌||◌, Option, Some, None, Result, Ok, Err, refl, sym, ap, ◌∙◌, subst, arith, length-append}
-use Rattle.std.specs.Prelude.{codes, min}
+use Rattle.std.proofs.Common.{◌≡◌, ◌<◌, ◌≤◌, ℕ, ◌+◌, List, [], ◌∷◌, ◌++◌, length, map, Bool, true, false, cond, not, leb, ltb, ◌&&◌, Option, Some, None, Result, Ok, refl, ap, ◌∙◌, subst, arith, length-append}
+use Rattle.std.specs.Prelude.{codes}
 use Rattle.std.specs.List.{flat_map, AllByRecursion}
 use Rattle.std.specs.Fmt.{decimal}
-use Rattle.std.proofs.lemmas.Bool.{and_parts, and_cases, and_from, or_parts, or_from, and_left, and_right, leb-false, lt-leb, ltb-true, not-false, not_from_true}
-use Rattle.std.proofs.lemmas.Bool.Decides.{nat_tests}
+use Rattle.std.proofs.lemmas.Bool.{and_parts, or_from, lt-leb, ltb-true}
 use Rattle.doc_text.specs.declared.fault.Fault.{Fault}
 use Rattle.doc_text.specs.Text.{pieces, IsPlain, ended}
-use Rattle.doc_text.specs.Words.{words, spaced, same, is_word, one, two, four, HasNoBlank, ◌>>?◌}
-use Rattle.doc_text.specs.Numbers.{capped_in, is_decimal, value_on}
-use Rattle.doc_text.specs.Faults.{fault, ◌>>=◌, or_fault, fixed_due, lines_from}
-use Rattle.doc_text.proofs.Counting.{decimal-value, is_decimal-decimal}
-use Rattle.doc_text.proofs.Joining.{same-true, decimal-word}
-use Rattle.doc_text.proofs.Due.{bind-some, or_fault-some, fixed_due-some, fixed_due-ended}
+use Rattle.doc_text.specs.Words.{words, ◌>>?◌}
+use Rattle.doc_text.specs.Numbers.{capped_in}
+use Rattle.doc_text.specs.Faults.{fault, ◌>>=◌, or_fault, lines_from}
+use Rattle.doc_text.proofs.Joining.{decimal-word}
+use Rattle.doc_text.proofs.Due.{fixed_due-ended}
 use Rattle.doc_text.proofs.Loops.{lines_from-joined}
-use Rattle.policy_text.proofs.Chains.{then-some, test-some, unless-ok, ok-same, some-same, one-some, two-some, four-some}
-use Rattle.policy_text.proofs.Parts.{IsPart, line-plain, line-words, text-spaced, words-parts}
+use Rattle.policy_text.proofs.Parts.{IsPart, line-plain, line-words}
 use Rattle.trace_text.specs.Document.{Act, make, drop_name, rename, find, count, next, attach, CallLine, PolicyLine}
-use Rattle.trace_text.specs.Lines.{dir_in, name_in, entry_in, rename_in, count_in, after_in, next_in, attach_in, act_in, call_in, is_entry, is_in_range, may_do, is_attach, attach_count, is_full}
+use Rattle.trace_text.specs.Lines.{entry_in, act_in, call_in, is_entry, is_in_range, may_do, is_attach, attach_count, is_full}
 use Rattle.trace_text.specs.Grammar.{call_says, calls_in}
 use Rattle.trace_text.specs.Spelling.{act_words, call_line}
 use Rattle.trace_text.specs.Limits.{IsName, spelled_names, IsCall}
-use Rattle.trace_text.proofs.CallLoop.{all-push, attach_count-push, attach_count-at}
-use Rattle.trace_text.proofs.Sections.{lines_from-read, all-at}
-use Rattle.trace_text.proofs.CallWords.{capped-some, capped-decimal, Says, act-some, small, entry-range}
+use Rattle.trace_text.proofs.CallLoop.{attach_count-at}
+use Rattle.trace_text.proofs.Sections.{all-at}
+use Rattle.trace_text.proofs.CallWords.{capped-decimal, small, entry-range}
 
 -- ---- the words of a call
 

@@ -1,5 +1,5 @@
 -- A count that goes on from a number.
-use Rattle.std.proofs.Common.{◌≡◌, ℕ, ◌+◌, List, [], ◌∷◌, Bool, cond, refl}
+use Rattle.std.proofs.Common.{◌≡◌, ℕ, ◌+◌, List, Bool, cond, refl}
 use Rattle.std.specs.List.{fold, count_by}
 
 abbrev pub count_on : {X : Type 0} → (X → Bool) → ℕ → List X → ℕ

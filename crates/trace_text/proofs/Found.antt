@@ -1,11 +1,10 @@
 -- The document that was read is the one whose text the bytes are.
-use Rattle.std.proofs.Common.{◌≡◌, ◌<◌, ◌≤◌, ℕ, ◌+◌, List, [], ◌∷◌, ◌++◌, length, map, Result, Ok, Err, refl, sym, ap, ◌∙◌, subst, arith, append_assoc}
+use Rattle.std.proofs.Common.{◌≡◌, ℕ, ◌+◌, List, [], ◌∷◌, ◌++◌, length, map, Result, Ok, Err, refl, sym, ap, ◌∙◌, subst, arith, append_assoc}
 use Rattle.std.specs.Prelude.{codes}
-use Rattle.std.specs.List.{flat_map, AllByRecursion, AllZip}
+use Rattle.std.specs.List.{flat_map, AllZip}
 use Rattle.std.proofs.lemmas.List.{append-nil, map-append}
 use Rattle.doc_text.specs.declared.fault.Fault.{Fault}
 use Rattle.doc_text.specs.Text.{pieces, ended}
-use Rattle.doc_text.specs.Faults.{◌>>=◌}
 use Rattle.doc_text.proofs.Joining.{joined, joined-pieces}
 use Rattle.doc_text.proofs.Due.{bind-some}
 use Rattle.policy_text.specs.Headings.{Heading, heading_lines}
@@ -20,7 +19,7 @@ use Rattle.trace_text.specs.Texts.{IsPolicyText, IsText}
 use Rattle.trace_text.specs.Limits.{Fits}
 use Rattle.trace_text.proofs.WorkerLines.{workers_in-found}
 use Rattle.trace_text.proofs.PolicyLines.{PoliciesKept, policies-read}
-use Rattle.trace_text.proofs.CallLines.{CallsKept, calls_in-found}
+use Rattle.trace_text.proofs.CallLines.{calls_in-found}
 
 abbrev Policies : Type 0
 Policies = Result (List PolicyLine × List (List ℕ)) Fault

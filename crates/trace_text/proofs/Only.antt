@@ -1,5 +1,5 @@
 -- Bytes that are a text of a trace within the limits are read as it.
-use Rattle.std.proofs.Common.{◌≡◌, ◌<◌, ◌≤◌, ℕ, ◌+◌, List, [], ◌∷◌, ◌++◌, length, map, false, Option, Some, None, Result, Ok, Err, IfOk, refl, sym, ap, ◌∙◌, subst, arith, append_assoc, length-append}
+use Rattle.std.proofs.Common.{◌≡◌, ◌<◌, ◌≤◌, ℕ, ◌+◌, List, [], ◌∷◌, ◌++◌, length, map, false, Result, Ok, Err, IfOk, refl, sym, ap, ◌∙◌, subst, arith, append_assoc, length-append}
 use Rattle.std.specs.Prelude.{codes}
 use Rattle.std.specs.List.{flat_map, AllByRecursion, AllZip}
 use Rattle.std.proofs.lemmas.Grind.{flat_map-append}
@@ -7,10 +7,11 @@ use Rattle.bpf_isa.specs.declared.insn.Profile.{Profile}
 use Rattle.shfl_line.specs.declared.words.Attr.{Attr}
 use Rattle.doc_text.specs.declared.fault.Fault.{Fault}
 use Rattle.doc_text.specs.Text.{pieces, ended}
-use Rattle.doc_text.specs.Faults.{◌>>=◌, GivesOrWants}
+use Rattle.doc_text.specs.Faults.{GivesOrWants}
 use Rattle.doc_text.proofs.Joining.{pieces-ended}
+use Rattle.policy_text.specs.declared.error.NoMemory.{NoMemory}
 use Rattle.policy_text.specs.Attributes.{IsAttr}
-use Rattle.policy_text.specs.Headings.{Heading, heading, heading_lines, IsVersion}
+use Rattle.policy_text.specs.Headings.{heading, heading_lines, IsVersion}
 use Rattle.policy_text.proofs.HeadingLines.{heading_in-lines}
 use Rattle.policy_text.proofs.ProgramWords.{program_word-is}
 use Rattle.policy_text.specs.Programs.{program_word}
@@ -129,5 +130,9 @@ policies-texts profile (p ∷ ps) h =
     ((program_word p.source.should, program_word p.source.skip, refl, program_word-is p.source.should h.0.should, program_word-is p.source.skip h.0.skip), policies-texts profile ps h.1)
 
 -- the text that is written is a text of the trace
-pub spelling-text : (d : Document) → Fits d → IsText (spelling d) d
+spelling-text : (d : Document) → Fits d → IsText (spelling d) d
 spelling-text d fits = (map policy_line d.policies, policies-texts d.profile d.policies fits.policies.2, refl)
+
+pub written-text : {V : Type 0} (items : V → List ℕ) (d : Document) (r : Result V NoMemory) → IfOk r (λ v. items v ≡ spelling d) → IfOk r (λ v. Fits d → IsText (items v) d)
+written-text items d (Ok v) h = λ fits. subst (λ (bytes : List ℕ). IsText bytes d) (sym h) (spelling-text d fits)
+written-text items d (Err e) h = tt

@@ -1,31 +1,28 @@
 -- The policies that were read stand there as lines.
-use Rattle.std.proofs.Common.{◌≡◌, ◌<◌, ◌≤◌, ◌⊎◌, inl, inr, ℕ, ◌+◌, List, [], ◌∷◌, ◌++◌, length, map, Bool, true, false, cond, not, eqb, leb, ◌&&◌, ◌||◌, Option, Some, None, Result, Ok, Err, refl, sym, ap, ◌∙◌, subst, arith, length-append, append_assoc}
+use Rattle.std.proofs.Common.{◌≡◌, ◌<◌, ◌≤◌, inl, inr, ℕ, ◌+◌, List, [], ◌∷◌, ◌++◌, length, map, Bool, true, false, cond, eqb, leb, ◌&&◌, Option, Some, None, Result, Ok, Err, refl, sym, ap, ◌∙◌, subst, arith, length-append, append_assoc}
 use Rattle.std.specs.Prelude.{codes, MatchOption}
-use Rattle.std.specs.List.{flat_map, list_all, AllByRecursion, AllZip}
-use Rattle.std.proofs.lemmas.Bool.{and_parts, or_parts, or_from, leb-false, lt-leb, eqb-false, ne_eqb}
-use Rattle.std.proofs.lemmas.Bool.Decides.{nat_tests}
+use Rattle.std.specs.List.{AllByRecursion, AllZip}
+use Rattle.std.proofs.lemmas.Bool.{and_parts, leb-false, eqb-false}
 use Rattle.std.proofs.lemmas.List.{append-nil}
 use Rattle.bpf_isa.specs.declared.insn.Profile.{Profile}
-use Rattle.policy_source.specs.Source.{SourceModel}
 use Rattle.doc_text.specs.declared.fault.Fault.{Fault}
-use Rattle.doc_text.specs.Text.{pieces, text_in, is_plain, IsPlain, ended}
-use Rattle.doc_text.specs.Words.{words, spaced, same, four, is_word, HasNoBlank}
+use Rattle.doc_text.specs.Text.{text_in, ended}
+use Rattle.doc_text.specs.Words.{words, same, four, is_word}
 use Rattle.doc_text.specs.Faults.{fault, ◌>>=◌, or_fault}
 use Rattle.doc_text.proofs.Due.{bind-some, or_fault-some}
-use Rattle.doc_text.proofs.Joining.{same-true, same-self, pieces-ended, text_in-ended, text_in-some}
-use Rattle.policy_text.specs.Accepted.{AcceptsSource, Judged}
-use Rattle.policy_text.specs.Programs.{source_in, IsProgramWord}
+use Rattle.doc_text.proofs.Joining.{same-true, text_in-some}
+use Rattle.policy_text.specs.Accepted.{Judged}
+use Rattle.policy_text.specs.Programs.{source_in}
 use Rattle.policy_text.proofs.Chains.{then-some, test-some, unless-ok, ok-same, some-same, four-some}
-use Rattle.policy_text.proofs.Parts.{IsPart, line-plain, line-words, text-spaced}
-use Rattle.policy_text.proofs.ProgramWords.{source_in-some, source_in-words, program-part, program-bytes, program-is_word}
+use Rattle.policy_text.proofs.Parts.{text-spaced}
+use Rattle.policy_text.proofs.ProgramWords.{source_in-some, program-bytes}
 use Rattle.trace_text.specs.Document.{PolicyLine}
-use Rattle.trace_text.specs.Lines.{begins, is_name_byte, is_policy_name, PolicyWords, policy_in, programs_in, is_declared}
+use Rattle.trace_text.specs.Lines.{is_policy_name, PolicyWords, policy_in, programs_in, is_declared}
 use Rattle.trace_text.specs.Grammar.{policy_says, Then, ReadsPolicies}
 use Rattle.trace_text.specs.Texts.{IsPolicyText}
 use Rattle.trace_text.specs.Limits.{IsPolicy, AreNamedApart}
 use Rattle.trace_text.proofs.CallLoop.{all-push}
-use Rattle.trace_text.proofs.Sections.{all-at}
-use Rattle.trace_text.proofs.PolicyNames.{apart-push, apart-at, policy_name-part}
+use Rattle.trace_text.proofs.PolicyNames.{apart-push}
 
 four-known : (ws : List (List ℕ)) (word a b c d : List ℕ) → ws ≡ a ∷ b ∷ c ∷ d ∷ [] → a ≡ word → ws ≡ word ∷ b ∷ c ∷ d ∷ []
 four-known ws word a b c d e p = e ∙ rw p refl

@@ -1,10 +1,10 @@
 -- Reading policies one after the other, as a loop does.
-use Rattle.std.proofs.Common.{◌≡◌, ℕ, ◌+◌, List, [], ◌∷◌, ◌++◌, map, Option, Some, None, Result, Ok, Err, inl, inr, refl, sym, ap, ◌∙◌, subst}
+use Rattle.std.proofs.Common.{◌≡◌, ℕ, ◌+◌, List, [], ◌∷◌, ◌++◌, Some, None, Result, Ok, Err, inl, inr, refl}
 use Rattle.std.specs.Prelude.{MatchOption}
 use Rattle.bpf_isa.specs.declared.insn.Profile.{Profile}
 use Rattle.doc_text.specs.declared.fault.Fault.{Fault}
 use Rattle.doc_text.specs.Text.{text_in}
-use Rattle.doc_text.specs.Faults.{fault, ◌>>=◌, or_fault}
+use Rattle.doc_text.specs.Faults.{fault}
 use Rattle.trace_text.specs.Document.{PolicyLine}
 use Rattle.policy_text.specs.Accepted.{AcceptsSource}
 use Rattle.trace_text.specs.declared.error.TraceError.{TraceError}

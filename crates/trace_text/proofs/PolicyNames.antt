@@ -1,28 +1,15 @@
 -- Names of policies, and that no two are the same.
-use Rattle.std.proofs.Common.{◌≡◌, ◌<◌, ◌≤◌, ◌⊎◌, inl, inr, ℕ, ◌+◌, List, [], ◌∷◌, ◌++◌, length, map, Bool, true, false, cond, not, eqb, leb, ◌&&◌, ◌||◌, Option, Some, None, Result, Ok, Err, refl, sym, ap, ◌∙◌, subst, arith, length-append, append_assoc}
-use Rattle.std.specs.Prelude.{codes, MatchOption}
-use Rattle.std.specs.List.{flat_map, list_all, AllByRecursion, AllZip}
-use Rattle.std.proofs.lemmas.Bool.{and_parts, or_parts, or_from, leb-false, lt-leb, eqb-false, ne_eqb}
+use Rattle.std.proofs.Common.{◌≡◌, ℕ, List, [], ◌∷◌, ◌++◌, length, Bool, true, false, not, eqb, leb, ◌&&◌, refl, sym, subst, arith}
+use Rattle.std.specs.List.{list_all}
+use Rattle.std.proofs.lemmas.Bool.{and_parts, or_parts, or_from}
 use Rattle.std.proofs.lemmas.Bool.Decides.{nat_tests}
-use Rattle.std.proofs.lemmas.List.{append-nil}
-use Rattle.bpf_isa.specs.declared.insn.Profile.{Profile}
-use Rattle.policy_source.specs.Source.{SourceModel}
-use Rattle.doc_text.specs.declared.fault.Fault.{Fault}
-use Rattle.doc_text.specs.Text.{pieces, text_in, is_plain, IsPlain, ended}
-use Rattle.doc_text.specs.Words.{words, spaced, same, four, is_word, HasNoBlank}
-use Rattle.doc_text.specs.Faults.{fault, ◌>>=◌, or_fault}
-use Rattle.doc_text.proofs.Due.{bind-some, or_fault-some}
-use Rattle.doc_text.proofs.Joining.{same-true, same-self, pieces-ended, text_in-ended, text_in-some}
-use Rattle.policy_text.specs.Accepted.{AcceptsSource, Judged}
-use Rattle.policy_text.specs.Programs.{source_in, IsProgramWord}
-use Rattle.policy_text.proofs.Chains.{then-some, test-some, unless-ok, ok-same, some-same, four-some}
-use Rattle.policy_text.proofs.Parts.{IsPart, line-plain, line-words, text-spaced}
-use Rattle.policy_text.proofs.ProgramWords.{source_in-some, source_in-words, program-part, program-bytes, program-is_word}
+use Rattle.doc_text.specs.Text.{is_plain}
+use Rattle.doc_text.specs.Words.{same, is_word}
+use Rattle.doc_text.proofs.Joining.{same-true, same-self}
+use Rattle.policy_text.proofs.Parts.{IsPart}
 use Rattle.trace_text.specs.Document.{PolicyLine}
-use Rattle.trace_text.specs.Lines.{begins, is_name_byte, is_policy_name, PolicyWords, policy_in, programs_in, is_declared}
-use Rattle.trace_text.specs.Grammar.{policy_says, Then, ReadsPolicies}
-use Rattle.trace_text.specs.Texts.{IsPolicyText}
-use Rattle.trace_text.specs.Limits.{IsPolicy, AreNamedApart}
+use Rattle.trace_text.specs.Lines.{is_name_byte, is_policy_name, is_declared}
+use Rattle.trace_text.specs.Limits.{AreNamedApart}
 
 same-swapped : (a b : List ℕ) → same a b ≡ false → same b a ≡ false
 same-swapped a b h = by_test (same b a) refl

@@ -1,10 +1,10 @@
 -- Lines that were read one after the other stand there one after the other.
-use Rattle.std.proofs.Common.{◌≡◌, ℕ, ◌+◌, List, [], ◌∷◌, ◌++◌, map, Option, Some, None, Result, Ok, Err, refl, sym, ap, ◌∙◌, subst, append_assoc}
+use Rattle.std.proofs.Common.{◌≡◌, ℕ, ◌+◌, List, [], ◌∷◌, ◌++◌, map, Option, Some, None, Result, Ok, refl, sym, ap, ◌∙◌, subst, append_assoc}
 use Rattle.std.specs.List.{AllByRecursion}
 use Rattle.std.proofs.lemmas.List.{append-nil}
 use Rattle.doc_text.specs.declared.fault.Fault.{Fault}
 use Rattle.doc_text.specs.Text.{text_in, IsPlain, ended}
-use Rattle.doc_text.specs.Faults.{◌>>=◌, or_fault, or_end, lines_from, section_from}
+use Rattle.doc_text.specs.Faults.{or_fault, or_end, lines_from, section_from}
 use Rattle.doc_text.proofs.Joining.{text_in-some}
 use Rattle.doc_text.proofs.Due.{bind-some, or_fault-some}
 use Rattle.policy_text.proofs.Chains.{ok-same}

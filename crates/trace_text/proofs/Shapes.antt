@@ -1,5 +1,5 @@
 -- What follows a verb, where there is something.
-use Rattle.std.proofs.Common.{◌≡◌, ℕ, List, Option, Some, None, refl}
+use Rattle.std.proofs.Common.{◌≡◌, ℕ, List, Some, refl}
 use Rattle.doc_text.specs.Words.{words, one, ◌>>?◌}
 use Rattle.doc_text.proofs.Splitting.{words_cons}
 use Rattle.trace_text.specs.Lines.{name_in, after_in}

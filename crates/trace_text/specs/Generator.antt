@@ -1,5 +1,5 @@
 -- The trace that a seed makes, by a linear congruential generator.
-use Rattle.std.specs.Prelude.{◌≡◌, ℕ, zero, suc, ◌+◌, ◌*◌, ◌/◌, ◌%◌, List, [], ◌∷◌, ◌++◌, Option, Some, None, nat_lt, ◌==◌, if◌then◌else◌, codes}
+use Rattle.std.specs.Prelude.{ℕ, zero, suc, ◌+◌, ◌*◌, ◌/◌, ◌%◌, List, [], ◌∷◌, ◌++◌, Some, None, nat_lt, ◌==◌, if◌then◌else◌, codes}
 use Rattle.shfl_line.specs.declared.words.Attr.{Attr}
 use Rattle.bpf_isa.specs.declared.insn.Profile.TheVariants as profile
 use Rattle.trace_text.specs.Document.{Act, make, drop_name, rename, find, count, next, attach, CallLine, PolicyLine, Document}

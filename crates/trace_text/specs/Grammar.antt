@@ -1,5 +1,5 @@
 -- The grammar of traces: the document that bytes are, or the first bad line and the lowest fault on it.
-use Rattle.std.specs.Prelude.{◌≡◌, ℕ, ◌+◌, List, [], ◌∷◌, ◌++◌, length, Bool, not, Option, Some, None, Result, Ok, Err, nat_le, ◌==◌, if◌then◌else◌, codes, MatchOption}
+use Rattle.std.specs.Prelude.{◌≡◌, ℕ, ◌+◌, List, [], ◌∷◌, ◌++◌, length, not, Option, Some, None, Result, Ok, Err, nat_le, ◌==◌, if◌then◌else◌, codes, MatchOption}
 use Rattle.shfl_line.specs.declared.words.Attr.{Attr}
 use Rattle.bpf_isa.specs.declared.insn.Profile.{Profile}
 use Rattle.doc_text.specs.declared.fault.Fault.{Fault}

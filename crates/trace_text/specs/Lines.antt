@@ -1,7 +1,7 @@
 -- What one line of a trace says.
-use Rattle.std.specs.Prelude.{◌≡◌, ℕ, ◌+◌, List, [], ◌∷◌, length, Bool, true, false, ◌&&◌, ◌||◌, not, Option, Some, None, Result, Ok, Err, nat_le, nat_lt, ◌==◌, if◌then◌else◌, codes}
+use Rattle.std.specs.Prelude.{ℕ, List, [], ◌∷◌, length, Bool, true, false, ◌&&◌, ◌||◌, Option, Some, None, nat_le, nat_lt, ◌==◌, if◌then◌else◌, codes}
 use Rattle.std.specs.List.{list_all, list_any, count_by}
-use Rattle.doc_text.specs.Words.{words, is_word, same, one, two, four, ◌>>?◌}
+use Rattle.doc_text.specs.Words.{is_word, same, one, two, four, ◌>>?◌}
 use Rattle.doc_text.specs.Numbers.{capped_in}
 use Rattle.policy_text.specs.Programs.{source_in}
 use Rattle.trace_text.specs.Document.{Act, make, drop_name, rename, find, count, next, attach, CallLine, PolicyLine}

@@ -1,5 +1,5 @@
 -- The report of a replay, and the summary of a bulk run.
-use Rattle.std.specs.Prelude.{◌≡◌, ℕ, ◌+◌, ◌-◌, ◌==◌, List, [], ◌∷◌, ◌++◌, length, map, Bool, true, false, if◌then◌else◌, codes}
+use Rattle.std.specs.Prelude.{ℕ, ◌==◌, List, [], ◌∷◌, ◌++◌, length, map, codes}
 use Rattle.std.specs.List.{flat_map, count_by}
 use Rattle.std.specs.Fmt.{decimal}
 use Rattle.bpf_isa.specs.declared.insn.Profile.{Profile}
@@ -10,8 +10,6 @@ use Rattle.dir_table.specs.Names.{Place}
 use Rattle.hist_log.specs.declared.entry.Entry.{Entry}
 use Rattle.doc_text.specs.Text.{ended}
 use Rattle.doc_text.specs.Words.{spaced}
-use Rattle.trace_text.specs.Document.{CallLine}
-use Rattle.trace_text.specs.Lines.{attach_count}
 use Rattle.policy_text.specs.Headings.{version_words}
 use Rattle.trace_text.specs.Spelling.{act_words}
 use Rattle.trace_text.specs.Traces.{name_at, dir_act}

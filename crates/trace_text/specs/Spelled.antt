@@ -1,5 +1,5 @@
 -- Calls whose names are parts of a document, seen as what they say.
-use Rattle.std.specs.Prelude.{◌≡◌, ◌<◌, ℕ, List, [], ◌∷◌, true, Option, Some, None, option_map}
+use Rattle.std.specs.Prelude.{◌≡◌, ◌<◌, ℕ, List, [], ◌∷◌, true, Some, None, option_map}
 use Rattle.std.specs.List.{flat_map}
 use Rattle.trace_text.specs.declared.spelled.SpelledAct.{SpelledAct}
 use Rattle.trace_text.specs.declared.spelled.SpelledAct.TheVariants as spelled

@@ -1,5 +1,5 @@
 -- A trace in memory, seen as what its text says.
-use Rattle.std.specs.Prelude.{◌≡◌, ◌<◌, ◌≤◌, length, ℕ, Bool, true, false, List, [], map, Option, Some, None, slice_index_or}
+use Rattle.std.specs.Prelude.{◌≡◌, ◌<◌, ◌≤◌, length, ℕ, Bool, true, false, List, [], map, slice_index_or}
 use Rattle.std.specs.Option.{option_map}
 use Rattle.std.specs.List.{AllByRecursion}
 use Rattle.dir_table.specs.Meanings.{IsAdmitted}
@@ -71,4 +71,6 @@ pub record IsWithin (t : Trace) : Type 0 where
   pub workers : (0 < length t.workers.items) × (length t.workers.items ≤ 16)
   pub policies : (0 < length t.policies.items) × (length t.policies.items ≤ 64)
   pub few : length t.calls.items ≤ 65536
+  -- at most two names a call
+  pub names : length t.names.items ≤ 131072
   pub calls : AllByRecursion (IsCallOf (length t.workers.items) (length t.names.items) (length t.policies.items)) t.calls.items

@@ -1,7 +1,9 @@
 ghost use Rattle.std.specs.Prelude.{◌≡◌, ◌∷◌, ◌++◌, [], map, decimal, OnOk, IfOk};
 ghost use Rattle.std.specs.List.{flat_map};
 ghost use Rattle.doc_text.specs.Text.{ended};
+ghost use Rattle.trace_text.specs.Limits.{Fits};
 ghost use Rattle.trace_text.specs.Spelling.{worker_line, policy_line, call_line, spelling};
+ghost use Rattle.trace_text.specs.Texts.{IsText};
 ghost use Rattle.trace_text.specs.Traces.{policy_of, name_at, call_of, document_of};
 
 use crate::trace::{NamedSource, Trace, TraceAct, TraceCall};
@@ -89,9 +91,8 @@ fn push_calls(
     Ok(())
 }
 
-/// The one text of a trace; digits are in lower case.
 #[tactic(auto, using(policy_text::proofs::Written::text_rules))]
-pub fn write_trace(alloc: Global, trace: &Trace) -> Result<Vec<u8>, NoMemory>
+fn spelled(alloc: Global, trace: &Trace) -> Result<Vec<u8>, NoMemory>
     ensures { IfOk result (λ v. v.items ≡ spelling (document_of trace.now)) }
 {
     let mut out: Vec<u8> = Vec::new(alloc);
@@ -103,4 +104,14 @@ pub fn write_trace(alloc: Global, trace: &Trace) -> Result<Vec<u8>, NoMemory>
     push_line(&mut out, b"calls")?;
     push_calls(&mut out, names, policies, trace.calls.as_slice())?;
     Ok(out)
+}
+
+/// The one text of a trace; digits are in lower case.
+pub fn write_trace(alloc: Global, trace: &Trace) -> Result<Vec<u8>, NoMemory>
+    ensures exact { IfOk result (λ v. v.items ≡ spelling (document_of trace.now)) }
+    // The text of a trace that was read is read back as it.
+    ensures again { IfOk result (λ v.
+        Fits (document_of trace.now) → IsText v.items (document_of trace.now)) }
+{
+    spelled(alloc, trace)
 }

@@ -1,4 +1,4 @@
-use Rattle.std.proofs.Common.{◌≡◌, ◌++◌, ◌≤◌}
+use Rattle.std.proofs.Common.{◌≡◌, ◌++◌}
 use Rattle.shfl_sched.specs.ReportParts.{parked_below}
 use Rattle.shfl_sched.proofs.Parked.{listed_so_far, is_none}
 use Rattle.shfl_sched.proofs.report.push_parked.Given as goal

@@ -1,4 +1,4 @@
-use Rattle.std.proofs.Common.{◌≡◌, length, sym, arith}
+use Rattle.std.proofs.Common.{sym, arith}
 use Rattle.shfl_sched.proofs.RunSteps.{marks_of}
 use Rattle.shfl_sched.proofs.report.push_row.Goals as goal
 

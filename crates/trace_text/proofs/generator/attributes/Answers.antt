@@ -1,5 +1,5 @@
-use Rattle.std.proofs.Common.{◌≡◌, suc, ◌+◌, ◌-◌, ◌++◌, [], ◌∷◌, sym, ap, ◌∙◌, arith, append-nil}
-use Rattle.trace_text.specs.Generator.{workers_from, attr_of}
+use Rattle.std.proofs.Common.{◌≡◌, suc, ◌+◌, ◌-◌, ◌++◌, sym, ap, ◌∙◌, arith, append-nil}
+use Rattle.trace_text.specs.Generator.{workers_from}
 use Rattle.trace_text.proofs.Generated.{workers_more, workers_all}
 use Rattle.trace_text.proofs.generator.attributes.Goals as goal
 

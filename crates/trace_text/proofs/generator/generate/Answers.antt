@@ -1,9 +1,9 @@
-use Rattle.std.proofs.Common.{◌≡◌, ◌<◌, ◌≤◌, ◌%◌, ℕ, List, map, length, sym, ap, ◌∙◌, subst, arith}
+use Rattle.std.proofs.Common.{◌≡◌, ◌%◌, List, map, length, sym, ap, ◌∙◌, subst, arith}
 use Rattle.std.specs.List.{AllByRecursion}
 use Rattle.std.proofs.lemmas.List.{length-map}
 use Rattle.trace_text.specs.Document.{CallLine}
 use Rattle.trace_text.specs.Names.{SameMembers}
-use Rattle.trace_text.specs.Spelled.{call_said, call_names, MayBe}
+use Rattle.trace_text.specs.Spelled.{call_said, call_names}
 use Rattle.trace_text.specs.Traces.{call_of, policy_of, IsCallOf}
 use Rattle.trace_text.proofs.CallLoop.{all-contained}
 use Rattle.trace_text.proofs.Generated.{spelled_few, spelled_may, workers_many}
@@ -41,6 +41,7 @@ returns-clause-within c =
       workers = (omega arith, omega arith);
       policies = (omega arith, omega arith);
       few = omega arith;
+      names = (let more = c.in_ok-names_in.ensures.few in let most = c.in_ok-names.ensures.few in omega (arith, ap length c.as_slice.ensures.value));
       calls = subst (λ w. AllByRecursion (IsCallOf w (length c.in_ok-names.names.items) (length c.in_ok-policies.policies.items)) c.in_ok-calls.calls.items) (sym workers) named;
     }
 

@@ -1,4 +1,4 @@
-use Rattle.std.proofs.Common.{ℕ, List, Bor, map, Vec}
+use Rattle.std.proofs.Common.{ℕ, List, Bor, map}
 use Rattle.trace_text.specs.Names.{SameMembers}
 use Rattle.trace_text.proofs.Sorting.{same-permuted, ok_then}
 use Rattle.trace_text.proofs.names.distinct.Goals as goal

@@ -1,4 +1,4 @@
-use Rattle.std.proofs.Common.{◌≡◌, ◌<◌, ℕ, List, [], length, Bor, sym, ◌∙◌, ap, arith, length-append}
+use Rattle.std.proofs.Common.{◌<◌, length, arith, length-append}
 use Rattle.trace_text.proofs.Sorting.{step-old, step-new, all-same}
 use Rattle.trace_text.proofs.names.once_each.Goals as goal
 use Rattle.trace_text.proofs.names.once_each.Goals.{then-not-ends_with+in_ok-from_slice+in_ok-push, else-not-ends_with}

@@ -1,4 +1,4 @@
-use Rattle.std.proofs.Common.{ℕ, ◌≤◌, List, map, length}
+use Rattle.std.proofs.Common.{◌≤◌, map, length}
 use Rattle.trace_text.proofs.Sorting.{Keeps}
 use Rattle.trace_text.proofs.names.once_each.Given as goal
 

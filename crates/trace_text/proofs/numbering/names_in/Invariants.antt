@@ -1,4 +1,4 @@
-use Rattle.std.proofs.Common.{◌≡◌, ◌≤◌, ◌*◌, ◌++◌, List, ℕ, Bor, drop, map, vec_len, length}
+use Rattle.std.proofs.Common.{◌≡◌, ◌≤◌, ◌*◌, ◌++◌, drop, map, length}
 use Rattle.trace_text.specs.Spelled.{call_said, call_names}
 use Rattle.trace_text.proofs.numbering.names_in.Given as goal
 

@@ -1,4 +1,4 @@
-use Rattle.std.proofs.Common.{List, ℕ, map, arith}
+use Rattle.std.proofs.Common.{map, arith}
 use Rattle.std.specs.Prelude.{Contains}
 use Rattle.trace_text.proofs.CallLoop.{known-here}
 use Rattle.trace_text.proofs.numbering.numbered.Goals as goal

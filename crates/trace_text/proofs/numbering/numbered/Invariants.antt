@@ -1,4 +1,4 @@
-use Rattle.std.proofs.Common.{◌≡◌, ◌++◌, List, ℕ, drop, map, vec_len, length}
+use Rattle.std.proofs.Common.{◌≡◌, ◌++◌, drop, map, length}
 use Rattle.std.specs.Prelude.{Contains}
 use Rattle.std.specs.List.{AllByRecursion}
 use Rattle.trace_text.specs.Spelled.{call_said, call_names, MayBe}

@@ -1,4 +1,4 @@
-use Rattle.std.proofs.Common.{◌≡◌, length, ◌<◌, arith, sym, ◌∙◌, ap}
+use Rattle.std.proofs.Common.{arith, sym, ◌∙◌, ap}
 use Rattle.doc_text.proofs.Joining.{same-true}
 use Rattle.trace_text.specs.declared.trace.NamedSource.{NamedSource}
 use Rattle.trace_text.proofs.Sorting.{bytes_at}

@@ -1,9 +1,8 @@
-use Rattle.std.proofs.Common.{◌≡◌, ◌+◌, [], ◌∷◌, ◌++◌, length, map, vec_len, Option, Ok, Some, None, arith, refl, sym, ap, ◌∙◌}
+use Rattle.std.proofs.Common.{◌≡◌, [], length, map, Option, Ok, arith, ap, ◌∙◌}
 use Rattle.std.proofs.lemmas.Grind.{common_steps}
 use Rattle.std.proofs.lemmas.Result.{err_from_is_err_and}
 use Rattle.doc_text.specs.Text.{pieces}
 use Rattle.doc_text.proofs.LineEnds.{pieces-none}
-use Rattle.trace_text.specs.Document.{PolicyLine}
 use Rattle.trace_text.specs.Traces.{policy_of}
 use Rattle.trace_text.specs.declared.trace.NamedSource.{NamedSource}
 use Rattle.trace_text.specs.Grammar.{ReadsPolicies}

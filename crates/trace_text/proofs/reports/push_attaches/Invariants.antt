@@ -1,8 +1,7 @@
-use Rattle.std.proofs.Common.{◌≡◌, ◌++◌, List, ℕ, drop, map}
+use Rattle.std.proofs.Common.{◌≡◌, ◌++◌, drop, map}
 use Rattle.std.specs.List.{flat_map}
 use Rattle.doc_text.specs.Text.{ended}
-use Rattle.dir_table.specs.Names.{entry_of}
-use Rattle.trace_text.specs.Report.{done_of, entry_line, row_line, attach_line}
+use Rattle.trace_text.specs.Report.{attach_line}
 use Rattle.trace_text.proofs.reports.push_attaches.Given as goal
 
 abbrev pub invariant-loop-attach : goal.invariant-loop-attach

@@ -1,7 +1,7 @@
-use Rattle.std.proofs.Common.{Option, ap, refl, ◌≡◌, ◌+◌, [], ◌∷◌, length, vec_len, Ok, Some, None, arith, sym, ◌∙◌}
+use Rattle.std.proofs.Common.{Option, ap, refl, ◌≡◌, [], length, Ok, arith, sym, ◌∙◌}
 use Rattle.std.proofs.lemmas.Grind.{common_steps}
 use Rattle.std.proofs.lemmas.Result.{err_from_is_err_and}
-use Rattle.doc_text.specs.Text.{pieces, text_in}
+use Rattle.doc_text.specs.Text.{pieces}
 use Rattle.doc_text.specs.Faults.{section_from}
 use Rattle.doc_text.proofs.LineEnds.{pieces-none}
 use Rattle.doc_text.proofs.Loops.{section_from-more, section_from-odd, section_from-bad, section_from-end, section_from-none}

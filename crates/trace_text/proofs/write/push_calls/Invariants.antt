@@ -1,8 +1,8 @@
-use Rattle.std.proofs.Common.{◌≡◌, ◌++◌, List, ℕ, drop, map}
+use Rattle.std.proofs.Common.{◌≡◌, ◌++◌, drop, map}
 use Rattle.std.specs.List.{flat_map}
 use Rattle.doc_text.specs.Text.{ended}
-use Rattle.trace_text.specs.Spelling.{worker_line, policy_line, call_line}
-use Rattle.trace_text.specs.Traces.{policy_of, call_of}
+use Rattle.trace_text.specs.Spelling.{call_line}
+use Rattle.trace_text.specs.Traces.{call_of}
 use Rattle.trace_text.proofs.write.push_calls.Given as goal
 
 abbrev pub invariant-loop-call : goal.invariant-loop-call
