@@ -61,11 +61,8 @@ fn open_for(alloc: Global, trace: &Trace) -> Result<Dir, NoMemory>
     requires { IsWithin trace.now }
     ensures { IfOk result (λ dir. dir ≡ directory_for trace.now) }
 {
-    match u32::try_from(trace.names.len()) {
-        Ok(room) => match Dir::open(alloc, room, trace.calls.len() as u32) {
-            Ok(dir) => Ok(dir),
-            Err(_) => Err(NoMemory),
-        },
+    match Dir::open(alloc, trace.names.len() as u32, trace.calls.len() as u32) {
+        Ok(dir) => Ok(dir),
         Err(_) => Err(NoMemory),
     }
 }
