@@ -1,5 +1,5 @@
 -- After every event of a schedule the lock is lawful, and so it is safe.
-use Rattle.std.proofs.Common.{◌≡◌, ℕ, List, [], ◌∷◌, Bool, true, false, IsTrue, length, refl, sym, ◌∙◌, true≢false}
+use Rattle.std.proofs.Common.{ℕ, List, [], ◌∷◌, Bool, IsTrue, length, refl, sym, ◌∙◌, true≢false}
 use Rattle.std.specs.List.{AllByRecursion}
 use Rattle.shfl_line.specs.declared.events.Form.{Form}
 use Rattle.shfl_core.specs.Runner.{Lock, moved}

@@ -1,9 +1,9 @@
 //! The run of a schedule on a lock of its form.
 ghost use Rattle.std.specs.Prelude.{◌≡◌, IfOk, OnOk};
+ghost use Rattle.shfl_line.specs.declared.events.Form.{Form as FormValue};
 ghost use Rattle.shfl_line.specs.declared.events.Form.TheVariants.{Rw, Park, RwPark};
-ghost use Rattle.shfl_core.specs.Waiting.{fresh, MakesIdle};
+ghost use Rattle.shfl_core.specs.Waiting.{fresh, rules, MakesIdle};
 ghost use Rattle.shfl_sched.specs.Schedules.{IsWithin};
-ghost use Rattle.shfl_sched.specs.Run.{rules_of};
 ghost use Rattle.shfl_sched.specs.Report.{line_report};
 ghost use Rattle.syncord_line.specs.Safety.{IsAlwaysSafe};
 
@@ -39,10 +39,12 @@ fn run_on<W: Waiter + Drop, F: Fn(u32, Attr, u16) -> W>(
     schedule: &Schedule,
     make: F,
 ) -> Result<Vec<u8>, NoMemory>
+    ghost form: { FormValue }
     requires within { IsWithin schedule.now }
+    requires form { schedule.now.form ≡ form }
     requires callable { F.IsAlwaysCallable make }
     requires idle { MakesIdle W.meaning (λ k a w. F.post make k a schedule.now.limit w)
-        (rules_of schedule.now) }
+        (rules schedule.now.limit form) }
     ensures told { IfOk result (λ text. text.items ≡ line_report schedule.now) }
     ensures safe { OnOk result (IsAlwaysSafe schedule.now) }
 {
