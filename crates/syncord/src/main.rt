@@ -3,24 +3,29 @@
 
 use std::alloc::Global;
 use std::env;
+use std::io::{Error, ErrorKind};
 use std::process::ExitCode;
 use syn_outer::{OpenGate, StdSink, StdSource};
 use syncord_app::syncord;
 
-/// The words behind the program's name, or none where they can't be had or are no text.
-fn words_of(alloc: Global, args: env::Args) -> Option<Vec<String>> {
+/// The words behind the program's name, or none where memory is wanting.
+fn words_of(alloc: Global, args: Result<env::Args, Error>) -> Option<Vec<String>> {
     let mut words = Vec::new(alloc);
-    for word in args.skip(1) {
-        words.push(word).ok()?;
+    match args {
+        Ok(args) => {
+            for word in args.skip(1) {
+                words.push(word).ok()?;
+            }
+            Some(words)
+        }
+        // A word that is no text is no command's, and neither is an empty list.
+        Err(error) if error.kind() == ErrorKind::InvalidData => Some(words),
+        Err(_) => None,
     }
-    Some(words)
 }
 
 fn main(rt: HostRuntime) -> ExitCode {
-    let Ok(args) = env::args(&rt) else {
-        return ExitCode::from(5);
-    };
-    let Some(words) = words_of(rt.alloc(), args) else {
+    let Some(words) = words_of(rt.alloc(), env::args(&rt)) else {
         return ExitCode::from(5);
     };
     let mut src = StdSource::new(rt.stdin());
