@@ -1,7 +1,8 @@
 #!/usr/bin/env bash
 # Compares what the built program does with each example: NAME.line with `line`, NAME.hex with `verify`, NAME.hex2 with
-# `verify 2`, NAME.trace with `replay`. Beside NAME.SUFFIX stand what it writes (.out), what it says on standard error (.err) and its status
-# (.status); where one isn't there, nothing is written, nothing is said, and the status is 0.
+# `verify 2`, NAME.trace with `replay`, NAME.bulk with `bulk` and the words in it. Beside NAME.SUFFIX stand what it writes
+# (.out), what it says on standard error (.err) and its status (.status); where one isn't there, nothing is written, nothing
+# is said, and the status is 0. Then the three forms of each policy in examples/policies are compared.
 set -u
 top="$(cd "$(dirname "$(readlink -f "${BASH_SOURCE[0]}")")/.." && pwd)"
 got="$(mktemp -d)"
@@ -37,6 +38,11 @@ for document in "$top"/examples/*.line; do compare "$document" line; done
 for document in "$top"/examples/*.hex "$top"/examples/policies/*.hex; do compare "$document" verify; done
 for document in "$top"/examples/*.hex2; do compare "$document" verify 2; done
 for document in "$top"/examples/*.trace; do compare "$document" replay; done
+for document in "$top"/examples/*.bulk; do
+    # its words stand in the document, which the command doesn't read
+    read -r -a words <"$document"
+    compare "$document" bulk "${words[@]}"
+done
 
 # The three forms of a policy say one program: the assembly and the listing of the digits have the digits' slots, and the C
 # compiles to them, where a clang for BPF stands ready.
