@@ -69,6 +69,13 @@ fn note_slots(halves: &mut Vec<bool>, read: Result<Statement<'_>, u8>) -> Result
     }
 }
 
+/// How many names the text may well declare. No proof rests on it: the table grows where it must.
+fn names_expected(text: &[u8]) -> usize {
+    let colons = text.iter().filter(|byte| **byte == b':').count();
+    // where a text has so many names, few of them are shorter than three bytes
+    colons.min(text.len() / 5)
+}
+
 /// Where the names of a text stand, which of its slots are second halves, and the first line that declares a name again.
 pub fn survey<'a>(
     alloc: Global,
@@ -79,7 +86,7 @@ pub fn survey<'a>(
     ensures { IfOk result (λ found. IsSurvey found.0 found.1.items found.2
         (lines_in profile text.now)) }
 {
-    let mut marks = HashMap::new(alloc);
+    let mut marks = HashMap::with_capacity(alloc, names_expected(text))?;
     let mut halves = Vec::new(alloc);
     let mut again = None;
     let mut rest = text;
