@@ -53,16 +53,26 @@ fn worked_schedules_are_reported(rt: HostRuntime) -> Result<(), Fail> {
 
 /// The error line of the first `length` bytes of the fast path, or an empty text where they are a schedule.
 fn due(alloc: Global, length: usize) -> Result<String, Fail> {
-    let lines = [12usize, 22, 33, 47, 60, 67, 75, 82, 89, 96];
-    let faults = [3u8, 4, 5, 7, 7];
+    // where a line ends, the number of the next one, and the fault of a document that ends here
+    let ends = [
+        (0usize, 1u32, 2u8),
+        (12, 2, 3),
+        (22, 3, 4),
+        (33, 4, 5),
+        (47, 5, 7),
+        (60, 6, 7),
+        (67, 7, 0),
+        (75, 8, 0),
+        (82, 9, 0),
+        (89, 10, 0),
+        (96, 11, 0),
+    ];
     let mut line = 1u32;
-    let mut what = if length == 0 { 2u8 } else { 1 };
-    for (at, end) in lines.iter().enumerate() {
-        if length >= *end {
-            line += 1;
-        }
-        if length == *end {
-            what = if at < faults.len() { faults[at] } else { 0 };
+    let mut what = 1u8;
+    for (end, next, fault) in ends {
+        if length >= end {
+            line = next;
+            what = if length == end { fault } else { 1 };
         }
     }
     if what == 0 {
