@@ -1,10 +1,7 @@
 mod documents;
 
 use super::*;
-use documents::{
-    LATE_LINK, LATE_LINK_REPORT, PARKING, PARKING_READERS, PARKING_READERS_REPORT, PARKING_REPORT,
-    READERS, READERS_REPORT,
-};
+use documents::WORKED;
 use std::alloc::Global;
 use std::test::Fail;
 use syn_outer::{MemSink, MemSource, SureSink, SureSource};
@@ -35,14 +32,7 @@ fn ran(alloc: Global, document: &[u8]) -> Result<Outcome, Fail> {
 
 #[test]
 fn worked_schedules_are_reported(rt: HostRuntime) -> Result<(), Fail> {
-    let cases = [
-        (FAST_PATH, FAST_PATH_REPORT),
-        (LATE_LINK, LATE_LINK_REPORT),
-        (READERS, READERS_REPORT),
-        (PARKING, PARKING_REPORT),
-        (PARKING_READERS, PARKING_READERS_REPORT),
-    ];
-    for (document, report) in cases {
+    for (document, report) in [(FAST_PATH, FAST_PATH_REPORT)].into_iter().chain(WORKED) {
         let end = ran(rt.alloc(), document.as_bytes())?;
         assert_eq!(rt; end.status, 0);
         assert_eq!(rt; end.out.bytes(), report.as_bytes());
