@@ -30,6 +30,17 @@ fn ran(alloc: Global, document: &[u8]) -> Result<Outcome, Fail> {
     Ok(Outcome { status, out, err })
 }
 
+/// The status where the error stream fails at its first call, and whether nothing was written to either stream.
+fn untold(alloc: Global, document: &[u8]) -> Result<(u8, bool), Fail> {
+    let mut src = SureSource::new(Vec::from_slice(alloc, document)?);
+    let mut out = SureSink::open(alloc, 300).ok().ok_or("memory")?;
+    let mut err = MemSink::open(alloc, 100, 100, vec![in alloc; 1u32]?)
+        .ok()
+        .ok_or("memory")?;
+    let status = run_line(alloc, &mut src, &mut out, &mut err);
+    Ok((status, out.bytes().is_empty() && err.bytes().is_empty()))
+}
+
 #[test]
 fn worked_schedules_are_reported(rt: HostRuntime) -> Result<(), Fail> {
     for (document, report) in [(FAST_PATH, FAST_PATH_REPORT)].into_iter().chain(WORKED) {
@@ -82,16 +93,7 @@ fn a_cut_schedule_is_named_with_its_line(rt: HostRuntime) -> Result<(), Fail> {
         let end = ran(alloc, front)?;
         assert_eq!(rt; end.status, status);
         assert_eq!(rt; end.err.bytes(), message.as_bytes());
-        let mut src = SureSource::new(Vec::from_slice(alloc, front)?);
-        let mut out = SureSink::open(alloc, 300).ok().ok_or("memory")?;
-        let mut err = MemSink::open(alloc, 100, 100, vec![in alloc; 1u32]?)
-            .ok()
-            .ok_or("memory")?;
-        assert_eq!(rt; run_line(alloc, &mut src, &mut out, &mut err), status);
-        assert_eq!(rt; err.bytes(), b"".as_slice());
-        if status == 1 {
-            assert_eq!(rt; out.bytes(), b"".as_slice());
-        }
+        assert_eq!(rt; untold(alloc, front)?, (status, status == 1));
     }
     Ok(())
 }
@@ -136,6 +138,7 @@ fn other_bytes_are_named_with_the_lowest_fault(rt: HostRuntime) -> Result<(), Fa
         assert_eq!(rt; end.status, 1);
         assert_eq!(rt; end.out.bytes(), b"".as_slice());
         assert_eq!(rt; end.err.bytes(), message.as_bytes());
+        assert_eq!(rt; untold(rt.alloc(), document.as_bytes())?, (1, true));
     }
     Ok(())
 }
@@ -200,6 +203,7 @@ fn as_many_events_as_a_schedule_may_have_are_reported(rt: HostRuntime) -> Result
         for _ in 0..count {
             bytes.extend_from_slice(b"free 0\n")?;
         }
+        assert_eq!(rt; untold(alloc, &bytes)?, (status, status == 1));
         let mut src = SureSource::new(bytes);
         let mut out = SureSink::open(alloc, 5_000_000).ok().ok_or("memory")?;
         let mut err = SureSink::open(alloc, 100).ok().ok_or("memory")?;
