@@ -2,7 +2,8 @@
 # Compares what the built program does with each example: NAME.line with `line`, NAME.hex with `verify`, NAME.hex2 with
 # `verify 2`, NAME.trace with `replay`, NAME.bulk with `bulk` and the words in it. Beside NAME.SUFFIX stand what it writes
 # (.out), what it says on standard error (.err) and its status (.status); where one isn't there, nothing is written, nothing
-# is said, and the status is 0. Then the three forms of each policy in examples/policies are compared.
+# is said, and the status is 0. Then the forms of each policy in examples/policies are compared (the C where a clang for BPF is
+# there), and that each example is in the index and each output belongs to one.
 set -u
 top="$(cd "$(dirname "$(readlink -f "${BASH_SOURCE[0]}")")/.." && pwd)"
 got="$(mktemp -d)"
@@ -26,7 +27,8 @@ compare() {
             if [ "$part" = status ]; then echo 0 >"$due"; else : >"$due"; fi
         fi
         if ! cmp -s "$got/$part" "$due"; then
-            echo "examples/$name: another $part" >&2
+            echo "examples/$name: another $part; to run it again: bin/syncord $* <examples/${document#"$top/examples/"}" >&2
+            diff "$due" "$got/$part" | head -n 20 >&2
             failed=1
             return
         fi
@@ -61,10 +63,26 @@ compare_forms() {
         && [ "$(od -An -v -tx1 "$got/policy.bin" | tr -d ' \n')" != "$digits" ]; then
         echo "$name.c: other slots than $name.hex" >&2
         failed=1
+    elif [ -s "$got/policy.bin" ]; then
+        echo "$name: its three forms agree"
     else
-        echo "$name: its forms agree"
+        echo "$name: its assembly and its digits agree (no clang for BPF is here to compile the C)"
     fi
+    rm -f "$got/policy.bin"
 }
 
 for document in "$top"/examples/policies/*.asm; do compare_forms "$document"; done
+
+# what belongs to no example
+for part in "$top"/examples/*.{out,err,status} "$top"/examples/policies/*.{out,err,status}; do
+    if [ -e "$part" ] && [ ! -e "${part%.*}" ]; then
+        echo "examples/${part#"$top/examples/"}: there is no such example" >&2
+        failed=1
+    fi
+done
+for document in "$top"/examples/*.{line,hex,hex2,trace,bulk}; do
+    grep -qF "\`$(basename "$document")\`" "$top/examples/README.md" && continue
+    echo "examples/README.md: it doesn't name $(basename "$document")" >&2
+    failed=1
+done
 exit "$failed"

@@ -1,9 +1,15 @@
 pub mod Counts
-pub mod NamesKept
+pub mod Cuts
+pub mod Edits
+pub mod Joined
 pub mod Least
+pub mod Limits
 pub mod Methods
+pub mod NamesKept
 pub mod Next
 pub mod Order
 pub mod Places
 pub mod Ranges
-pub mod Shifting
+pub mod Reading
+pub mod Spots
+pub mod Stored

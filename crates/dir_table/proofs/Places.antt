@@ -87,7 +87,7 @@ removed_at (e ∷ es) place (suc i) sorted here =
     ap (λ r. cond (not (is_eq r)) (e ∷ rest) rest) here.0 ∙ ap (λ l. e ∷ l) (removed_at es place i (both_true _ _ sorted).1 here.1)
 
 -- the place of a row that is found: those before it are of lesser places
-at_from : (rows : List DirRow) (place : Place) (i : ℕ) → AreInOrder rows → i < length rows → ((d : DirRow) → place_cmp (place_of_row (get_or rows i d)) place ≡ Equal)
+pub at_from : (rows : List DirRow) (place : Place) (i : ℕ) → AreInOrder rows → i < length rows → ((d : DirRow) → place_cmp (place_of_row (get_or rows i d)) place ≡ Equal)
     → IsAt (entries_of rows) place i
 at_from [] place i sorted in_range same = absurd (omega arith)
 at_from (row ∷ rows) place zero sorted in_range same = reversed (place_of_row row) place Equal (same row)
@@ -97,7 +97,7 @@ at_from (row ∷ rows) place (suc i) sorted in_range same =
     subst (λ p. place_cmp (place_of_row row) p ≡ Less) is (below_at (place_of_row row) rows (both_true _ _ sorted).0 i row (omega arith)) in
     (reversed (place_of_row row) place Less below, at_from rows place i (both_true _ _ sorted).1 (omega arith) same)
 
-gap_from : (rows : List DirRow) (place : Place) (i : ℕ) → i ≤ length rows
+pub gap_from : (rows : List DirRow) (place : Place) (i : ℕ) → i ≤ length rows
     → ((j : ℕ) (d : DirRow) → j < i → place_cmp (place_of_row (get_or rows j d)) place ≡ Less)
     → ((j : ℕ) (d : DirRow) → i ≤ j → j < length rows → place_cmp (place_of_row (get_or rows j d)) place ≡ Greater)
     → IsGapFor (entries_of rows) place i

@@ -1,9 +1,9 @@
 -- Rows in memory.
-use Rattle.std.specs.Prelude.{ℕ, List}
-use Rattle.dir_table.specs.declared.calls.DirRow.{DirRow}
+use Rattle.std.specs.Prelude.{ℕ}
+use Rattle.dir_table.specs.Blocks.{Blocks}
 
 pub record Buffered : Type 0 where
-  -- the rows
-  pub rows : List DirRow
-  -- how many rows there is memory for
-  pub capacity : ℕ
+  -- the rows, in blocks
+  pub blocks : Blocks
+  -- how many rows may be put in for sure
+  pub spare : ℕ

@@ -1,4 +1,5 @@
 pub mod Answers
+pub mod Blocks
 pub mod Buffers
 pub mod Directory
 pub mod Meanings

@@ -17,13 +17,13 @@ AreInOrder rows = IsTrue (is_sorted place_cmp (entries_of rows))
 abbrev pub names_of : List DirRow → Names
 names_of rows = from_sorted (entries_of rows)
 
-pub record IsConsistent (rows : List DirRow) (capacity next_number room spare : ℕ) : Type 0 where
+pub record IsConsistent (rows : List DirRow) (reserve next_number room spare : ℕ) : Type 0 where
   pub in_order : AreInOrder rows
   pub in_range : All (λ row. IsInRange room row.dir row.name) rows
   -- each row was made with a number of its own
   pub made : length rows < next_number
   -- the rows that the calls left may add have their memory
-  pub reserved : length rows + spare ≤ capacity
+  pub reserved : spare ≤ reserve
   -- the numbers that they may give fit
   pub numbered : next_number + spare ≤ 65537
 

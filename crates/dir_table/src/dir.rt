@@ -10,7 +10,8 @@ ghost use Rattle.dir_table.specs.Meanings.{IsAdmitted};
 use crate::NoMemory;
 use crate::buffer::RowBuffer;
 use crate::calls::{DirReply, DirRow};
-use crate::rows::{count_of, next_of, number_of, put_row, remove_row};
+use crate::rows::{add_row, count_of, next_of, number_of, put_row, remove_row};
+use crate::view::Rows;
 use std::alloc::Global;
 use std::marker::Model;
 
@@ -26,19 +27,20 @@ pub struct Dir {
 impl Model for Dir {
     ghost use Rattle.dir_table.specs.Directory.{Directory, coded_directory};
     ghost use Rattle.dir_table.specs.Rows.{IsConsistent, names_of};
+    ghost use Rattle.dir_table.specs.Blocks.{joined};
 
     ghost Value = { Directory };
 
     ghost coded = { coded_directory };
 
     ghost view = { λ d. record {
-      names = names_of d.rows.rows;
+      names = names_of (joined d.rows.blocks);
       next_number = d.next_number;
       room = d.room;
       spare = d.spare;
     } };
 
-    ghost invariant = { λ d. IsConsistent d.rows.rows d.rows.capacity
+    ghost invariant = { λ d. IsConsistent (joined d.rows.blocks) d.rows.spare
         d.next_number d.room d.spare };
 }
 
@@ -51,7 +53,7 @@ impl Dir {
             d ≡ record { names = empty; next_number = 1; room = room; spare = calls }) }
     {
         Ok(Dir {
-            rows: RowBuffer::with_room(alloc, &[], calls as usize)?,
+            rows: RowBuffer::open(alloc, calls as usize)?,
             next_number: 1,
             room,
             spare: calls,
@@ -62,9 +64,8 @@ impl Dir {
     pub fn copy(&self, alloc: Global) -> Result<Dir, NoMemory>
         ensures { IfOk result (λ d. d ≡ self.now) }
     {
-        let rows = self.rows.as_slice();
         Ok(Dir {
-            rows: RowBuffer::with_room(alloc, rows, self.spare as usize)?,
+            rows: self.rows.copy(alloc)?,
             next_number: self.next_number,
             room: self.room,
             spare: self.spare,
@@ -87,11 +88,11 @@ impl Dir {
     }
 
     /// The rows in order of directory and name.
-    pub fn rows(&self) -> &[DirRow]
-        ensures all { entries_of result.now ≡ entries self.now.names }
-        ensures in_range { All (λ row. IsInRange self.now.room row.dir row.name) result.now }
+    pub fn rows(&self) -> Rows<'_>
+        ensures all { entries_of result ≡ entries self.now.names }
+        ensures in_range { All (λ row. IsInRange self.now.room row.dir row.name) result }
     {
-        self.rows.as_slice()
+        Rows::of(self.rows.blocks())
     }
 
     /// Makes a file with the next number, where there is none of this name.
@@ -104,13 +105,14 @@ impl Dir {
         ensures others { OthersStay self.old self.new (dir, name) }
     {
         self.spare -= 1;
-        if number_of(self.rows.as_slice(), dir, name).is_some() {
-            return DirReply::Exists;
-        }
         let ino = self.next_number;
-        self.next_number += 1;
-        put_row(&mut self.rows, DirRow { dir, name, ino });
-        DirReply::Ino(ino)
+        match add_row(&mut self.rows, DirRow { dir, name, ino }) {
+            Some(_) => DirReply::Exists,
+            None => {
+                self.next_number += 1;
+                DirReply::Ino(ino)
+            }
+        }
     }
 
     /// Removes the name.
@@ -140,7 +142,7 @@ impl Dir {
     {
         self.spare -= 1;
         if dir == to_dir && name == to_name {
-            return done_if(number_of(self.rows.as_slice(), dir, name).is_some());
+            return done_if(number_of(&self.rows, dir, name).is_some());
         }
         match remove_row(&mut self.rows, dir, name) {
             Some(ino) => {
@@ -164,7 +166,7 @@ impl Dir {
         ensures reply { result ≡ reply_to self.now (DirCall.Find dir name) }
         ensures absent { (result ≡ DirReply.Absent) ↔ IsNone (get self.now.names (dir, name)) }
     {
-        match number_of(self.rows.as_slice(), dir, name) {
+        match number_of(&self.rows, dir, name) {
             Some(ino) => DirReply::Ino(ino),
             None => DirReply::Absent,
         }
@@ -175,7 +177,7 @@ impl Dir {
         requires { dir < 64 }
         ensures { result ≡ reply_to self.now (DirCall.Count dir) }
     {
-        DirReply::Number(count_of(self.rows.as_slice(), dir))
+        DirReply::Number(count_of(&self.rows, dir))
     }
 
     /// The least name of the directory above `after`, or its least name.
@@ -186,7 +188,7 @@ impl Dir {
             → IsLeastAfter self.now.names dir after name }
         ensures end { result ≡ DirReply.End → NoneAfter self.now.names dir after }
     {
-        match next_of(self.rows.as_slice(), dir, after) {
+        match next_of(&self.rows, dir, after) {
             Some(name) => DirReply::Name(name),
             None => DirReply::End,
         }

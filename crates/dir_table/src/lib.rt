@@ -1,21 +1,23 @@
 //! A directory of regular files: names with numbers, in 64 fixed directories.
 #![tactic(auto)]
 
+mod block;
 mod buffer;
 mod calls;
-mod cells;
 mod dir;
 mod object;
 mod rows;
-mod shifts;
+mod search;
 #[cfg(test)]
 mod tests;
+mod view;
 
 pub use calls::{DirCall, DirReply, DirRow};
 pub use dir::Dir;
 use std::alloc::{AllocError, AllocFailed};
 use std::error::Error;
 use std::fmt;
+pub use view::Rows;
 
 /// A call could not have the memory that it needs.
 #[derive(Clone, Copy, Debug, PartialEq, Eq)]

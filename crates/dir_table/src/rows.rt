@@ -1,101 +1,150 @@
-//! Rows in order of directory and name.
+//! Rows in order of directory and name, in blocks.
 ghost use Rattle.std.specs.Prelude.{◌≡◌, ℕ, ◌+◌, ◌<◌, ◌≤◌, ◌^◌, ◌==◌, ◌&&◌, option_map, filter, find, IfOk, IfErr, OnSome, IfNone, length};
-ghost use Rattle.std.specs.List.Sorted.{IsSearchInRange};
 ghost use Rattle.std.specs.FinMap as map_of;
 ghost use Rattle.std.specs.FinMap.{put};
 ghost use Rattle.std.specs.FinMap.Entries.{where_key};
 ghost use Rattle.dir_table.specs.Names.{place_cmp, is_other, entries_of};
 ghost use Rattle.dir_table.specs.Rows.{AreInOrder, IsAt, IsGapFor, BeginAfter};
+ghost use Rattle.dir_table.specs.Blocks.{joined, rows_before, AreFilled, IsRow, IsGap};
 ghost use Rattle.dir_table.specs.Answers.{comes_after};
 
+use crate::block::{Block, Spot};
 use crate::buffer::RowBuffer;
 use crate::calls::DirRow;
+use crate::search::{cut, row_from, row_number};
 
 /// Where the row of the name is, or where it would go.
-pub fn place_of(rows: &[DirRow], dir: u8, name: u32) -> Result<usize, usize>
-    requires { AreInOrder rows.now }
-    ensures in_range { IsSearchInRange result (length rows.now) }
-    ensures found { IfOk result (IsAt (entries_of rows.now) (dir, name)) }
-    ensures absent { IfErr result (IsGapFor (entries_of rows.now) (dir, name)) }
+fn place_of(blocks: &[Block], dir: u8, name: u32) -> Result<Spot, Spot>
+    requires filled { AreFilled blocks.now }
+    requires in_order { AreInOrder (joined blocks.now) }
+    ensures row { IfOk result (IsRow blocks.now) }
+    ensures gap { IfErr result (IsGap blocks.now) }
+    ensures found { IfOk result (λ spot.
+        IsAt (entries_of (joined blocks.now)) (dir, name) (rows_before blocks.now spot)) }
+    ensures absent { IfErr result (λ spot.
+        IsGapFor (entries_of (joined blocks.now)) (dir, name) (rows_before blocks.now spot)) }
 {
-    rows.binary_search_by_key(&(dir, name), |row| (row.dir, row.name))
+    let end = cut(blocks, dir, u64::from(name) + 1);
+    if end.at == 0 {
+        return Err(end);
+    }
+    let last = Spot {
+        block: end.block,
+        at: end.at - 1,
+    };
+    let row = blocks[last.block].as_slice()[last.at];
+    if row.dir == dir && row.name == name {
+        Ok(last)
+    } else {
+        Err(end)
+    }
 }
 
 /// The number of the name.
-pub fn number_of(rows: &[DirRow], dir: u8, name: u32) -> Option<u64>
-    requires { AreInOrder rows.now }
-    ensures { result ≡ map_of.find place_cmp (dir, name) (entries_of rows.now) }
+pub fn number_of(rows: &RowBuffer, dir: u8, name: u32) -> Option<u64>
+    requires { AreInOrder (joined rows.now.blocks) }
+    ensures { result ≡ map_of.find place_cmp (dir, name) (entries_of (joined rows.now.blocks)) }
 {
-    match place_of(rows, dir, name) {
-        Ok(at) => Some(rows[at].ino),
+    let blocks = rows.blocks();
+    match place_of(blocks, dir, name) {
+        Ok(spot) => Some(blocks[spot.block].as_slice()[spot.at].ino),
         Err(_) => None,
+    }
+}
+
+/// Puts a row in its place, where there is none of its name, and answers the number of the one that there is.
+pub fn add_row(rows: &mut RowBuffer, row: DirRow) -> Option<u64>
+    requires in_order { AreInOrder (joined rows.old.blocks) }
+    requires spare { 0 < rows.old.spare }
+    ensures number { result
+        ≡ map_of.find place_cmp (row.dir, row.name) (entries_of (joined rows.old.blocks)) }
+    ensures put { IfNone result (entries_of (joined rows.new.blocks)
+        ≡ put place_cmp (row.dir, row.name) row.ino (entries_of (joined rows.old.blocks))) }
+    ensures len { length (joined rows.new.blocks) ≤ length (joined rows.old.blocks) + 1 }
+    ensures spare { rows.old.spare ≤ rows.new.spare + 1 }
+    ensures there { OnSome result (rows.new ≡ rows.old) }
+{
+    let blocks = rows.blocks();
+    match place_of(blocks, row.dir, row.name) {
+        Ok(spot) => Some(blocks[spot.block].as_slice()[spot.at].ino),
+        Err(spot) => {
+            rows.insert(spot, row);
+            None
+        }
     }
 }
 
 /// Puts a row in its place, or in that of the row that has its name.
 pub fn put_row(rows: &mut RowBuffer, row: DirRow)
-    requires in_order { AreInOrder rows.old.rows }
-    requires room { length rows.old.rows < rows.old.capacity }
-    ensures put { entries_of rows.new.rows
-        ≡ put place_cmp (row.dir, row.name) row.ino (entries_of rows.old.rows) }
-    ensures len { length rows.new.rows ≤ length rows.old.rows + 1 }
-    ensures capacity { rows.new.capacity ≡ rows.old.capacity }
+    requires in_order { AreInOrder (joined rows.old.blocks) }
+    requires spare { 0 < rows.old.spare }
+    ensures put { entries_of (joined rows.new.blocks)
+        ≡ put place_cmp (row.dir, row.name) row.ino (entries_of (joined rows.old.blocks)) }
+    ensures len { length (joined rows.new.blocks) ≤ length (joined rows.old.blocks) + 1 }
+    ensures spare { rows.old.spare ≤ rows.new.spare + 1 }
 {
-    match place_of(rows.as_slice(), row.dir, row.name) {
-        Ok(at) => rows.replace(at, row),
-        Err(at) => rows.insert(at, row),
+    match place_of(rows.blocks(), row.dir, row.name) {
+        Ok(spot) => rows.replace(spot, row),
+        Err(spot) => rows.insert(spot, row),
     }
 }
 
 /// Removes the row of the name, and answers its number.
 pub fn remove_row(rows: &mut RowBuffer, dir: u8, name: u32) -> Option<u64>
-    requires { AreInOrder rows.old.rows }
-    ensures number { result ≡ map_of.find place_cmp (dir, name) (entries_of rows.old.rows) }
-    ensures removed { entries_of rows.new.rows
-        ≡ where_key place_cmp (is_other (dir, name)) (entries_of rows.old.rows) }
-    ensures fewer { length rows.new.rows ≤ length rows.old.rows }
-    ensures one_fewer { OnSome result (length rows.new.rows < length rows.old.rows) }
-    ensures absent { IfNone result (rows.new.rows ≡ rows.old.rows) }
-    ensures capacity { rows.new.capacity ≡ rows.old.capacity }
+    requires { AreInOrder (joined rows.old.blocks) }
+    ensures number { result
+        ≡ map_of.find place_cmp (dir, name) (entries_of (joined rows.old.blocks)) }
+    ensures removed { entries_of (joined rows.new.blocks)
+        ≡ where_key place_cmp (is_other (dir, name)) (entries_of (joined rows.old.blocks)) }
+    ensures fewer { length (joined rows.new.blocks) ≤ length (joined rows.old.blocks) }
+    ensures one_fewer { OnSome result
+        (length (joined rows.new.blocks) < length (joined rows.old.blocks)) }
+    ensures absent { IfNone result (rows.new ≡ rows.old) }
+    ensures spare { rows.new.spare ≡ rows.old.spare }
 {
-    match place_of(rows.as_slice(), dir, name) {
-        Ok(at) => Some(rows.remove(at).ino),
+    match place_of(rows.blocks(), dir, name) {
+        Ok(spot) => Some(rows.remove(spot).ino),
         Err(_) => None,
     }
 }
 
 /// How many names the directory has.
-pub fn count_of(rows: &[DirRow], dir: u8) -> u32
-    requires in_order { AreInOrder rows.now }
-    requires few { length rows.now < 2 ^ 32 }
-    ensures { result ≡ length (filter (λ e. e.0.0 == dir) (entries_of rows.now)) }
+pub fn count_of(rows: &RowBuffer, dir: u8) -> u32
+    requires known { dir < 64 }
+    requires in_order { AreInOrder (joined rows.now.blocks) }
+    requires few { length (joined rows.now.blocks) < 2 ^ 32 }
+    ensures { result
+        ≡ length (filter (λ e. e.0.0 == dir) (entries_of (joined rows.now.blocks))) }
 {
-    let start = rows.partition_point(|row| row.dir < dir);
-    let end = rows.partition_point(|row| row.dir <= dir);
+    let blocks = rows.blocks();
+    let start = row_number(blocks, cut(blocks, dir, 0));
+    let end = row_number(blocks, cut(blocks, dir + 1, 0));
     (end - start) as u32
 }
 
 /// The first name of the directory after this one.
-pub fn next_of(rows: &[DirRow], dir: u8, after: Option<u32>) -> Option<u32>
-    requires { AreInOrder rows.now }
+pub fn next_of(rows: &RowBuffer, dir: u8, after: Option<u32>) -> Option<u32>
+    requires { AreInOrder (joined rows.now.blocks) }
     ensures { result ≡ option_map (λ e. e.0.1)
-        (find (λ e. (e.0.0 == dir) && comes_after after e.0.1) (entries_of rows.now)) }
+        (find (λ e. (e.0.0 == dir) && comes_after after e.0.1)
+        (entries_of (joined rows.now.blocks))) }
 {
-    let at = place_after(rows, dir, after);
-    if at < rows.len() && rows[at].dir == dir {
-        Some(rows[at].name)
-    } else {
-        None
+    let blocks = rows.blocks();
+    match row_from(blocks, place_after(blocks, dir, after)) {
+        Some(row) if row.dir == dir => Some(row.name),
+        _ => None,
     }
 }
 
 // Where the names of the directory after this one begin.
-fn place_after(rows: &[DirRow], dir: u8, after: Option<u32>) -> usize
-    requires { AreInOrder rows.now }
-    ensures { BeginAfter rows.now dir after result }
+fn place_after(blocks: &[Block], dir: u8, after: Option<u32>) -> Spot
+    requires filled { AreFilled blocks.now }
+    requires in_order { AreInOrder (joined blocks.now) }
+    ensures gap { IsGap blocks.now result }
+    ensures begin { BeginAfter (joined blocks.now) dir after (rows_before blocks.now result) }
 {
     match after {
-        None => rows.partition_point(|row| row.dir < dir),
-        Some(name) => rows.partition_point(|row| (row.dir, row.name).cmp(&(dir, name)).is_le()),
+        None => cut(blocks, dir, 0),
+        Some(name) => cut(blocks, dir, u64::from(name) + 1),
     }
 }

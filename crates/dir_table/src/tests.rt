@@ -16,6 +16,14 @@ fn does(rt: &impl Abort, dir: &mut Dir, call: DirCall, reply: DirReply)
     assert_eq!(rt; dir.apply(&call), reply);
 }
 
+// Compares the rows.
+fn has(rt: &impl Abort, dir: &Dir, rows: &[DirRow]) {
+    assert_eq!(rt; dir.rows().len(), rows.len());
+    for (row, other) in dir.rows().zip(rows) {
+        assert_eq!(rt; *row, *other);
+    }
+}
+
 #[test]
 fn calls_are_answered_by_the_names_that_are_there(rt: HostRuntime) -> Result<(), Fail> {
     let mut dir = Dir::open(rt.alloc(), 2, 10)?;
@@ -92,7 +100,7 @@ fn calls_are_answered_by_the_names_that_are_there(rt: HostRuntime) -> Result<(),
         name: 1,
         ino: 1,
     };
-    assert_eq!(rt; dir.rows(), [row].as_slice());
+    has(&rt, &dir, [row].as_slice());
     Ok(())
 }
 
@@ -130,7 +138,27 @@ fn names_come_in_at_either_end_and_in_the_middle(rt: HostRuntime) -> Result<(), 
         row(6, 2),
         row(7, 1),
     ];
-    assert_eq!(rt; dir.rows(), rows.as_slice());
+    has(&rt, &dir, rows.as_slice());
+    Ok(())
+}
+
+#[test]
+fn blocks_are_divided_and_given_back(rt: HostRuntime) -> Result<(), Fail> {
+    let mut dir = Dir::open(rt.alloc(), 1000, 2000)?;
+    for name in 0..1000 {
+        makes(&rt, &mut dir, 999 - name, u64::from(name) + 1);
+    }
+    assert_eq!(rt; dir.rows().len(), 1000);
+    assert_eq!(rt; dir.count(0), DirReply::Number(1000));
+    for (place, row) in dir.rows().enumerate() {
+        assert_eq!(rt; row.name as usize, place);
+    }
+    for name in 1..1000 {
+        let dropped = DirCall::Drop { dir: 0, name };
+        does(&rt, &mut dir, dropped, DirReply::Done);
+    }
+    has(&rt, &dir, [row(0, 1000)].as_slice());
+    assert_eq!(rt; dir.next(0, Some(0)), DirReply::End);
     Ok(())
 }
 

@@ -1,4 +1,5 @@
 pub mod Filters
 pub mod KeptOnce
 pub mod LegalMerge
+pub mod LongerHistories
 pub mod Points

@@ -1,9 +1,9 @@
 -- What an index into a list reads.
 use Rattle.std.proofs.Common.{◌≡◌, ◌⊎◌, ℕ, zero, suc, ◌+◌, ◌<◌, List, [], ◌∷◌, ◌++◌, map, inl, inr, ⊎_elim, subst, length-append, length, get_or, sym, refl, ap, ◌∙◌, arith, slice_get, Some, None, Option, IsSomeAnd, All}
 use native.Mathlib.Decide.{dec_lt}
-use Rattle.policy_versions.specs.Rule.{IsAmong, version_of, which_of, word_of}
+use Rattle.policy_versions.specs.Rule.{IsAmong, IsPublished, version_of, which_of, word_of}
 use Rattle.policy_versions.specs.Places.{RegistryId}
-use Rattle.policy_versions.specs.Models.{AreRows, words_of, PassModel, fresh, AreFresh, IsClosed}
+use Rattle.policy_versions.specs.Models.{AreRows, IsRow, words_of, PassModel, fresh, AreFresh, IsClosed}
 
 module _ {A : Type 0} where
   pub some_same : (a b : A) → Some a ≡ Some b → a ≡ b
@@ -49,6 +49,20 @@ words_more rows r = ap (λ l. 0 ∷ l) (map-more rows r)
 
 pub words_long : (rows : List (ℕ × ℕ)) → length (words_of rows) ≡ length rows + 1
 words_long rows = let e = map-long rows in omega arith
+
+row_at : (rows : List (ℕ × ℕ)) (i word : ℕ) → slice_get (map (λ (x : ℕ × ℕ). word_of x.0 x.1) rows) i ≡ Some word → (r : ℕ × ℕ) × (slice_get rows i ≡ Some r) × (word_of r.0 r.1 ≡ word)
+row_at [] i word e = absurd (cc)
+row_at (x ∷ xs) zero word e = (x, refl, some_same _ word e)
+row_at (x ∷ xs) (suc i) word e = row_at xs i word e
+
+row_of_word : (rows : List (ℕ × ℕ)) (word version : ℕ) → AreRows rows → version ≡ version_of word → slice_get (words_of rows) version ≡ Some word → IsRow rows version (which_of word)
+row_of_word rows word zero are is e = let same : 0 ≡ word = some_same 0 word e in ap Some (λ j. (zero, (let none : 0 ≡ which_of word = omega (arith, same) in none) j))
+row_of_word rows word (suc i) are is e = let r = row_at rows i word e in let first : r.0.0 ≡ suc i = (let e = are i r.0 r.1 in omega (arith, e)) in
+    let second : r.0.1 ≡ which_of word = (let w = r.2 in omega (arith, w, first, is)) in r.1 ∙ ap Some (λ j. (first j, second j))
+
+-- a word that was published tells a row
+pub published_row : (rows : List (ℕ × ℕ)) (word : ℕ) → AreRows rows → IsPublished (words_of rows) word → IsRow rows (version_of word) (which_of word)
+published_row rows word are e = row_of_word rows word (version_of word) are refl e
 
 pub get_within : {A : Type 0} (xs : List A) (i : ℕ) (x : A) → slice_get xs i ≡ Some x → i < length xs
 get_within [] i x e = absurd (cc)

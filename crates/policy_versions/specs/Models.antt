@@ -3,7 +3,7 @@ use Rattle.std.specs.Prelude.{◌≡◌, ℕ, ◌+◌, ◌<◌, ◌≤◌, Bool,
 use Rattle.policy_versions.specs.declared.instance.Instance.{Instance}
 use Rattle.policy_versions.specs.declared.place.Place.{Place}
 use Rattle.policy_versions.specs.Places.{RegistryId, registry_of}
-use Rattle.policy_versions.specs.Rule.{IsAmong, version_of, which_of, word_of}
+use Rattle.policy_versions.specs.Rule.{IsAmong, VERSIONS, version_of, which_of, word_of}
 
 -- a user's pass: the words that it has loaded, the last one first, and whether a use is open
 pub record PassModel : Type 0 where
@@ -66,10 +66,18 @@ pub record Tries (old new : PassModel) (result : Option UsingModel) : Type 0 whe
   pub names : IfSome result (λ u. (u.version ≡ version_of word) × (u.which ≡ which_of word))
   pub newest : IsNewest old.seen (version_of word)
 
+-- so many publications can be counted that a version fits below its policy's place
+abbrev pub IsVersion : ℕ → Type 0
+IsVersion version = version < VERSIONS
+
+-- the pair is the row of its version; version 0 is the first policy
+abbrev pub IsRow : List (ℕ × ℕ) → ℕ → ℕ → Type 0
+IsRow rows version which = slice_get ((0, 0) ∷ rows) version ≡ Some (version, which)
+
 -- the eight places of a registry, by number
 abbrev pub ArePlaces : RegistryId → List Place → Type 0
 ArePlaces registry places = (i : ℕ) → i < 8 → (p : Place) × (slice_get places i ≡ Some p) × (registry_of p.counted ≡ registry) × (p.counted.index ≡ i)
 
--- the pass is of the registry, and no use of it is open
+-- the pass is of the registry, whose table alone says which it is, and no use of it is open
 abbrev pub IsClosed : RegistryId → PassModel → Type 0
-IsClosed registry pass = (pass.registry ≡ registry) × (pass.is_open ≡ false)
+IsClosed registry pass = (pass.registry.table ≡ registry.table) × (pass.is_open ≡ false)

@@ -6,15 +6,19 @@ use Rattle.atomic_table.specs.Table.{State, Me}
 use Rattle.shfl_policy.specs.Policies.{PolicyModel}
 use Rattle.policy_versions.specs.declared.view.View.{View}
 
+-- a version is below this
+abbrev pub VERSIONS : ℕ
+VERSIONS = 4294967296
+
 -- the word of a version and of its policy's place among the declared ones
 abbrev pub word_of : ℕ → ℕ → ℕ
-word_of version which = version + 4294967296 * which
+word_of version which = version + VERSIONS * which
 
 abbrev pub version_of : ℕ → ℕ
-version_of word = word % 4294967296
+version_of word = word % VERSIONS
 
 abbrev pub which_of : ℕ → ℕ
-which_of word = word / 4294967296
+which_of word = word / VERSIONS
 
 abbrev pub IsAmong : ℕ → List ℕ → Type 0
 IsAmong n [] = ⊥

@@ -1,5 +1,6 @@
 //! A place for an instance, and who may fill or read it.
-ghost use Rattle.std.specs.Prelude.{◌≡◌, ◌<◌, ◌≤◌, IfSome, IsSomeAnd, IsTrue, Some, None};
+ghost use Rattle.std.specs.Prelude.{◌≡◌, ◌<◌, ◌≤◌, ◌↔◌, IfOk, IfErr, IfSome, IsSomeAnd, IsTrue, Some, None};
+ghost use Rattle.policy_versions.specs.Turning.{IsUnread};
 ghost use Rattle.policy_versions.specs.Places.{IsDeclared};
 ghost use Rattle.policy_versions.specs.declared.instance.Instance.{Instance};
 
@@ -23,16 +24,26 @@ impl Fits for Instance {
     ghost fits = { IsDeclared };
 }
 
-/// One of the eight places: an instance or none, with its word.
+/// One of the eight places: an instance or none, with its word. The spare words behind it are as long as a cache line, so that whoever
+/// counts at a place disturbs nobody at the next one.
 #[derive(Drop)]
 pub struct Place {
     pub counted: Counted<Option<Instance>>,
+    spare: [u64; 8],
 }
 
 /// The right to fill a place, or none. No reader shares it.
 pub struct Right<'a> {
     pub claim: Option<Claim<'a, Option<Instance>>>,
     pub ghost fills: { ∥ IfSome claim (λ c. c.right ≡ 2) ∥₁ },
+}
+
+/// A try to read that gained nothing: the word that was loaded, and the word that the exchange found, or the same where none was
+/// tried.
+#[derive(Clone, Copy)]
+pub struct Unread {
+    pub loaded: u64,
+    pub word: u64,
 }
 
 /// The right to read a place.
@@ -65,23 +76,28 @@ impl Place {
     {
         Place {
             counted: Counted::new(None, id),
+            spare: [0; 8],
         }
     }
 
     /// One try to read: a load, and a compare and exchange where an instance stands there and one more reader fits.
-    pub fn read<'a>(&'a self) -> Option<Reading<'a>>
-        ensures { IfSome result (λ r. r.claim.tag ≡ self.now.counted) }
+    pub fn read<'a>(&'a self) -> Result<Reading<'a>, Unread>
+        ensures reading { IfOk result (λ r. r.claim.tag ≡ self.now.counted) }
+        ensures unread { IfErr result (λ u. IsUnread u.loaded u.word) }
     {
-        let word = self.counted.load();
-        if word % 4 != PRESENT || word / 4 % 0x4000_0000 >= MOST_READERS {
-            return None;
+        let loaded = self.counted.load();
+        if loaded % 4 != PRESENT || loaded % 0x1_0000_0000 / 4 >= MOST_READERS {
+            return Err(Unread {
+                loaded,
+                word: loaded,
+            });
         }
-        let (found, claim) = self.counted.turn(word, word + ONE_READER);
-        if found != word {
+        let (word, claim) = self.counted.turn(loaded, loaded + ONE_READER);
+        if word != loaded {
             claim.done();
-            return None;
+            return Err(Unread { loaded, word });
         }
-        Some(Reading { claim })
+        Ok(Reading { claim })
     }
 }
 
@@ -107,7 +123,9 @@ impl<'a> Reading<'a> {
     /// Whether it is a copy of that declared policy. Every instance that was put there equals the policy that it names, so the
     /// two numbers tell.
     pub fn shows(&self, which: u32) -> bool
-        ensures { IsTrue result → (x : Instance) × (self.now.claim.value ≡ Some (Some x))
+        ensures exact { IsTrue result ↔ (x : Instance) × (self.now.claim.value ≡ Some (Some x))
+            × (x.which ≡ which) }
+        ensures declared { IsTrue result → (x : Instance) × (self.now.claim.value ≡ Some (Some x))
             × (x.which ≡ which) × IsDeclared self.now.claim.tag x }
     {
         match self.shown() {

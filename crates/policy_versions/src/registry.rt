@@ -101,7 +101,7 @@ pub struct Using<'r> {
 impl<'r> Model for Using<'r> {
     ghost use Rattle.std.specs.Prelude.{◌≡◌, ◌%◌, Some, slice_get};
     ghost use Rattle.policy_versions.specs.Places.{registry_of};
-    ghost use Rattle.policy_versions.specs.Models.{UsingModel};
+    ghost use Rattle.policy_versions.specs.Models.{UsingModel, IsVersion};
     ghost use Rattle.policy_versions.specs.declared.instance.Instance.{Instance};
 
     ghost Value = { UsingModel };
@@ -113,7 +113,7 @@ impl<'r> Model for Using<'r> {
       which = u.which;
     } };
 
-    ghost invariant = { λ u. (u.reading.claim.tag.index ≡ u.version % 8)
+    ghost invariant = { λ u. IsVersion u.version × (u.reading.claim.tag.index ≡ u.version % 8)
         × ((x : Instance) × (u.reading.claim.value ≡ Some (Some x))
         × (slice_get (registry_of u.reading.claim.tag).declared u.which ≡ Some x.policy)) };
 }

@@ -1,12 +1,14 @@
 //! Registries, their publishers and their users.
-ghost use Rattle.std.specs.Prelude.{◌≡◌, ◌+◌, ◌<◌, ◌≤◌, All, length, vec_len, IfOk};
+ghost use Rattle.std.specs.Prelude.{◌≡◌, ◌+◌, ◌<◌, ◌≤◌, All, length, vec_len, IfOk, true};
 ghost use Rattle.policy_versions.specs.Models.{IsClosed, next_version};
 
-use crate::registry::{Publisher, Registry, VersionPass};
-use crate::turns::SlotTurns;
+use crate::place::{Place, Right};
+use crate::registry::{Publisher, Registry, Using, VersionPass};
+use crate::turns::{Lost, SlotTurns, Turns};
 use bpf_isa::Profile;
 use shfl_policy::{Policy, PolicySource, load};
 use std::alloc::Global;
+use std::fmt::Write;
 use std::process::Abort;
 use std::sync::Wait;
 use std::test::Fail;
@@ -123,48 +125,236 @@ fn a_place_in_use_is_not_filled(rt: HostRuntime) -> Result<(), Fail> {
     Ok(())
 }
 
-/// Each user, the last one first, enters the current version and stays while the next version is published for the next user. Behind
-/// the last one, and after each but the first has left, the place of version 8 is in use; it is free after the first has left.
+/// A user that stays in its version.
+struct Staying<'r> {
+    pass: VersionPass,
+    held: Using<'r>,
+    ghost opened: { pass.is_open ≡ true },
+    ghost of_table: { pass.registry.table ≡ held.registry.table },
+    ghost of_user: { held.user ≡ pass.user },
+}
+
+/// The user leaves.
+fn leave_one(registry: &Registry, staying: Staying<'_>)
+    requires { staying.held.registry ≡ registry.now }
+{
+    let Staying { mut pass, held } = staying;
+    pass.leave(registry, held);
+}
+
+/// Every version is in use. The place of the next one is free only once the user of the eighth last has left; the user of the last one
+/// stays in its version all the while.
+fn leave_in_order(
+    rt: &impl Abort,
+    alloc: Global,
+    registry: &Registry,
+    publisher: &mut Publisher,
+    first: Staying<'_>,
+    fourth: Staying<'_>,
+    last: Staying<'_>,
+)
+    requires registry { publisher.old.registry ≡ registry.now }
+    requires declared { 0 < length registry.now.declared }
+    requires rows { length publisher.old.rows ≡ 7 }
+    requires first { first.held.registry ≡ registry.now }
+    requires fourth { fourth.held.registry ≡ registry.now }
+    requires last { last.held.registry ≡ registry.now }
+    ensures registry { publisher.new.registry ≡ registry.now }
+{
+    refuse_one(rt, alloc, registry, publisher);
+    leave_one(registry, fourth);
+    refuse_one(rt, alloc, registry, publisher);
+    leave_one(registry, first);
+    publish_one(rt, alloc, registry, publisher, 8);
+    assert_eq!(rt; last.held.version(), 7);
+    assert_eq!(rt; last.held.policy(registry).name(), 0);
+    leave_one(registry, last);
+}
+
+/// The next user enters the current version.
+fn stay<'r, R: Abort + Wait>(
+    rt: &R,
+    registry: &'r Registry,
+    passes: &mut Vec<VersionPass>,
+    version: u64,
+) -> Staying<'r>
+    requires { All (IsClosed registry.now) passes.old.items }
+    ensures passes { All (IsClosed registry.now) passes.new.items }
+    ensures held { result.held.registry ≡ registry.now }
+{
+    let Some(mut pass) = passes.pop() else {
+        panic!(rt; "no pass")
+    };
+    let held = pass.enter(rt, registry);
+    assert_eq!(rt; held.version(), version);
+    Staying { pass, held }
+}
+
+/// The users of versions 4 to 7 enter, with those of the first and the fourth version inside.
+fn hold_last<R: Abort + Wait>(
+    rt: &R,
+    alloc: Global,
+    registry: &Registry,
+    publisher: &mut Publisher,
+    passes: &mut Vec<VersionPass>,
+    first: Staying<'_>,
+    fourth: Staying<'_>,
+)
+    requires registry { publisher.old.registry ≡ registry.now }
+    requires declared { 0 < length registry.now.declared }
+    requires rows { length publisher.old.rows ≡ 4 }
+    requires passes { All (IsClosed registry.now) passes.old.items }
+    requires first { first.held.registry ≡ registry.now }
+    requires fourth { fourth.held.registry ≡ registry.now }
+{
+    let fifth = stay(rt, registry, passes, 4);
+    publish_one(rt, alloc, registry, publisher, 5);
+    let sixth = stay(rt, registry, passes, 5);
+    publish_one(rt, alloc, registry, publisher, 6);
+    let seventh = stay(rt, registry, passes, 6);
+    publish_one(rt, alloc, registry, publisher, 7);
+    let last = stay(rt, registry, passes, 7);
+    leave_in_order(rt, alloc, registry, publisher, first, fourth, last);
+    leave_one(registry, fifth);
+    leave_one(registry, sixth);
+    leave_one(registry, seventh);
+}
+
+/// The users of the first four versions enter.
 fn hold_each<R: Abort + Wait>(
     rt: &R,
     alloc: Global,
     registry: &Registry,
     publisher: &mut Publisher,
-    passes: Vec<VersionPass>,
-    version: u64,
+    passes: &mut Vec<VersionPass>,
 )
     requires registry { publisher.old.registry ≡ registry.now }
     requires declared { 0 < length registry.now.declared }
-    requires rows { length publisher.old.rows ≡ version }
-    requires few { version + vec_len passes ≤ 8 }
-    requires passes { All (IsClosed registry.now) passes.items }
-    ensures registry { publisher.new.registry ≡ registry.now }
-    ensures rows { length publisher.new.rows ≤ 8 }
+    requires rows { length publisher.old.rows ≡ 0 }
+    requires passes { All (IsClosed registry.now) passes.old.items }
 {
-    let mut passes = passes;
-    let Some(mut pass) = passes.pop() else {
-        return;
-    };
-    let held = pass.enter(rt, registry);
-    assert_eq!(rt; held.version(), version);
-    if version < 7 {
-        publish_one(rt, alloc, registry, publisher, version + 1);
-        hold_each(rt, alloc, registry, publisher, passes, version + 1);
-    } else {
-        refuse_one(rt, alloc, registry, publisher);
-    }
-    pass.leave(registry, held);
-    if version > 0 {
-        refuse_one(rt, alloc, registry, publisher);
-    }
+    let first = stay(rt, registry, passes, 0);
+    publish_one(rt, alloc, registry, publisher, 1);
+    let second = stay(rt, registry, passes, 1);
+    publish_one(rt, alloc, registry, publisher, 2);
+    let third = stay(rt, registry, passes, 2);
+    publish_one(rt, alloc, registry, publisher, 3);
+    let fourth = stay(rt, registry, passes, 3);
+    publish_one(rt, alloc, registry, publisher, 4);
+    hold_last(rt, alloc, registry, publisher, passes, first, fourth);
+    leave_one(registry, second);
+    leave_one(registry, third);
 }
 
 #[test]
 fn all_eight_places_in_use(rt: HostRuntime) -> Result<(), Fail> {
     let alloc = rt.alloc();
-    let (registry, mut publisher, passes) = Registry::open(alloc, policies(alloc, 1)?, 8)?;
-    hold_each(&rt, alloc, &registry, &mut publisher, passes, 0);
-    publish_one(&rt, alloc, &registry, &mut publisher, 8);
+    let (registry, mut publisher, mut passes) = Registry::open(alloc, policies(alloc, 1)?, 8)?;
+    hold_each(&rt, alloc, &registry, &mut publisher, &mut passes);
+    Ok(())
+}
+
+/// Two users are in one version at once.
+fn share_one<R: Abort + Wait>(rt: &R, registry: &Registry, passes: &mut Vec<VersionPass>)
+    requires { All (IsClosed registry.now) passes.old.items }
+{
+    let one = stay(rt, registry, passes, 0);
+    let other = stay(rt, registry, passes, 0);
+    assert_eq!(rt; one.held.which(), other.held.which());
+    leave_one(registry, other);
+    leave_one(registry, one);
+}
+
+#[test]
+fn two_users_are_in_one_version(rt: HostRuntime) -> Result<(), Fail> {
+    let alloc = rt.alloc();
+    let (registry, _publisher, mut passes) = Registry::open(alloc, policies(alloc, 1)?, 2)?;
+    share_one(&rt, &registry, &mut passes);
+    Ok(())
+}
+
+/// Loses each turn, with words of its own.
+#[derive(Drop)]
+struct Loser {
+    count: u64,
+    last: Option<Lost>,
+}
+
+impl Turns for Loser {
+    ghost won = { λ _. 0 };
+
+    ghost lost = { λ t. t.count };
+
+    ghost last_lost = { λ t. t.last };
+
+    fn turn<'a>(&mut self, _place: &'a Place, _right: &mut Right<'a>) -> Result<(), Lost> {
+        let lost = Lost {
+            loaded: 0x5_0000_0001,
+            word: 0x6_0000_0009,
+        };
+        self.count = self.count.saturating_add(1);
+        self.last = Some(lost);
+        Err(lost)
+    }
+}
+
+#[test]
+fn a_refusal_has_the_words_of_the_turn_that_was_lost(rt: HostRuntime) -> Result<(), Fail> {
+    let alloc = rt.alloc();
+    let (registry, mut publisher, _passes) = Registry::open(alloc, policies(alloc, 1)?, 1)?;
+    let mut turns = Loser {
+        count: 0,
+        last: None,
+    };
+    let instance = registry.instance(alloc, 0)?;
+    match publisher.try_publish(&registry, &mut turns, instance) {
+        Ok(_) => panic!(rt; "published without a turn"),
+        Err(refused) => {
+            assert_eq!(rt;
+                (refused.loaded, refused.word),
+                (0x5_0000_0001, 0x6_0000_0009)
+            );
+            let mut told = String::new(alloc);
+            write!(told, "{refused}")?;
+            assert_eq!(rt; told.as_str(), "the place of the next version is in use");
+        }
+    }
+    publish_one(&rt, alloc, &registry, &mut publisher, 1);
+    Ok(())
+}
+
+/// Publishes the declared policies 2, 0 and 1 in turn: the user finds each under its own version.
+fn follow<R: Abort + Wait>(
+    rt: &R,
+    alloc: Global,
+    registry: &Registry,
+    publisher: &mut Publisher,
+    pass: &mut VersionPass,
+)
+    requires registry { publisher.old.registry ≡ registry.now }
+    requires declared { length registry.now.declared ≡ 3 }
+    requires rows { length publisher.old.rows ≡ 0 }
+    requires pass { IsClosed registry.now pass.old }
+{
+    for version in 1..21u64 {
+        let which = ((version + 1) % 3) as u32;
+        let instance = registry.instance(alloc, which).expect(rt, "memory");
+        assert_eq!(rt; publisher.publish(rt, registry, instance), version);
+        let held = pass.enter(rt, registry);
+        assert_eq!(rt; (held.version(), held.which()), (version, which));
+        assert_eq!(rt; held.policy(registry).name(), which);
+        pass.leave(registry, held);
+    }
+}
+
+#[test]
+fn a_use_names_its_version_and_its_policy(rt: HostRuntime) -> Result<(), Fail> {
+    let alloc = rt.alloc();
+    let (registry, mut publisher, mut passes) = Registry::open(alloc, policies(alloc, 3)?, 1)?;
+    let Some(mut pass) = passes.pop() else {
+        panic!(rt; "no pass")
+    };
+    follow(&rt, alloc, &registry, &mut publisher, &mut pass);
     Ok(())
 }
 

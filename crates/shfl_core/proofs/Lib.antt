@@ -3,3 +3,4 @@ pub mod Bounded
 pub mod Blind
 pub mod Standing
 pub mod Opening
+pub mod StaysAwake

@@ -19,6 +19,11 @@ set-again [] i a e = refl
 set-again (x ∷ xs) zero a e = ap (λ z. z ∷ xs) (sym (some-injective x a e))
 set-again (x ∷ xs) (suc i) a e = ap (λ l. x ∷ l) (set-again xs i a e)
 
+pub set-twice : {A : Type 0} (l : List A) (i : ℕ) (a b : A) → set (set l i a) i b ≡ set l i b
+set-twice [] i a b = refl
+set-twice (x ∷ xs) zero a b = refl
+set-twice (x ∷ xs) (suc i) a b = ap (λ l. x ∷ l) (set-twice xs i a b)
+
 pub set-read : (l : List ℕ) (i d : ℕ) → set l i (get_or l i d) ≡ l
 set-read [] i d = refl
 set-read (x ∷ xs) zero d = refl

@@ -1,5 +1,5 @@
 -- What a pass does next: one operation on one word, by its park state and its phase.
-use Rattle.std.specs.Prelude.{ℕ, ◌+◌, ◌*◌, ◌%◌, ◌^◌, ◌==◌, ◌&&◌, not, max, Bool, true, false, cond}
+use Rattle.std.specs.Prelude.{ℕ, ◌+◌, ◌-◌, ◌*◌, ◌%◌, ◌^◌, ◌==◌, ◌&&◌, not, max, Bool, true, false, cond}
 use Rattle.shfl_line.specs.declared.events.Form.{Form}
 use Rattle.shfl_line.specs.declared.events.Form.TheVariants.{Rw, Park, RwPark}
 use Rattle.shfl_line.specs.declared.events.Mode.{Mode}
@@ -12,6 +12,7 @@ use Rattle.shfl_core.specs.declared.phase.Nap.TheVariants.{Awake, Doze, Hear, Ro
 use Rattle.shfl_core.specs.declared.phase.PassState.{PassState}
 use Rattle.shfl_core.specs.declared.phase.Rules.{Rules}
 use Rattle.shfl_core.specs.declared.words.Word.TheVariants.{Lock, Tail as TailWord, Next as NextOf, State as StateOf, Attr as AttrOf, Bell as BellOf}
+use Rattle.shfl_line.specs.declared.words.TheConstants.{HELD, CLOSED, READER, READY, SHUFFLER, PARKED, SPIN, BATCH}
 use Rattle.shfl_core.specs.declared.words.Access.{Access}
 use Rattle.shfl_core.specs.declared.words.Access.TheVariants.{Load, Store, Swap as SwapWith, CompareSwap, Or, And, Xor, Add, Sub}
 
@@ -51,17 +52,21 @@ moving q = not (is_idle q.phase) && not (is_resting q)
 abbrev pub round_batch : Registers → ℕ
 round_batch r = max 1 r.batch
 
+-- every bit of a word but this one
+abbrev pub all_but : ℕ → ℕ
+all_but bit = 2 ^ 64 - 1 - bit
+
 -- the step of each phase; an idle pass and a holder have none, and name a load that nobody makes
 abbrev pub plan_at : Rules → ℕ → Registers → Phase → Access
 plan_at t p r Idle = Load Lock
 plan_at t p r Held = Load Lock
-plan_at t p r Steal = CompareSwap Lock 0 1
+plan_at t p r Steal = CompareSwap Lock 0 HELD
 plan_at t p r Init = SwapWith (StateOf p) 0
 plan_at t p r Swap = SwapWith TailWord (p + 1)
 plan_at t p r Link = Store (NextOf r.before) (p + 1)
-plan_at t p r Close = Or Lock 256
+plan_at t p r Close = Or Lock CLOSED
 plan_at t p r Look = Load (StateOf p)
-plan_at t p r Begin = Xor (StateOf p) (cond (r.batch == 0) 65536 0 + cond r.flag 2 0)
+plan_at t p r Begin = Xor (StateOf p) (cond (r.batch == 0) BATCH 0 + cond r.flag SHUFFLER 0)
 plan_at t p r Next = Load (NextOf r.prev)
 plan_at t p r Tail = Load TailWord
 plan_at t p r Attr = Load (AttrOf r.cand)
@@ -70,30 +75,30 @@ plan_at t p r After = Load (NextOf r.cand)
 plan_at t p r Pick = Store (NextOf r.prev) (r.after + 1)
 plan_at t p r Aim = Store (NextOf r.cand) (r.first + 1)
 plan_at t p r Place = Store (NextOf r.last) (r.cand + 1)
-plan_at t p r Mark = Or (StateOf r.cand) (65536 * (r.count + 1) + cond (parks t.form) 8 0)
-plan_at t p r Give = Or (StateOf r.last) 2
+plan_at t p r Mark = Or (StateOf r.cand) (BATCH * (r.count + 1) + cond (parks t.form) SPIN 0)
+plan_at t p r Give = Or (StateOf r.last) SHUFFLER
 plan_at t p r Peek = Load Lock
-plan_at t p r Grab = Or Lock 1
+plan_at t p r Grab = Or Lock HELD
 plan_at t p r WriteGrab = CompareSwap Lock r.saw ((r.saw + 1) % 2 ^ 64)
 plan_at t p r Take = SwapWith (NextOf p) 0
 plan_at t p r Cut = CompareSwap TailWord (p + 1) 0
 plan_at t p r Late = SwapWith (NextOf p) 0
-plan_at t p r Ready = Or (StateOf r.heir) 1
-plan_at t p r Open = And Lock 18446744073709551359
-plan_at t p r Release = And Lock 18446744073709551614
-plan_at t p r Count = Add Lock 4294967296
-plan_at t p r Uncount = Sub Lock 4294967296
-plan_at t p r TryUncount = Sub Lock 4294967296
-plan_at t p r HeadCount = Add Lock 4294967296
+plan_at t p r Ready = Or (StateOf r.heir) READY
+plan_at t p r Open = And Lock (all_but CLOSED)
+plan_at t p r Release = And Lock (all_but HELD)
+plan_at t p r Count = Add Lock READER
+plan_at t p r Uncount = Sub Lock READER
+plan_at t p r TryUncount = Sub Lock READER
+plan_at t p r HeadCount = Add Lock READER
 plan_at t p r HeadLook = Load Lock
-plan_at t p r ReadRelease = Sub Lock 4294967296
+plan_at t p r ReadRelease = Sub Lock READER
 
 -- the step of each park state; awake, it is the phase's own
 abbrev pub plan_by : Rules → ℕ → Registers → Nap → Phase → Access
 plan_by t p r Awake f = plan_at t p r f
-plan_by t p r Doze f = Or (StateOf p) 4
+plan_by t p r Doze f = Or (StateOf p) PARKED
 plan_by t p r Hear f = SwapWith (BellOf p) 0
-plan_by t p r Rouse f = And (StateOf p) 18446744073709551611
+plan_by t p r Rouse f = And (StateOf p) (all_but PARKED)
 plan_by t p r (Ring whom) f = Store (BellOf whom) 1
 
 -- the next step of the pass p, which stands at q
@@ -102,5 +107,5 @@ plan t p q = plan_by t p q.reg q.nap q.phase
 
 -- the one operation of an attempt to take the lock without queueing
 abbrev pub attempt_plan : Mode → Access
-attempt_plan Write = CompareSwap Lock 0 1
-attempt_plan Read = Add Lock 4294967296
+attempt_plan Write = CompareSwap Lock 0 HELD
+attempt_plan Read = Add Lock READER

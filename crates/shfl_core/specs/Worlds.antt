@@ -1,5 +1,5 @@
 -- The words of a lock with its passes: the opening, the moves, and the runs.
-use Rattle.std.specs.Prelude.{ℕ, suc, List, [], ◌∷◌, Bool, cond, slice_index_or, slice_set}
+use Rattle.std.specs.Prelude.{ℕ, suc, List, [], ◌∷◌, ◌++◌, Bool, cond, replicate, slice_index_or, slice_set}
 use Rattle.shfl_line.specs.declared.events.Mode.{Mode}
 use Rattle.shfl_line.specs.declared.words.Attr.{Attr}
 use Rattle.shfl_line.specs.Words.{attr_word}
@@ -19,16 +19,17 @@ pub record World : Type 0 where
 abbrev pub known : List PassState → ℕ → PassState
 known passes p = slice_index_or passes p (idle p)
 
--- the four words of a pass at the opening: all 0 but its attributes
+-- the sixteen words of a pass at the opening: its next, state, attribute and wakeup word, and twelve to spare
 abbrev pub node : ℕ → List ℕ
-node attr = 0 ∷ 0 ∷ attr ∷ 0 ∷ []
+node attr = 0 ∷ 0 ∷ attr ∷ 0 ∷ replicate 12 0
 
 abbrev pub node_words : List Attr → List ℕ
 node_words [] = []
-node_words (a ∷ rest) = 0 ∷ 0 ∷ attr_word a ∷ 0 ∷ node_words rest
+node_words (a ∷ rest) = node (attr_word a) ++ node_words rest
 
+-- the lock word and the tail word, each with fifteen to spare, and then the passes' words
 abbrev pub opening_words : List Attr → List ℕ
-opening_words attrs = 0 ∷ 0 ∷ node_words attrs
+opening_words attrs = replicate 32 0 ++ node_words attrs
 
 -- the passes from p on, idle
 abbrev pub idle_from : ℕ → List Attr → List PassState

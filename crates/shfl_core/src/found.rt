@@ -1,13 +1,15 @@
 //! Where a pass goes by what its step found.
-ghost use Rattle.std.specs.Prelude.{◌≡◌, ◌≤◌};
+ghost use Rattle.std.specs.Prelude.{◌≡◌, ◌≤◌, cond};
 ghost use Rattle.shfl_core.specs.Plan as plan;
 ghost use Rattle.shfl_core.specs.Take as take;
 ghost use Rattle.shfl_core.specs.Words as words;
+ghost use Rattle.shfl_core.specs.declared.phase.Nap.TheVariants.{Awake, Ring};
 
-use crate::phase::{Nap, PassState, Phase, Registers, Rules};
-use shfl_line::{Form, Mode};
+use crate::phase::{Nap, PassState, Phase, Rules};
+use shfl_line::{Form, Mode, PARKED, READER, SPIN};
 
 /// Whether waiters park in this form.
+#[inline(always)]
 pub fn parks(form: Form) -> bool
     ensures { result ≡ plan.parks form }
 {
@@ -15,6 +17,7 @@ pub fn parks(form: Form) -> bool
 }
 
 /// Whether readers may hold the lock in this form.
+#[inline(always)]
 pub fn shares(form: Form) -> bool
     ensures { result ≡ plan.shares form }
 {
@@ -22,32 +25,46 @@ pub fn shares(form: Form) -> bool
 }
 
 /// Whether the lock word `lock` leaves the lock free for this mode.
+#[inline(always)]
 pub fn free_for(mode: Mode, lock: u64) -> bool
     ensures { result ≡ words.free_for mode lock }
 {
     match mode {
-        Mode::Write => lock % 2 != 1 && lock / 4294967296 == 0,
+        Mode::Write => lock % 2 != 1 && lock / READER == 0,
         Mode::Read => lock % 2 != 1,
     }
 }
 
 // Whether the state word `state` is that of a parked pass that nobody has woken.
+#[inline(always)]
 pub(crate) fn sleeps(rules: Rules, state: u64) -> bool
     ensures { result ≡ take.sleeps rules state }
 {
-    parks(rules.form) && state / 4 % 2 == 1 && state % 2 != 1 && state / 8 % 2 != 1
+    parks(rules.form) && state / PARKED % 2 == 1 && state % 2 != 1 && state / SPIN % 2 != 1
 }
 
-pub(crate) fn to(phase: Phase, reg: Registers) -> PassState
-    ensures { result ≡ take.to phase reg }
+// The park state of a pass that has just called `whom`, whose state word was `state` before: it rings where that pass sleeps.
+#[inline(always)]
+fn rings(rules: Rules, state: u64, whom: u32) -> Nap
+    ensures { result ≡ cond (take.sleeps rules state) (Ring whom) Awake }
 {
-    PassState {
-        phase,
-        reg,
-        nap: Nap::Awake,
+    if sleeps(rules, state) {
+        Nap::Ring { whom }
+    } else {
+        Nap::Awake
     }
 }
 
+// The pass goes to the phase, awake.
+#[inline(always)]
+pub(crate) fn go(pass: &mut PassState, phase: Phase)
+    ensures { pass.new ≡ take.to phase pass.old.reg }
+{
+    pass.phase = phase;
+    pass.nap = Nap::Awake;
+}
+
+#[inline(always)]
 pub(crate) fn seek(mode: Mode) -> Phase
     ensures { result ≡ take.seek mode }
 {
@@ -57,189 +74,179 @@ pub(crate) fn seek(mode: Mode) -> Phase
     }
 }
 
-pub(crate) fn top(reg: Registers) -> PassState
-    ensures { result ≡ take.top reg }
+#[inline(always)]
+pub(crate) fn done(pass: &mut PassState)
+    ensures { pass.new ≡ take.to (take.done pass.old.reg) pass.old.reg }
 {
-    if reg.batch == 0 || reg.flag {
-        let reg = Registers {
-            headed: true,
-            ..reg
-        };
-        return to(Phase::Begin, reg);
-    }
-    to(seek(reg.mode), reg)
-}
-
-pub(crate) fn done(reg: Registers) -> Phase
-    ensures { result ≡ take.done reg }
-{
-    if reg.headed {
-        seek(reg.mode)
+    let phase = if pass.reg.headed {
+        seek(pass.reg.mode)
     } else {
         Phase::Look
-    }
+    };
+    go(pass, phase);
 }
 
-pub(crate) fn swap_found(reg: Registers, found: u64) -> PassState
+#[inline(always)]
+pub(crate) fn top(pass: &mut PassState)
+    ensures { pass.new ≡ take.top pass.old.reg }
+{
+    if pass.reg.batch == 0 || pass.reg.flag {
+        pass.reg.headed = true;
+        go(pass, Phase::Begin);
+        return;
+    }
+    let phase = seek(pass.reg.mode);
+    go(pass, phase);
+}
+
+#[inline(always)]
+pub(crate) fn swap_found(pass: &mut PassState, found: u64)
     requires { found ≤ 4294967296 }
-    ensures { result ≡ take.swap_found reg found }
+    ensures { pass.new ≡ take.swap_found pass.old.reg found }
 {
     if found == 0 {
-        return to(Phase::Close, reg);
+        go(pass, Phase::Close);
+        return;
     }
-    let before = (found - 1) as u32;
-    to(Phase::Link, Registers { before, ..reg })
+    pass.reg.before = (found - 1) as u32;
+    go(pass, Phase::Link);
 }
 
-pub(crate) fn looked(rules: Rules, reg: Registers, ready: bool) -> PassState
-    ensures { result ≡ take.looked rules reg ready }
+#[inline(always)]
+pub(crate) fn looked(rules: Rules, pass: &mut PassState, ready: bool)
+    ensures { pass.new ≡ take.looked rules pass.old.reg ready }
 {
     if ready {
-        return top(reg);
+        top(pass);
+        return;
     }
-    if reg.flag {
-        let reg = Registers {
-            headed: false,
-            ..reg
-        };
-        return to(Phase::Begin, reg);
+    if pass.reg.flag {
+        pass.reg.headed = false;
+        go(pass, Phase::Begin);
+        return;
     }
-    let nap = if parks(rules.form) && reg.batch == 0 {
+    pass.phase = Phase::Look;
+    pass.nap = if parks(rules.form) && pass.reg.batch == 0 {
         Nap::Doze
     } else {
         Nap::Awake
     };
-    PassState {
-        phase: Phase::Look,
-        reg,
-        nap,
-    }
 }
 
-pub(crate) fn begun(rules: Rules, me: u32, reg: Registers, skip: bool) -> PassState
-    ensures { result ≡ take.begun rules me reg skip }
+#[inline(always)]
+pub(crate) fn begun(rules: Rules, me: u32, pass: &mut PassState, skip: bool)
+    ensures { pass.new ≡ take.begun rules me pass.old.reg skip }
 {
-    if reg.batch >= rules.limit {
-        return to(done(reg), reg);
+    if pass.reg.batch >= rules.limit {
+        done(pass);
+        return;
     }
+    pass.reg.prev = me;
+    pass.reg.last = me;
+    pass.reg.count = pass.reg.batch;
     let phase = if skip { Phase::Give } else { Phase::Next };
-    let reg = Registers {
-        prev: me,
-        last: me,
-        count: reg.batch,
-        ..reg
-    };
-    to(phase, reg)
+    go(pass, phase);
 }
 
-pub(crate) fn next_found(reg: Registers, found: u64) -> PassState
+#[inline(always)]
+pub(crate) fn next_found(pass: &mut PassState, found: u64)
     requires { found ≤ 4294967296 }
-    ensures { result ≡ take.next_found reg found }
+    ensures { pass.new ≡ take.next_found pass.old.reg found }
 {
     if found == 0 {
-        return to(Phase::Give, reg);
+        go(pass, Phase::Give);
+        return;
     }
     let cand = (found - 1) as u32;
-    let first = if reg.prev == reg.last {
-        cand
-    } else {
-        reg.first
-    };
-    to(Phase::Tail, Registers { cand, first, ..reg })
+    if pass.reg.prev == pass.reg.last {
+        pass.reg.first = cand;
+    }
+    pass.reg.cand = cand;
+    go(pass, Phase::Tail);
 }
 
-pub(crate) fn decided(reg: Registers, stop: bool, choice: bool) -> PassState
-    ensures { result ≡ take.decided reg stop choice }
+#[inline(always)]
+pub(crate) fn decided(pass: &mut PassState, stop: bool, choice: bool)
+    ensures { pass.new ≡ take.decided pass.old.reg stop choice }
 {
     if stop {
-        return to(Phase::Give, reg);
+        go(pass, Phase::Give);
+        return;
     }
-    if choice {
-        let phase = if reg.prev == reg.last {
-            Phase::Mark
-        } else {
-            Phase::After
-        };
-        return to(phase, reg);
+    if !choice {
+        pass.reg.prev = pass.reg.cand;
+        go(pass, Phase::Next);
+        return;
     }
-    let reg = Registers {
-        prev: reg.cand,
-        ..reg
+    let phase = if pass.reg.prev == pass.reg.last {
+        Phase::Mark
+    } else {
+        Phase::After
     };
-    to(Phase::Next, reg)
+    go(pass, phase);
 }
 
-pub(crate) fn after_found(reg: Registers, found: u64) -> PassState
+#[inline(always)]
+pub(crate) fn after_found(pass: &mut PassState, found: u64)
     requires { found ≤ 4294967296 }
-    ensures { result ≡ take.after_found reg found }
+    ensures { pass.new ≡ take.after_found pass.old.reg found }
 {
     if found == 0 {
-        return to(Phase::Give, reg);
+        go(pass, Phase::Give);
+        return;
     }
-    let after = (found - 1) as u32;
-    to(Phase::Pick, Registers { after, ..reg })
+    pass.reg.after = (found - 1) as u32;
+    go(pass, Phase::Pick);
 }
 
-pub(crate) fn marked(rules: Rules, reg: Registers, state: u64) -> PassState
-    ensures { result ≡ take.marked rules reg state }
+#[inline(always)]
+pub(crate) fn marked(rules: Rules, pass: &mut PassState, state: u64)
+    ensures { pass.new ≡ take.marked rules pass.old.reg state }
 {
-    let more = reg.count < 65535 && reg.count + 1 < rules.limit;
-    let prev = if reg.prev == reg.last {
-        reg.cand
-    } else {
-        reg.prev
-    };
-    let nap = if sleeps(rules, state) {
-        Nap::Ring { whom: reg.cand }
-    } else {
-        Nap::Awake
-    };
-    let reg = Registers {
-        prev,
-        last: reg.cand,
-        count: reg.count.wrapping_add(1),
-        ..reg
-    };
-    let phase = if more { Phase::Next } else { Phase::Give };
-    PassState { phase, reg, nap }
+    let more = pass.reg.count < 65535 && pass.reg.count + 1 < rules.limit;
+    if pass.reg.prev == pass.reg.last {
+        pass.reg.prev = pass.reg.cand;
+    }
+    pass.reg.last = pass.reg.cand;
+    pass.reg.count = pass.reg.count.wrapping_add(1);
+    pass.phase = if more { Phase::Next } else { Phase::Give };
+    pass.nap = rings(rules, state, pass.reg.cand);
 }
 
-pub(crate) fn peeked(rules: Rules, reg: Registers, lock: u64) -> PassState
-    ensures { result ≡ take.peeked rules reg lock }
+#[inline(always)]
+pub(crate) fn peeked(rules: Rules, pass: &mut PassState, lock: u64)
+    ensures { pass.new ≡ take.peeked rules pass.old.reg lock }
 {
     if !free_for(Mode::Write, lock) {
-        return to(Phase::Peek, reg);
+        go(pass, Phase::Peek);
+        return;
     }
+    pass.reg.saw = lock;
     let phase = if shares(rules.form) {
         Phase::WriteGrab
     } else {
         Phase::Grab
     };
-    to(phase, Registers { saw: lock, ..reg })
+    go(pass, phase);
 }
 
-pub(crate) fn heir_found(none: Phase, reg: Registers, found: u64) -> PassState
+#[inline(always)]
+pub(crate) fn heir_found(none: Phase, pass: &mut PassState, found: u64)
     requires { found ≤ 4294967296 }
-    ensures { result ≡ take.heir_found none reg found }
+    ensures { pass.new ≡ take.heir_found none pass.old.reg found }
 {
     if found == 0 {
-        return to(none, reg);
+        go(pass, none);
+        return;
     }
-    let heir = (found - 1) as u32;
-    to(Phase::Ready, Registers { heir, ..reg })
+    pass.reg.heir = (found - 1) as u32;
+    go(pass, Phase::Ready);
 }
 
-pub(crate) fn readied(rules: Rules, reg: Registers, state: u64) -> PassState
-    ensures { result ≡ take.readied rules reg state }
+#[inline(always)]
+pub(crate) fn readied(rules: Rules, pass: &mut PassState, state: u64)
+    ensures { pass.new ≡ take.readied rules pass.old.reg state }
 {
-    let nap = if sleeps(rules, state) {
-        Nap::Ring { whom: reg.heir }
-    } else {
-        Nap::Awake
-    };
-    PassState {
-        phase: Phase::Held,
-        reg,
-        nap,
-    }
+    pass.phase = Phase::Held;
+    pass.nap = rings(rules, state, pass.reg.heir);
 }

@@ -18,5 +18,5 @@ pub use board::Board;
 pub use local::Local;
 pub use phase::{Ask, Nap, PassState, Phase, Registers, Rules, Watch};
 pub use waiter::Waiter;
-pub use words::{Access, Word};
+pub use words::{Access, Word, opening_words};
 pub use world::PlainWorld;

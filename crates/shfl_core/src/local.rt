@@ -3,10 +3,12 @@ ghost use Rattle.std.specs.Prelude.{◌≡◌, false};
 ghost use Rattle.shfl_line.specs.declared.events.Form.TheVariants.{Spin};
 ghost use Rattle.shfl_core.specs.Waiting.{Meaning, fresh};
 
-use crate::asks::{acquire_row, ask_row, idle_pass, is_moving, is_resting, release_row, watch_row};
+use crate::asks::{
+    acquire_row_in_place, ask_row, idle_pass, is_moving, release_row_in_place, watch_row,
+};
 use crate::phase::{Ask, Nap, PassState, Phase, Registers, Rules, Watch};
 use crate::plans::plan_row;
-use crate::rows::take_row;
+use crate::rows::take_row_in_place;
 use crate::waiter::Waiter;
 use crate::words::Access;
 use shfl_line::{Attr, Form, Mode};
@@ -27,6 +29,11 @@ impl Model for Local {
     ghost Value = { Meaning };
 
     ghost view = { λ l. record { attr = l.attr; rules = record { limit = l.limit; form = Spin }; pass = l.pass } };
+
+    ghost use Rattle.std.specs.Prelude.{◌≡◌};
+    ghost use Rattle.shfl_core.specs.declared.phase.Nap.TheVariants.{Awake};
+
+    ghost invariant = { λ l. l.pass.nap ≡ Awake };
 }
 
 impl Local {
@@ -55,15 +62,11 @@ impl Waiter for Local {
     ghost meaning = { λ l. l };
 
     fn acquire(&mut self, mode: Mode) -> bool {
-        let idle = matches!(self.pass.phase, Phase::Idle);
-        self.pass = acquire_row(mode, self.pass);
-        idle
+        acquire_row_in_place(mode, &mut self.pass)
     }
 
     fn release(&mut self) -> bool {
-        let resting = is_resting(self.pass);
-        self.pass = release_row(self.pass);
-        resting
+        release_row_in_place(&mut self.pass)
     }
 
     fn moving(&self) -> bool {
@@ -95,12 +98,7 @@ impl Waiter for Local {
     }
 
     fn take(&mut self, found: u64, choice: bool) {
-        self.pass = take_row(
-            spinning(self.limit),
-            self.pass.reg.me,
-            self.pass,
-            found,
-            choice,
-        );
+        let me = self.pass.reg.me;
+        take_row_in_place(spinning(self.limit), me, &mut self.pass, found, choice);
     }
 }

@@ -5,24 +5,10 @@ ghost use Rattle.shfl_core.specs.Plan as plan;
 use crate::found::parks;
 use crate::phase::{Nap, PassState, Phase, Registers, Rules};
 use crate::words::{Access, Word};
-
-const HELD: u64 = 1;
-
-const CLOSED: u64 = 256;
-
-const READER: u64 = 4294967296;
-
-const READY: u64 = 1;
-
-const SHUFFLER: u64 = 2;
-
-const PARKED: u64 = 4;
-
-const SPIN: u64 = 8;
-
-const BATCH: u64 = 65536;
+use shfl_line::{BATCH, CLOSED, HELD, PARKED, READER, READY, SHUFFLER, SPIN};
 
 // The operation of a phase, awake.
+#[inline(always)]
 fn phase_plan(rules: Rules, me: u32, reg: Registers, phase: Phase) -> Access
     ensures { result ≡ plan.plan_at rules me reg phase }
 {
@@ -127,11 +113,11 @@ fn phase_plan(rules: Rules, me: u32, reg: Registers, phase: Phase) -> Access
         },
         Phase::Open => Access::And {
             w: Word::Lock,
-            v: 18446744073709551615 - CLOSED,
+            v: u64::MAX - CLOSED,
         },
         Phase::Release => Access::And {
             w: Word::Lock,
-            v: 18446744073709551615 - HELD,
+            v: u64::MAX - HELD,
         },
         Phase::Count | Phase::HeadCount => Access::Add {
             w: Word::Lock,
@@ -150,9 +136,17 @@ fn phase_plan(rules: Rules, me: u32, reg: Registers, phase: Phase) -> Access
 }
 
 /// The next operation of the pass `me`, which stands at `pass`.
+#[inline(always)]
 pub fn plan_row(rules: Rules, me: u32, pass: PassState) -> Access
     ensures { result ≡ plan.plan rules me pass }
 {
+    // What takes a free lock and gives it back goes past the jump tables of the other rows.
+    if matches!(pass.nap, Nap::Awake) && matches!(pass.phase, Phase::Steal) {
+        return phase_plan(rules, me, pass.reg, Phase::Steal);
+    }
+    if matches!(pass.nap, Nap::Awake) && matches!(pass.phase, Phase::Release) {
+        return phase_plan(rules, me, pass.reg, Phase::Release);
+    }
     match pass.nap {
         Nap::Awake => phase_plan(rules, me, pass.reg, pass.phase),
         Nap::Doze => Access::Or {
@@ -165,7 +159,7 @@ pub fn plan_row(rules: Rules, me: u32, pass: PassState) -> Access
         },
         Nap::Rouse => Access::And {
             w: Word::State(me),
-            v: 18446744073709551615 - PARKED,
+            v: u64::MAX - PARKED,
         },
         Nap::Ring { whom } => Access::Store {
             w: Word::Bell(whom),

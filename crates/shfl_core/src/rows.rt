@@ -5,138 +5,165 @@ ghost use Rattle.shfl_core.specs.Take as take;
 ghost use Rattle.shfl_core.specs.Words.{is_store, site, NamesPass};
 
 use crate::found::{
-    after_found, begun, decided, done, free_for, heir_found, looked, marked, next_found, peeked,
-    readied, swap_found, to, top,
+    after_found, begun, decided, done, free_for, go, heir_found, looked, marked, next_found,
+    peeked, readied, swap_found, top,
 };
-use crate::phase::{Nap, PassState, Phase, Registers, Rules};
+use crate::phase::{Nap, PassState, Phase, Rules};
+use shfl_line::{BATCH, CLOSED, SHUFFLER, SPIN};
 
-// Where a pass at this phase, awake, stands after its step.
-fn phase_take(
-    rules: Rules,
-    me: u32,
-    reg: Registers,
-    found: u64,
-    choice: bool,
-    phase: Phase,
-) -> PassState
-    requires form { is_store (plan.plan_at rules me reg phase) ≡ false
-        → NamesPass (site (plan.plan_at rules me reg phase)) found }
-    ensures { result ≡ take.take_at rules me reg found choice phase }
+// Where a pass goes from its phase, awake.
+#[inline(always)]
+fn phase_take(rules: Rules, me: u32, pass: &mut PassState, found: u64, choice: bool)
+    requires form { is_store (plan.plan_at rules me pass.old.reg pass.old.phase) ≡ false
+        → NamesPass (site (plan.plan_at rules me pass.old.reg pass.old.phase)) found }
+    ensures { pass.new ≡ take.take_at rules me pass.old.reg found choice pass.old.phase }
 {
     let held = found % 2 == 1;
-    let next = match phase {
-        Phase::Idle | Phase::Release | Phase::TryUncount | Phase::ReadRelease => Phase::Idle,
-        Phase::Held | Phase::Open => Phase::Held,
-        Phase::Steal => { if found == 0 { Phase::Held } else { Phase::Init } }
-        Phase::Init => return to(
-            Phase::Swap,
-            Registers {
-                batch: 0,
-                flag: false,
-                ..reg
-            },
-        ),
-        Phase::Swap => return swap_found(reg, found),
-        Phase::Link => Phase::Look,
-        Phase::Close => return top(reg),
+    match pass.phase {
+        Phase::Steal => {
+            let phase = if found == 0 { Phase::Held } else { Phase::Init };
+            go(pass, phase);
+        }
+        Phase::Idle | Phase::Release | Phase::TryUncount | Phase::ReadRelease => {
+            go(pass, Phase::Idle);
+        }
+        Phase::Held | Phase::Open => go(pass, Phase::Held),
+        Phase::Init => {
+            pass.reg.batch = 0;
+            pass.reg.flag = false;
+            go(pass, Phase::Swap);
+        }
+        Phase::Swap => swap_found(pass, found),
+        Phase::Link => go(pass, Phase::Look),
+        Phase::Close => top(pass),
         Phase::Look => {
-            let batch = (found / 65536 % 65536) as u16;
-            let flag = found / 2 % 2 == 1;
-            return looked(rules, Registers { batch, flag, ..reg }, held);
+            pass.reg.batch = (found / BATCH % 65536) as u16;
+            pass.reg.flag = found / SHUFFLER % 2 == 1;
+            looked(rules, pass, held);
         }
         Phase::Begin => {
-            let batch = if reg.batch < 1 { 1 } else { reg.batch };
-            return begun(
-                rules,
-                me,
-                Registers {
-                    batch,
-                    flag: false,
-                    ..reg
-                },
-                choice,
-            );
+            if pass.reg.batch < 1 {
+                pass.reg.batch = 1;
+            }
+            pass.reg.flag = false;
+            begun(rules, me, pass, choice);
         }
-        Phase::Next => return next_found(reg, found),
+        Phase::Next => next_found(pass, found),
         Phase::Tail => {
-            if found == reg.cand as u64 + 1 {
+            let phase = if found == pass.reg.cand as u64 + 1 {
                 Phase::Give
             } else {
                 Phase::Attr
-            }
+            };
+            go(pass, phase);
         }
-        Phase::Attr => return to(Phase::Decide, Registers { seen: found, ..reg }),
+        Phase::Attr => {
+            pass.reg.seen = found;
+            go(pass, Phase::Decide);
+        }
         Phase::Decide => {
-            let stop = if reg.headed {
-                free_for(reg.mode, found)
+            let stop = if pass.reg.headed {
+                free_for(pass.reg.mode, found)
             } else {
                 held
             };
-            return decided(reg, stop, choice);
+            decided(pass, stop, choice);
         }
-        Phase::After => return after_found(reg, found),
-        Phase::Pick => Phase::Aim,
-        Phase::Aim => Phase::Place,
-        Phase::Place => Phase::Mark,
-        Phase::Mark => return marked(rules, reg, found),
+        Phase::After => after_found(pass, found),
+        Phase::Pick => go(pass, Phase::Aim),
+        Phase::Aim => go(pass, Phase::Place),
+        Phase::Place => go(pass, Phase::Mark),
+        Phase::Mark => marked(rules, pass, found),
         Phase::Give => {
-            let flag = reg.flag || reg.last == me;
-            return to(done(reg), Registers { flag, ..reg });
+            if pass.reg.last == me {
+                pass.reg.flag = true;
+            }
+            done(pass);
         }
-        Phase::Peek => return peeked(rules, reg, found),
+        Phase::Peek => peeked(rules, pass, found),
         Phase::Grab => {
             if held {
-                return top(reg);
+                top(pass)
+            } else {
+                go(pass, Phase::Take)
             }
-            Phase::Take
         }
         Phase::WriteGrab => {
-            if found != reg.saw {
-                return top(reg);
+            if found != pass.reg.saw {
+                top(pass);
+            } else {
+                go(pass, Phase::Take);
             }
-            Phase::Take
         }
-        Phase::Take => return heir_found(Phase::Cut, reg, found),
+        Phase::Take => heir_found(Phase::Cut, pass, found),
         Phase::Cut => {
-            if found == me as u64 + 1 {
+            let phase = if found == me as u64 + 1 {
                 Phase::Open
             } else {
                 Phase::Late
-            }
+            };
+            go(pass, phase);
         }
-        Phase::Late => return heir_found(Phase::Late, reg, found),
-        Phase::Ready => return readied(rules, reg, found),
+        Phase::Late => heir_found(Phase::Late, pass, found),
+        Phase::Ready => readied(rules, pass, found),
         Phase::Count => {
-            if held || found / 256 % 2 == 1 {
+            let phase = if held || found / CLOSED % 2 == 1 {
                 Phase::Uncount
             } else {
                 Phase::Held
+            };
+            go(pass, phase);
+        }
+        Phase::Uncount => go(pass, Phase::Init),
+        Phase::HeadCount | Phase::HeadLook => {
+            let phase = if held { Phase::HeadLook } else { Phase::Take };
+            go(pass, phase);
+        }
+    }
+}
+
+/// The pass `me` goes on by what its step found, and writes only what the step changes.
+#[inline(always)]
+pub fn take_row_in_place(rules: Rules, me: u32, pass: &mut PassState, found: u64, choice: bool)
+    requires form { is_store (plan.plan rules me pass.old) ≡ false
+        → NamesPass (site (plan.plan rules me pass.old)) found }
+    ensures { pass.new ≡ take.take rules me pass.old found choice }
+{
+    // What takes a free lock and gives it back goes past the jump tables of the other rows.
+    if matches!(pass.nap, Nap::Awake) && matches!(pass.phase, Phase::Steal) && found == 0 {
+        pass.phase = Phase::Held;
+        return;
+    }
+    if matches!(pass.nap, Nap::Awake) && matches!(pass.phase, Phase::Release) {
+        pass.phase = Phase::Idle;
+        return;
+    }
+    match pass.nap {
+        Nap::Awake => phase_take(rules, me, pass, found, choice),
+        Nap::Doze => {
+            pass.nap = if found % 2 == 1 || found / SPIN % 2 == 1 {
+                Nap::Rouse
+            } else {
+                Nap::Hear
+            };
+        }
+        Nap::Hear => {
+            if found == 1 {
+                pass.nap = Nap::Rouse;
             }
         }
-        Phase::Uncount => Phase::Init,
-        Phase::HeadCount | Phase::HeadLook => { if held { Phase::HeadLook } else { Phase::Take } }
-    };
-    to(next, reg)
+        Nap::Rouse | Nap::Ring { .. } => pass.nap = Nap::Awake,
+    }
 }
 
 /// Where the pass `me`, which stood at `pass`, stands after its step found `found`.
+#[inline(always)]
 pub fn take_row(rules: Rules, me: u32, pass: PassState, found: u64, choice: bool) -> PassState
     requires form { is_store (plan.plan rules me pass) ≡ false
         → NamesPass (site (plan.plan rules me pass)) found }
     ensures { result ≡ take.take rules me pass found choice }
 {
-    let nap = match pass.nap {
-        Nap::Awake => return phase_take(rules, me, pass.reg, found, choice, pass.phase),
-        Nap::Doze => {
-            if found % 2 == 1 || found / 8 % 2 == 1 {
-                Nap::Rouse
-            } else {
-                Nap::Hear
-            }
-        }
-        Nap::Hear => { if found == 1 { Nap::Rouse } else { Nap::Hear } }
-        Nap::Rouse => Nap::Awake,
-        Nap::Ring { .. } => Nap::Awake,
-    };
-    PassState { nap, ..pass }
+    let mut next = pass;
+    take_row_in_place(rules, me, &mut next, found, choice);
+    next
 }

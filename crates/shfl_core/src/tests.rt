@@ -3,7 +3,10 @@ ghost use Rattle.std.specs.Prelude.{◌≡◌, [], ◌∷◌, IfOk, length};
 ghost use Rattle.shfl_line.specs.declared.events.Form.TheVariants.{Spin};
 ghost use Rattle.shfl_core.specs.Runner.{opened};
 
+use crate::asks::{attempt_access, attempt_row, idle_pass};
 use crate::local::Local;
+use crate::phase::Phase;
+use crate::words::{Access, Word, opening_words};
 use crate::world::PlainWorld;
 use shfl_line::{Attr, Mode, NoMemory};
 use std::alloc::Global;
@@ -38,5 +41,34 @@ fn one_pass_takes_the_free_lock(rt: HostRuntime) -> Result<(), Fail> {
     assert_eq!(rt; lock.word(), 0);
     let rests = lock.step(0, false);
     assert!(rt; !rests);
+    Ok(())
+}
+
+#[test]
+fn an_attempt_takes_the_free_lock_or_keeps_the_word_that_it_found(rt: HostRuntime) {
+    let swap = Access::CompareSwap {
+        w: Word::Lock,
+        old: 0,
+        new: 1,
+    };
+    assert_eq!(rt; attempt_access(Mode::Write), swap);
+    let idle = idle_pass(0);
+    assert_eq!(rt; attempt_row(Mode::Write, idle.reg, 0).phase, Phase::Held);
+    let refused = attempt_row(Mode::Write, idle.reg, 257);
+    assert_eq!(rt; refused.phase, Phase::Idle);
+    assert_eq!(rt; refused.reg.saw, 257);
+    let counted = attempt_row(Mode::Read, idle.reg, 1);
+    assert_eq!(rt; counted.phase, Phase::TryUncount);
+}
+
+#[test]
+fn the_words_of_a_lock_lie_sixteen_apart(rt: HostRuntime) -> Result<(), Fail> {
+    let attr = Attr { socket: 7, ..PLAIN };
+    let list = opening_words(rt.alloc(), &[PLAIN, attr])?;
+    assert_eq!(rt; list.len(), 64);
+    for (place, word) in list.iter().enumerate() {
+        let told = if place == 50 { 7 } else { 0 };
+        assert_eq!(rt; *word, told);
+    }
     Ok(())
 }

@@ -1,8 +1,17 @@
 //! The words of a lock, and the atomic operations on one of them.
 //!
 //! The words stand in one list: the lock word, the tail word, and then four for each pass: its next, state, attribute and wakeup word.
-ghost use Rattle.std.specs.Prelude.{◌≡◌};
+//! No two of these share a cache line with each other, nor does the last with what lies behind the list.
+ghost use Rattle.std.specs.Prelude.{◌≡◌, ◌≤◌, length, IfOk};
 ghost use Rattle.shfl_core.specs.Words as words;
+ghost use Rattle.shfl_core.specs.Worlds as worlds;
+
+use shfl_line::{Attr as Attributes, NoMemory};
+use std::alloc::Global;
+
+/// The words from the lock word to the tail word, and from each pass to the next: two cache lines of 64 bytes, since a
+/// list may begin at any multiple of 16 bytes, and words one line apart would then still share one now and then.
+pub const LINE_WORDS: usize = 16;
 
 /// One word of a lock; the number is the pass that it belongs to.
 #[derive(Clone, Copy, Debug, PartialEq, Eq, Drop)]
@@ -30,15 +39,30 @@ pub enum Access {
 }
 
 /// The place of a word in the list.
+#[inline(always)]
 pub fn index(word: Word) -> usize
     ensures { result ≡ words.index word }
 {
     match word {
         Word::Lock => 0,
-        Word::Tail => 1,
-        Word::Next(pass) => 4 * pass as usize + 2,
-        Word::State(pass) => 4 * pass as usize + 3,
-        Word::Attr(pass) => 4 * pass as usize + 4,
-        Word::Bell(pass) => 4 * pass as usize + 5,
+        Word::Tail => LINE_WORDS,
+        Word::Next(pass) => LINE_WORDS * (pass as usize + 2),
+        Word::State(pass) => LINE_WORDS * (pass as usize + 2) + 1,
+        Word::Attr(pass) => LINE_WORDS * (pass as usize + 2) + 2,
+        Word::Bell(pass) => LINE_WORDS * (pass as usize + 2) + 3,
     }
+}
+
+/// The words of a lock with a pass for each of these attributes, at its opening.
+pub fn opening_words(alloc: Global, attrs: &[Attributes]) -> Result<Vec<u64>, NoMemory>
+    requires few { length attrs.now ≤ 64 }
+    ensures { IfOk result (λ w. w.items ≡ worlds.opening_words attrs.now) }
+{
+    let mut list = vec![in alloc; 0; LINE_WORDS * (attrs.len() + 2)]?;
+    let mut pass = 0;
+    for attr in attrs {
+        list[index(Word::Attr(pass))] = attr.pack();
+        pass += 1;
+    }
+    Ok(list)
 }

@@ -1,5 +1,5 @@
 //! A lock over plain words: its passes make their steps one at a time, in any order.
-ghost use Rattle.std.specs.Prelude.{◌≡◌, ℕ, ◌+◌, ◌*◌, ◌<◌, ◌≤◌, ◌++◌, length, vec_capacity, IfOk, slice_set, vec_len};
+ghost use Rattle.std.specs.Prelude.{◌≡◌, ℕ, ◌<◌, ◌≤◌, length, IfOk, slice_set, vec_len};
 ghost use Rattle.shfl_core.specs.Plan as plan;
 ghost use Rattle.shfl_core.specs.Runner as runner;
 ghost use Rattle.shfl_core.specs.Waiting as waiting;
@@ -9,16 +9,17 @@ ghost use Rattle.shfl_line.specs.declared.events.Form.{Form};
 ghost use Rattle.shfl_core.specs.declared.words.Word.TheVariants.{Lock as LockWord};
 ghost use Rattle.shfl_core.specs.Words.{look, put, site, told};
 ghost use Rattle.shfl_core.specs.Words as words;
-ghost use Rattle.shfl_core.specs.Worlds.{node, Acquire, Release, Step, admitted, known};
+ghost use Rattle.shfl_core.specs.Worlds.{Acquire, Release, Step, admitted, known};
 
 use crate::phase::{Ask, Nap, PassState};
 use crate::waiter::Waiter;
-use crate::words::{Access, Word, index};
+use crate::words::{Access, Word, index, opening_words};
 use shfl_line::{Attr, Mode, NoMemory};
 use std::alloc::Global;
 use std::marker::Model;
 
 /// Makes the operation on one of the words, and tells what it found, or, of a store, what it stored.
+#[inline(always)]
 pub fn perform(list: &mut Vec<u64>, access: Access) -> u64
     requires place { words.index (site access) < length list.old.items }
     ensures told { result ≡ told access (look list.old.items (site access)) }
@@ -78,18 +79,6 @@ pub fn perform(list: &mut Vec<u64>, access: Access) -> u64
     }
 }
 
-// The words of one pass more, at the opening.
-fn push_node(list: &mut Vec<u64>, attr: u64)
-    requires { vec_len list.old + 4 ≤ vec_capacity list.old }
-    ensures items { list.new.items ≡ list.old.items ++ node attr }
-    ensures room { vec_capacity list.new ≡ vec_capacity list.old }
-{
-    list.push_reserved(0);
-    list.push_reserved(0);
-    list.push_reserved(attr);
-    list.push_reserved(0);
-}
-
 /// A lock whose words are plain numbers, with all its passes. That each move keeps it lawful is told by the laws above.
 #[derive(Drop)]
 pub struct PlainWorld<W: Waiter> {
@@ -124,14 +113,10 @@ impl<W: Waiter> PlainWorld<W> {
             → MakesIdle W.meaning (λ k a w. F.post make k a limit w) (rules limit form)
             → IfOk result (λ w. w ≡ opened (rules limit form) attrs.now) }
     {
-        let count = attrs.len();
-        let mut words = Vec::with_capacity(alloc, 4 * count + 2)?;
-        let mut passes = Vec::with_capacity(alloc, count)?;
-        words.push_reserved(0);
-        words.push_reserved(0);
+        let words = opening_words(alloc, attrs)?;
+        let mut passes = Vec::with_capacity(alloc, attrs.len())?;
         let mut number = 0;
         for attr in attrs {
-            push_node(&mut words, attr.pack());
             passes.push_reserved(make(number, *attr, limit));
             number += 1;
         }

@@ -1,4 +1,4 @@
--- A step's law from what it does to the world as it is read.
+-- From what a step does to the world as it is read to the law of that step, for each kind of word.
 use Rattle.std.proofs.Common.{◌≡◌, ℕ, ◌<◌, ◌≤◌, Bool, cond, length, set, length-set, refl, sym, ap, ◌∙◌, subst, ⊎_elim, arith}
 use Rattle.shfl_line.specs.declared.events.LineEvent.{LineEvent}
 use Rattle.shfl_line.specs.declared.events.LineEvent.TheVariants.{Nothing as NothingEvent}

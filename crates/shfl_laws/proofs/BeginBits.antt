@@ -1,4 +1,4 @@
--- A round begins in the pass's own state word: the batch number becomes at least 1, and the flag is cleared.
+-- A round begins in the pass's own state word, in bits: the batch number becomes at least 1, and the flag is cleared.
 use Rattle.std.proofs.Common.{◌≡◌, ℕ, zero, suc, ◌+◌, ◌*◌, ◌^◌, ◌<◌, ◌==◌, Bool, true, false, cond, sym, ap, ◌∙◌, arith}
 use Rattle.std.specs.Prelude.{bit_xor, max}
 use Rattle.std.proofs.lemmas.Bool.Decides.{nat_tests}
@@ -7,6 +7,7 @@ use Rattle.std.proofs.lemmas.Nat.{xor_block}
 use Rattle.shfl_line.specs.declared.words.NodeState.{NodeState}
 use Rattle.shfl_line.specs.Words.{bit, packed_state, state_of, IsStateWord}
 use Rattle.shfl_laws.proofs.StateBits.{Says, says, read}
+use Rattle.shfl_laws.proofs.StateBits as Bits
 
 abbrev high : Bool → ℕ
 high z = cond z 1 0
@@ -33,22 +34,7 @@ low false false false true = omega arith
 low false false false false = omega arith
 
 small : (r s p x : Bool) → bit r + 2 * bit s + 4 * bit p + 8 * bit x < 2 ^ 16
-small true true true true = omega arith
-small true true true false = omega arith
-small true true false true = omega arith
-small true true false false = omega arith
-small true false true true = omega arith
-small true false true false = omega arith
-small true false false true = omega arith
-small true false false false = omega arith
-small false true true true = omega arith
-small false true true false = omega arith
-small false true false true = omega arith
-small false true false false = omega arith
-small false false true true = omega arith
-small false false true false = omega arith
-small false false false true = omega arith
-small false false false false = omega arith
+small r s p x = let a = Bits.small r in let b = Bits.small s in let c = Bits.small p in let d = Bits.small x in omega arith
 
 two-small : (f : Bool) → two f < 2 ^ 16
 two-small true = omega arith

@@ -1,4 +1,4 @@
--- The order and the batch once a round has begun, or the limit was reached.
+-- The order and the grouping after Begin, in a round and where the batch has reached the limit.
 use Rattle.std.proofs.Common.{◌≡◌, ◌≢◌, ℕ, suc, ◌<◌, ◌≤◌, true, false, cond, List, refl, sym, ap, ◌∙◌, subst, arith}
 use Rattle.std.specs.Prelude.{slice_index}
 use Rattle.shfl_line.specs.declared.events.Role.{Role}

@@ -1,4 +1,4 @@
--- The law of a round's beginning.
+-- The law of Begin, from its bits, its order and its grouping.
 use Rattle.std.proofs.Common.{◌≡◌, ◌≢◌, ℕ, zero, suc, ◌+◌, ◌<◌, ◌≤◌, ◌==◌, Bool, true, false, cond, List, length, set, refl, sym, ap, ◌∙◌, inl, subst, arith}
 use Rattle.std.specs.Prelude.{bit_xor, nat_lt, max, slice_set, slice_index}
 use Rattle.std.proofs.lemmas.Bool.Decides.{nat_tests}
@@ -37,6 +37,7 @@ use Rattle.shfl_laws.proofs.OwedBatch.{SameCall, owed-batch}
 use Rattle.shfl_laws.proofs.BeginBits.{xor-begin}
 use Rattle.shfl_laws.proofs.BeginRow.{Start, Flagged, Fresh, start, begins-from, hand-empty, in-line}
 use Rattle.shfl_laws.proofs.BeginGroup.{begin-order, walk-grouping, full-grouping}
+use Rattle.shfl_laws.proofs.RoundApart.{at-next, at-give}
 use Rattle.shfl_laws.proofs.RoundLoads.{in-round}
 use Rattle.shfl_laws.proofs.GiveRow.{ended}
 use Rattle.shfl_laws.proofs.Counts.{not-holding}
@@ -172,36 +173,10 @@ module _ (t : Terms) (w : World) (p : ℕ) (ok : Lawful t w) (below : p < length
   no-hand = hand-empty t.rules.limit (view w) ok.shown ok.giver p ok.agrees.order ok.agrees.grouping started
 
   next-round : (m : ℕ → ℕ) → Round (view w).next m (view w).tail ok.shown.line (link_word ok.shown.hand) (to Next (record rest { prev = p; last = p; count = num }))
-  next-round m = record {
-    prev_in = here;
-    prev_free = inl refl;
-    cand_next = λ h. absurd (grind arith);
-    cand_inner = λ h. absurd (grind arith);
-    first_next = λ h d. absurd (d refl);
-    first_cand = λ h. absurd (grind arith);
-    apart = λ h. absurd (grind arith);
-    after_next = λ h. absurd (grind arith);
-    gap = λ h. absurd (grind arith);
-    aimed = λ h. absurd (grind arith);
-    hand_is = no-hand;
-    marking = λ h. absurd (grind arith);
-  }
+  next-round m = at-next (view w).next m (view w).tail ok.shown.line (link_word ok.shown.hand) (record rest { prev = p; last = p; count = num }) Awake here (inl refl) no-hand (λ d. absurd (d refl))
 
   give-round : (m : ℕ → ℕ) → Round (view w).next m (view w).tail ok.shown.line (link_word ok.shown.hand) (to Give (record rest { prev = p; last = p; count = num }))
-  give-round m = record {
-    prev_in = here;
-    prev_free = inl refl;
-    cand_next = λ h. absurd (grind arith);
-    cand_inner = λ h. absurd (grind arith);
-    first_next = λ h. absurd (grind arith);
-    first_cand = λ h. absurd (grind arith);
-    apart = λ h. absurd (grind arith);
-    after_next = λ h. absurd (grind arith);
-    gap = λ h. absurd (grind arith);
-    aimed = λ h. absurd (grind arith);
-    hand_is = no-hand;
-    marking = λ h. absurd (grind arith);
-  }
+  give-round m = at-give (view w).next m (view w).tail ok.shown.line (link_word ok.shown.hand) (record rest { prev = p; last = p; count = num }) Awake here (inl refl) no-hand
 
   -- the batch has reached the limit: the pass goes on without a round
   full : t.rules.limit ≤ num → Advances t w ok (Rest p) (record { words = set w.words (index (StateOf p)) (bit_xor n (cond (q.reg.batch == 0) 65536 0 + cond q.reg.flag 2 0)); passes = set w.passes p (to (done rest) rest) })

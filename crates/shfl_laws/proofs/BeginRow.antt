@@ -1,4 +1,4 @@
--- A round begins, or the batch has reached the limit: the order and the batch.
+-- Where a round may begin: who is numbered, who has the flag, and the prefix of the batch with the pass's own number.
 use Rattle.std.proofs.Common.{◌≡◌, ◌≢◌, ℕ, zero, suc, ◌<◌, ◌≤◌, ◌⊎◌, Bool, true, false, cond, List, [], ◌∷◌, refl, sym, ap, ◌∙◌, inl, inr, subst, arith}
 use Rattle.std.specs.Prelude.{Option, Some, None}
 use Rattle.std.proofs.lemmas.Bool.Decides.{nat_tests}

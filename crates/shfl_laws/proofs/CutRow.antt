@@ -1,4 +1,4 @@
--- The head takes its own number out of the tail word: it leaves an empty queue, or a pass is joining behind it.
+-- The law of Cut: the head takes its own number out of the tail word, and leaves an empty queue or has a pass joining behind it.
 use Rattle.std.proofs.Common.{◌≡◌, ◌≢◌, ℕ, zero, suc, ◌+◌, ◌<◌, List, [], ◌∷◌, Bool, true, false, cond, ◌==◌, length, set, refl, sym, ap, ◌∙◌, subst, add-one, arith}
 use Rattle.std.specs.Prelude.{None}
 use Rattle.std.proofs.lemmas.Bool.Decides.{nat_tests}

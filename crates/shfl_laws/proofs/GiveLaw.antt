@@ -1,4 +1,4 @@
--- The law of handing the flag on.
+-- The law of Give, over words.
 use Rattle.std.proofs.Common.{◌≡◌, ℕ, suc, ◌-◌, ◌<◌, ◌==◌, true, cond, length, set, refl, sym, ap, ◌∙◌, subst, arith}
 use Rattle.std.specs.Prelude.{◌||◌, bit_or}
 use Rattle.shfl_line.specs.declared.events.Role.TheVariants.{Rest}

@@ -1,4 +1,4 @@
--- In a lawful world the word that a pass plans to touch is there.
+-- In a lawful world the word that a pass plans to touch is there, and what is told of it has its form.
 use Rattle.std.proofs.Common.{◌≡◌, ℕ, ◌<◌, Bool, true, false, cond, length, refl, sym, ap, ◌∙◌, subst, ⊎_elim, arith}
 use Rattle.shfl_core.specs.declared.phase.Phase.{Phase}
 use Rattle.shfl_core.specs.declared.phase.Phase.TheVariants.{Idle, Steal, Init, Swap, Link, Close, Look, Begin, Next, Tail, Attr, Decide, After, Pick, Aim, Place, Mark, Give, Peek, Grab, WriteGrab, Take, Cut, Late, Ready, Open, Held, Release, Count, Uncount, TryUncount, HeadCount, HeadLook, ReadRelease}
@@ -7,16 +7,16 @@ use Rattle.shfl_core.specs.declared.phase.Nap.TheVariants.{Awake, Doze, Hear, Ro
 use Rattle.shfl_core.specs.declared.phase.PassState.{PassState}
 use Rattle.shfl_core.specs.declared.words.Word.TheVariants.{Lock, State as StateOf}
 use Rattle.shfl_core.specs.declared.words.Access.{Access}
-use Rattle.shfl_core.specs.declared.words.Access.TheVariants.{Load, Store, Swap as SwapWith, CompareSwap, Or, And, Xor, Add, Sub}
-use Rattle.shfl_core.specs.Words.{look, index, site, wide, told, is_store}
+use Rattle.shfl_core.specs.Words.{look, index, site, wide, told}
 use Rattle.shfl_core.specs.Plan.{plan, plan_at, plan_by}
 use Rattle.shfl_core.specs.Waiting.{idle}
 use Rattle.shfl_core.specs.Worlds.{World, known}
 use Rattle.shfl_core.specs.Phases.{is_round, tail_to_pick, has_hand}
 use Rattle.shfl_core.specs.View.{view}
 use Rattle.shfl_core.specs.Lawful.{Terms, count, Lawful, Formed, InRange}
+use Rattle.shfl_core.proofs.Blind.{told-found, formed-names}
 use Rattle.shfl_core.proofs.Lists.{seen-at, past, below-or}
-use Rattle.shfl_laws.specs.Seen.{InRangeLaw, ToldLaw}
+use Rattle.shfl_laws.specs.Seen.{InRangeLaw, ToldLaw, ToldNames, BellsInRange}
 use Rattle.shfl_laws.proofs.Advance.{below-count}
 use Rattle.shfl_laws.proofs.Leave.{link-room}
 use Rattle.shfl_laws.proofs.NextRows.{queued-below, named, hand-there}
@@ -74,34 +74,33 @@ module _ (t : Terms) (w : World) (p : ℕ) (ok : Lawful t w) (below : p < length
     at HeadLook e = omega arith
     at ReadRelease e = omega arith
 
+  -- the pass that it is about to wake is there
+  woken : (whom : ℕ) → q.nap ≡ Ring whom → whom < count t
+  woken whom e = ⊎_elim
+      (λ b. (let s = ok.seats in omega arith))
+      (λ b. absurd (let s : (known w.passes whom).nap ≡ Hear = (ok.agrees.owed.rings p whom e).0.sleeps in let i : known w.passes whom ≡ idle whom = past w.passes whom (idle whom) b in
+      let j : Awake ≡ Hear = sym (ap (λ (z : PassState). z.nap) i) ∙ s in grind arith))
+      (below-or whom (length w.passes))
+
   by-nap : (n : Nap) → q.nap ≡ n → index (site (plan_by t.rules p q.reg n q.phase)) < wide (count t)
   by-nap Awake e = at e q.phase refl
   by-nap Doze e = let h = own in omega arith
   by-nap Hear e = let h = own in omega arith
   by-nap Rouse e = let h = own in omega arith
-  by-nap (Ring whom) e = let h = sleeper in omega arith
-    where
-      sleeper : whom < count t
-      sleeper = ⊎_elim
-          (λ b. (let s = ok.seats in omega arith))
-          (λ b. absurd (let s : (known w.passes whom).nap ≡ Hear = (ok.agrees.owed.rings p whom e).0.sleeps in let i : known w.passes whom ≡ idle whom = past w.passes whom (idle whom) b in
-          let j : Awake ≡ Hear = sym (ap (λ (z : PassState). z.nap) i) ∙ s in grind arith))
-          (below-or whom (length w.passes))
+  by-nap (Ring whom) e = let h = woken whom e in omega arith
 
 pub in-range-law : (t : Terms) → InRangeLaw t
 in-range-law t w p q ok at = let e = seen-at w.passes p q (idle p) at in
     subst (λ (z : PassState). InRange t p z) e.0 (by-nap t w p ok e.1 (known w.passes p).nap refl)
 
-told-found : (a : Access) (n : ℕ) → is_store a ≡ false → told a n ≡ n
-told-found (Load w) n e = refl
-told-found (Store w v) n e = absurd (cc)
-told-found (SwapWith w v) n e = refl
-told-found (CompareSwap w old new) n e = refl
-told-found (Or w v) n e = refl
-told-found (And w v) n e = refl
-told-found (Xor w v) n e = refl
-told-found (Add w v) n e = refl
-told-found (Sub w v) n e = refl
-
 pub told-law : (t : Terms) → ToldLaw t
 told-law t w p q ok e = let a : Access = plan t.rules p q in subst (Formed (site a)) (sym (told-found a (look w.words (site a)) e)) (ok.formed (site a))
+
+pub bells-in-range : (t : Terms) → BellsInRange t
+bells-in-range t = record {
+  own = λ w p q ok at. let h = (seen-at w.passes p q (idle p) at).1 in let s = ok.seats in omega arith;
+  woken = λ w p q whom ok at e. let s = seen-at w.passes p q (idle p) at in woken t w p ok s.1 whom (ap (λ (z : PassState). z.nap) s.0 ∙ e);
+}
+
+pub told-names : (t : Terms) → ToldNames t
+told-names t w p q ok e = let a : Access = plan t.rules p q in formed-names (site a) (told a (look w.words (site a))) (told-law t w p q ok e)

@@ -1,4 +1,4 @@
--- A pass joins the line.
+-- The order after Swap: a pass joins the empty line, or stands behind its end.
 use Rattle.std.proofs.Common.{◌≡◌, ◌≢◌, ℕ, zero, suc, ◌+◌, ◌<◌, List, [], ◌∷◌, ◌++◌, true, false, cond, ◌==◌, ◌||◌, refl, sym, ap, ◌∙◌, subst, arith}
 use Rattle.std.specs.Prelude.{None}
 use Rattle.std.proofs.lemmas.Bool.Decides.{nat_tests}

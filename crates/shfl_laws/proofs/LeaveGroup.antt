@@ -1,4 +1,4 @@
--- The first of the line leaves: its batch number and its flag go.
+-- The grouping after the first of the line has left: its batch number and its flag go.
 use Rattle.std.proofs.Common.{◌≡◌, ◌≢◌, ℕ, suc, ◌<◌, ◌≤◌, List, ◌∷◌, Bool, true, false, cond, ◌==◌, length, refl, sym, ap, ◌∙◌, subst, arith}
 use Rattle.std.specs.Prelude.{slice_index, slice_set}
 use Rattle.std.proofs.lemmas.Bool.Decides.{nat_tests}

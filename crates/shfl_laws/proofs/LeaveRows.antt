@@ -1,4 +1,4 @@
--- The head of the queue takes its next word, and leaves once it knows its successor.
+-- The laws of Take and Late: the head takes its next word, and leaves once that names its successor.
 use Rattle.std.proofs.Common.{◌≡◌, ◌≢◌, ℕ, zero, suc, ◌<◌, List, [], ◌∷◌, true, false, cond, ◌||◌, length, set, refl, sym, ap, ◌∙◌, subst, arith}
 use Rattle.std.specs.Prelude.{slice_set}
 use Rattle.shfl_line.specs.declared.events.LineEvent.TheVariants.{Leave, Nothing}

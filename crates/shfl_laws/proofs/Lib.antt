@@ -7,7 +7,11 @@ pub mod RingRow
 pub mod Facts
 pub mod InRange
 pub mod SeenAs
+pub mod OwnSteps
+pub mod Holds
+pub mod Waits
 pub mod ShownOne
+pub mod TermsTold
 pub mod Laws
 pub mod MoveLaws
 pub mod MoveRows
@@ -18,6 +22,7 @@ pub mod Rows
 pub mod Order
 pub mod Quiet
 pub mod Relink
+pub mod RoundApart
 pub mod Loads
 pub mod Join
 pub mod Heir
@@ -70,6 +75,8 @@ pub mod Stretch
 pub mod MeasureRows
 pub mod MeasureMoves
 pub mod MeasureRounds
+pub mod MeasureAttempts
+pub mod MeasureShown
 pub mod PlainOwed
 pub mod PlainHolding
 pub mod PlainOrder

@@ -1,9 +1,10 @@
--- The rows of a round that only read.
+-- What the order asks of a round's registers when a next word is read, and when the round is given up.
 use Rattle.std.proofs.Common.{◌≡◌, ℕ, zero, suc, false, cond, refl, ap, ◌∙◌, arith}
 use Rattle.std.proofs.lemmas.Bool.Decides.{nat_tests}
 use Rattle.shfl_line.specs.Line.{Line, mark_of}
 use Rattle.shfl_line.specs.Words.{link_word}
 use Rattle.shfl_core.specs.declared.phase.Phase.TheVariants.{Next, Give}
+use Rattle.shfl_core.specs.declared.phase.Nap.TheVariants.{Awake}
 use Rattle.shfl_core.specs.declared.phase.PassState.{PassState}
 use Rattle.shfl_core.specs.Phases.{has_hand}
 use Rattle.shfl_core.specs.View.{View}
@@ -11,26 +12,14 @@ use Rattle.shfl_core.specs.Order.{Order as Ordered, Round}
 use Rattle.shfl_core.specs.Grouping.{Grouping}
 use Rattle.shfl_laws.proofs.Rows.{on, next_found, row_next}
 use Rattle.shfl_laws.proofs.Quiet.{quiet-order}
+use Rattle.shfl_laws.proofs.RoundApart.{at-give}
 
 abbrev pub Rounded : View → Line → PassState → Type 0
 Rounded w s v = Round w.next (mark_of s) w.tail s.line (link_word s.hand) v
 
 -- a round that is given up
 pub give : (w : View) (s : Line) (q : PassState) → Rounded w s q → has_hand q.phase ≡ false → Rounded w s (on q Give)
-give w s q r n = record {
-  prev_in = r.prev_in;
-  prev_free = r.prev_free;
-  cand_next = λ h. absurd (grind arith);
-  cand_inner = λ h. absurd (grind arith);
-  first_next = λ h. absurd (grind arith);
-  first_cand = λ h. absurd (grind arith);
-  apart = λ h. absurd (grind arith);
-  after_next = λ h. absurd (grind arith);
-  gap = λ h. absurd (grind arith);
-  aimed = λ h. absurd (grind arith);
-  hand_is = r.hand_is ∙ ap (λ b. cond b (suc q.reg.cand) 0) n;
-  marking = λ h. absurd (grind arith);
-}
+give w s q r n = at-give w.next (mark_of s) w.tail s.line (link_word s.hand) q.reg Awake r.prev_in r.prev_free (r.hand_is ∙ ap (λ b. cond b (suc q.reg.cand) 0) n)
 
 pub next-round : (w : View) (s : Line) (q : PassState) → Rounded w s q → q.phase ≡ Next → Rounded w s (next_found q (w.next q.reg.prev))
 next-round w s q r f = by_found (w.next q.reg.prev) refl

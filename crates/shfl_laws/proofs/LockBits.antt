@@ -1,10 +1,11 @@
--- The operations on the lock word.
+-- The operations on the lock word, in bits.
 use Rattle.std.proofs.Common.{◌≡◌, ℕ, ◌+◌, ◌-◌, ◌*◌, ◌%◌, ◌^◌, ◌<◌, ◌≤◌, Bool, true, false, sym, ap, ◌∙◌, subst, arith}
 use Rattle.std.specs.Prelude.{bit_and, bit_or}
 use Rattle.std.proofs.lemmas.Bool.Decides.{nat_tests}
 use Rattle.std.specs.Int.Bits.{or_zero_r}
 use Rattle.std.proofs.lemmas.Nat.{or_block, and_block, and_mask}
 use Rattle.shfl_line.specs.Words.{bit, packed_lock, held_of, closed_of, readers_of, IsLockWord}
+use Rattle.shfl_laws.proofs.StateBits.{small}
 
 -- what the word of these fields says
 pub held-is : (h c : Bool) (r : ℕ) → held_of (packed_lock h c r) ≡ h
@@ -47,26 +48,19 @@ word-is n w = let s = says n w.held w.closed w.readers w.few w.is in (w.is ∙ (
 or-low : (k a r s : ℕ) → r < 2 ^ k → s < 2 ^ k → bit_or (a * 2 ^ k + r) s ≡ a * 2 ^ k + bit_or r s
 or-low k a r s h i = ap (λ z. bit_or (a * 2 ^ k + r) z) (let e : s ≡ 0 * 2 ^ k + s = omega arith in e) ∙ (or_block k a 0 r s h i ∙ ap (λ z. z * 2 ^ k + bit_or r s) (or_zero_r a))
 
-or-held : (h c : Bool) (r : ℕ) → bit_or (packed_lock h c r) 1 ≡ packed_lock true c r
-or-held h c r = ap (λ z. bit_or z 1) (let e : packed_lock h c r ≡ (bit c + 16777216 * r) * 2 ^ 8 + bit h = omega arith in e) ∙ (or-low 8 (bit c + 16777216 * r) (bit h) 1 (small h) (omega arith) ∙ by h)
-  where
-    small : (h : Bool) → bit h < 2 ^ 8
-    small true = omega arith
-    small false = omega arith
+two-small : (h c : Bool) → bit h + 256 * bit c < 2 ^ 16
+two-small h c = let a = small h in let b = small c in omega arith
 
+or-held : (h c : Bool) (r : ℕ) → bit_or (packed_lock h c r) 1 ≡ packed_lock true c r
+or-held h c r = ap (λ z. bit_or z 1) (let e : packed_lock h c r ≡ (bit c + 16777216 * r) * 2 ^ 8 + bit h = omega arith in e) ∙ (or-low 8 (bit c + 16777216 * r) (bit h) 1 (let z = small h in omega arith) (omega arith) ∙ by h)
+  where
     by : (h : Bool) → (bit c + 16777216 * r) * 2 ^ 8 + bit_or (bit h) 1 ≡ packed_lock true c r
     by true = omega arith
     by false = omega arith
 
 or-closed : (h c : Bool) (r : ℕ) → bit_or (packed_lock h c r) 256 ≡ packed_lock h true r
-or-closed h c r = ap (λ z. bit_or z 256) (let e : packed_lock h c r ≡ (65536 * r) * 2 ^ 16 + (bit h + 256 * bit c) = omega arith in e) ∙ (or-low 16 (65536 * r) (bit h + 256 * bit c) 256 (small h c) (omega arith) ∙ by h c)
+or-closed h c r = ap (λ z. bit_or z 256) (let e : packed_lock h c r ≡ (65536 * r) * 2 ^ 16 + (bit h + 256 * bit c) = omega arith in e) ∙ (or-low 16 (65536 * r) (bit h + 256 * bit c) 256 (two-small h c) (omega arith) ∙ by h c)
   where
-    small : (h c : Bool) → bit h + 256 * bit c < 2 ^ 16
-    small true true = omega arith
-    small true false = omega arith
-    small false true = omega arith
-    small false false = omega arith
-
     by : (h c : Bool) → (65536 * r) * 2 ^ 16 + bit_or (bit h + 256 * bit c) 256 ≡ packed_lock h true r
     by true true = omega arith
     by true false = omega arith
@@ -74,13 +68,9 @@ or-closed h c r = ap (λ z. bit_or z 256) (let e : packed_lock h c r ≡ (65536 
     by false false = omega arith
 
 and-held : (h c : Bool) (r : ℕ) → r < 2 ^ 32 → bit_and (packed_lock h c r) 18446744073709551614 ≡ packed_lock false c r
-and-held h c r b = ap (λ z. bit_and z 18446744073709551614) (let e : packed_lock h c r ≡ (bit c + 16777216 * r) * 2 ^ 8 + bit h = omega arith in e) ∙ (and_block 8 (bit c + 16777216 * r) (2 ^ 56 - 1) (bit h) 254 (small h) (omega arith) ∙
+and-held h c r b = ap (λ z. bit_and z 18446744073709551614) (let e : packed_lock h c r ≡ (bit c + 16777216 * r) * 2 ^ 8 + bit h = omega arith in e) ∙ (and_block 8 (bit c + 16777216 * r) (2 ^ 56 - 1) (bit h) 254 (let z = small h in omega arith) (omega arith) ∙
     (ap (λ z. z * 2 ^ 8 + bit_and (bit h) 254) (and_mask (bit c + 16777216 * r) 56 ∙ less (bit c + 16777216 * r) (high c)) ∙ by h))
   where
-    small : (h : Bool) → bit h < 2 ^ 8
-    small true = omega arith
-    small false = omega arith
-
     high : (c : Bool) → bit c + 16777216 * r < 2 ^ 56
     high true = omega arith
     high false = omega arith
@@ -93,15 +83,9 @@ and-held h c r b = ap (λ z. bit_and z 18446744073709551614) (let e : packed_loc
     by false = omega arith
 
 and-closed : (h c : Bool) (r : ℕ) → r < 2 ^ 32 → bit_and (packed_lock h c r) 18446744073709551359 ≡ packed_lock h false r
-and-closed h c r b = ap (λ z. bit_and z 18446744073709551359) (let e : packed_lock h c r ≡ (65536 * r) * 2 ^ 16 + (bit h + 256 * bit c) = omega arith in e) ∙ (and_block 16 (65536 * r) (2 ^ 48 - 1) (bit h + 256 * bit c) 65279 (small h c) (omega arith) ∙
+and-closed h c r b = ap (λ z. bit_and z 18446744073709551359) (let e : packed_lock h c r ≡ (65536 * r) * 2 ^ 16 + (bit h + 256 * bit c) = omega arith in e) ∙ (and_block 16 (65536 * r) (2 ^ 48 - 1) (bit h + 256 * bit c) 65279 (two-small h c) (omega arith) ∙
     (ap (λ z. z * 2 ^ 16 + bit_and (bit h + 256 * bit c) 65279) (and_mask (65536 * r) 48 ∙ less (65536 * r) (omega arith)) ∙ by h c))
   where
-    small : (h c : Bool) → bit h + 256 * bit c < 2 ^ 16
-    small true true = omega arith
-    small true false = omega arith
-    small false true = omega arith
-    small false false = omega arith
-
     less : (n : ℕ) → n < 2 ^ 48 → n % 2 ^ 48 ≡ n
     less n l = omega arith
 

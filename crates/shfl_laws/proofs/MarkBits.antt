@@ -1,4 +1,4 @@
--- The batch number and the spin bit are written into a state word that has neither.
+-- A batch number and the spin bit are written into a state word that has neither, in bits.
 use Rattle.std.proofs.Common.{◌≡◌, ℕ, ◌+◌, ◌*◌, ◌^◌, ◌<◌, ◌≤◌, Bool, true, false, cond, sym, ap, ◌∙◌, arith}
 use Rattle.std.specs.Prelude.{bit_or}
 use Rattle.std.specs.Int.Bits.{or_zero_l}
@@ -6,6 +6,7 @@ use Rattle.std.proofs.lemmas.Nat.{or_block}
 use Rattle.shfl_line.specs.declared.words.NodeState.{NodeState}
 use Rattle.shfl_line.specs.Words.{bit, packed_state, state_of, IsStateWord}
 use Rattle.shfl_laws.proofs.StateBits.{Says, says, read}
+use Rattle.shfl_laws.proofs.StateBits as Bits
 
 abbrev eight : Bool → ℕ
 eight x = cond x 8 0
@@ -29,14 +30,7 @@ low false false false true = omega arith
 low false false false false = omega arith
 
 small : (r s p : Bool) → bit r + 2 * bit s + 4 * bit p < 2 ^ 16
-small true true true = omega arith
-small true true false = omega arith
-small true false true = omega arith
-small true false false = omega arith
-small false true true = omega arith
-small false true false = omega arith
-small false false true = omega arith
-small false false false = omega arith
+small r s p = let a = Bits.small r in let b = Bits.small s in let c = Bits.small p in omega arith
 
 eight-small : (x : Bool) → eight x < 2 ^ 16
 eight-small true = omega arith

@@ -1,4 +1,4 @@
--- The law of marking a candidate.
+-- The law of Mark, over words, and who is then to be woken.
 use Rattle.std.proofs.Common.{◌≡◌, ◌≢◌, ℕ, suc, ◌+◌, ◌-◌, ◌*◌, ◌%◌, ◌<◌, ◌==◌, Bool, true, false, cond, ◌∷◌, length, set, refl, sym, ap, ◌∙◌, subst, arith}
 use Rattle.std.specs.Prelude.{◌||◌, ◌&&◌, not, bit_or, nat_lt, slice_set}
 use Rattle.shfl_line.specs.declared.events.LineEvent.TheVariants.{Keep}

@@ -1,4 +1,4 @@
--- Marking a candidate leaves the order.
+-- The order after Mark, and where the round goes on from there.
 use Rattle.std.proofs.Common.{◌≡◌, ◌≢◌, ℕ, suc, ◌+◌, ◌<◌, ◌⊎◌, ◌==◌, Bool, true, false, cond, List, refl, sym, ap, ◌∙◌, inl, inr, subst, arith}
 use Rattle.std.specs.Prelude.{nat_lt, slice_index}
 use Rattle.std.proofs.lemmas.Bool.Decides.{nat_tests}
@@ -17,6 +17,7 @@ use Rattle.shfl_core.specs.Order.{Order as Ordered, Round}
 use Rattle.shfl_core.specs.Grouping.{Grouping}
 use Rattle.shfl_laws.proofs.Order
 use Rattle.shfl_laws.proofs.Quiet.{Quiet, moved, quiet-order}
+use Rattle.shfl_laws.proofs.RoundApart.{at-next, at-give}
 use Rattle.shfl_laws.proofs.Rows.{marked}
 
 -- the marks change, and the one pass in a round has what it must have
@@ -72,62 +73,12 @@ module _ (limit : ℕ) (w : View) (s : Line) (g p : ℕ) (o : Ordered w s g) (k 
       by : (b : Bool) → more ≡ b → (e : Bool) → ((w.pass p).reg.prev == (w.pass p).reg.last) ≡ e → Round w.next (mark_of s) w.tail s.line (link_word s.hand) (w.pass p)
           → (w.next (w.pass p).reg.last ≡ suc c) × (mark_of s c ≡ 0) × ((w.pass p).reg.prev ≢ (w.pass p).reg.last → (w.next c ≡ suc (w.pass p).reg.first) × ((w.pass p).reg.prev ≢ c))
           → Round w.next m w.tail s.line (link_word s.hand) (record { phase = cond b Next Give; reg = record (w.pass p).reg { prev = cond e c (w.pass p).reg.prev; last = c; count = (w.pass p).reg.count + 1 }; nap = nap })
-      by true _ true i r t = record {
-        prev_in = inside;
-        prev_free = inl refl;
-        cand_next = λ h. absurd (grind arith);
-        cand_inner = λ h. absurd (grind arith);
-        first_next = λ h d. absurd (d refl);
-        first_cand = λ h. absurd (grind arith);
-        apart = λ h. absurd (grind arith);
-        after_next = λ h. absurd (grind arith);
-        gap = λ h. absurd (grind arith);
-        aimed = λ h. absurd (grind arith);
-        hand_is = r.hand_is ∙ (λ j. cond (ap has_hand f j) (suc c) 0);
-        marking = λ h. absurd (grind arith);
-      }
-      by true _ false i r t = let other : (w.pass p).reg.prev ≢ (w.pass p).reg.last = (λ j. grind (arith, nat_tests, i, j)) in let u = t.2 other in record {
-        prev_in = r.prev_in;
-        prev_free = inr (low (w.pass p).reg.prev u.1 (free other r.prev_free));
-        cand_next = λ h. absurd (grind arith);
-        cand_inner = λ h. absurd (grind arith);
-        first_next = λ h d. u.0;
-        first_cand = λ h. absurd (grind arith);
-        apart = λ h. absurd (grind arith);
-        after_next = λ h. absurd (grind arith);
-        gap = λ h. absurd (grind arith);
-        aimed = λ h. absurd (grind arith);
-        hand_is = r.hand_is ∙ (λ j. cond (ap has_hand f j) (suc c) 0);
-        marking = λ h. absurd (grind arith);
-      }
-      by false _ true i r t = record {
-        prev_in = inside;
-        prev_free = inl refl;
-        cand_next = λ h. absurd (grind arith);
-        cand_inner = λ h. absurd (grind arith);
-        first_next = λ h. absurd (grind arith);
-        first_cand = λ h. absurd (grind arith);
-        apart = λ h. absurd (grind arith);
-        after_next = λ h. absurd (grind arith);
-        gap = λ h. absurd (grind arith);
-        aimed = λ h. absurd (grind arith);
-        hand_is = r.hand_is ∙ (λ j. cond (ap has_hand f j) (suc c) 0);
-        marking = λ h. absurd (grind arith);
-      }
-      by false _ false i r t = let other : (w.pass p).reg.prev ≢ (w.pass p).reg.last = (λ j. grind (arith, nat_tests, i, j)) in let u = t.2 other in record {
-        prev_in = r.prev_in;
-        prev_free = inr (low (w.pass p).reg.prev u.1 (free other r.prev_free));
-        cand_next = λ h. absurd (grind arith);
-        cand_inner = λ h. absurd (grind arith);
-        first_next = λ h. absurd (grind arith);
-        first_cand = λ h. absurd (grind arith);
-        apart = λ h. absurd (grind arith);
-        after_next = λ h. absurd (grind arith);
-        gap = λ h. absurd (grind arith);
-        aimed = λ h. absurd (grind arith);
-        hand_is = r.hand_is ∙ (λ j. cond (ap has_hand f j) (suc c) 0);
-        marking = λ h. absurd (grind arith);
-      }
+      by true _ true i r t = at-next w.next m w.tail s.line (link_word s.hand) (record (w.pass p).reg { prev = c; last = c; count = (w.pass p).reg.count + 1 }) nap inside (inl refl) (r.hand_is ∙ (λ j. cond (ap has_hand f j) (suc c) 0)) (λ d. absurd (d refl))
+      by true _ false i r t = let other : (w.pass p).reg.prev ≢ (w.pass p).reg.last = (λ j. grind (arith, nat_tests, i, j)) in let u = t.2 other in
+          at-next w.next m w.tail s.line (link_word s.hand) (record (w.pass p).reg { prev = (w.pass p).reg.prev; last = c; count = (w.pass p).reg.count + 1 }) nap r.prev_in (inr (low (w.pass p).reg.prev u.1 (free other r.prev_free))) (r.hand_is ∙ (λ j. cond (ap has_hand f j) (suc c) 0)) (λ d. u.0)
+      by false _ true i r t = at-give w.next m w.tail s.line (link_word s.hand) (record (w.pass p).reg { prev = c; last = c; count = (w.pass p).reg.count + 1 }) nap inside (inl refl) (r.hand_is ∙ (λ j. cond (ap has_hand f j) (suc c) 0))
+      by false _ false i r t = let other : (w.pass p).reg.prev ≢ (w.pass p).reg.last = (λ j. grind (arith, nat_tests, i, j)) in let u = t.2 other in
+          at-give w.next m w.tail s.line (link_word s.hand) (record (w.pass p).reg { prev = (w.pass p).reg.prev; last = c; count = (w.pass p).reg.count + 1 }) nap r.prev_in (inr (low (w.pass p).reg.prev u.1 (free other r.prev_free))) (r.hand_is ∙ (λ j. cond (ap has_hand f j) (suc c) 0))
 
   pub mark-order : (mark : List ℕ) → ((q : ℕ) → q ≢ c → slice_index mark q ≡ mark_of s q) → Ordered (moved w w.held w.closed w.readers (updated w.node c new) p v) (record s { mark = mark }) g
   mark-order mark same = order-remark (moved w w.held w.closed w.readers (updated w.node c new) p v) s g mark

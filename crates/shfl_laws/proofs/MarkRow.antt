@@ -1,4 +1,4 @@
--- The candidate behind the last marked pass is marked.
+-- The grouping after Mark: the candidate is the batch's last.
 use Rattle.std.proofs.Common.{◌≡◌, ◌≢◌, ℕ, suc, ◌+◌, ◌<◌, ◌≤◌, ◌⊎◌, List, ◌∷◌, Bool, true, false, cond, refl, sym, ap, ◌∙◌, ⊎_elim, subst, arith}
 use Rattle.std.specs.Prelude.{nat_lt, slice_index, slice_set}
 use Rattle.std.proofs.Common.{get_or, set, length, get_or-set_same, get_or-set_other}

@@ -1,4 +1,4 @@
--- What is left of a round, through every move.
+-- What is left of a round, through every move: own steps lower it, and any other move keeps it.
 use Rattle.std.proofs.Common.{◌≡◌, ◌≢◌, ℕ, zero, suc, ◌+◌, ◌-◌, ◌*◌, ◌<◌, List, Bool, true, false, cond, ◌==◌, ◌&&◌, length, set, get_or-set_other, refl, sym, ap, ◌∙◌, subst, ⊎_elim, arith}
 use Rattle.std.specs.Prelude.{nat_lt}
 use Rattle.std.proofs.lemmas.Bool.Decides.{nat_tests}

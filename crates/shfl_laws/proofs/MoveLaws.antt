@@ -1,5 +1,5 @@
 -- Every move of a schedule, and every run, from the laws of the phases and of the park states.
-use Rattle.std.proofs.Common.{◌≡◌, ℕ, zero, suc, ◌≤◌, Bool, true, false, cond, List, [], ◌∷◌, length, set, refl, sym, ap, subst, ⊎_elim, arith}
+use Rattle.std.proofs.Common.{◌≡◌, ℕ, zero, suc, ◌≤◌, Bool, true, false, cond, List, [], ◌∷◌, length, length-set, set, refl, sym, ap, subst, ⊎_elim, arith}
 use mathlib.Core.Option.{some}
 use lib.ListN.{get_elem?}
 use Rattle.shfl_line.specs.declared.events.Mode.{Mode}
@@ -10,9 +10,10 @@ use Rattle.shfl_core.specs.declared.phase.Phase.TheVariants.{Idle, Held}
 use Rattle.shfl_core.specs.declared.phase.Nap.{Nap}
 use Rattle.shfl_core.specs.declared.phase.Nap.TheVariants.{Awake, Doze, Hear, Rouse, Ring}
 use Rattle.shfl_core.specs.declared.phase.PassState.{PassState}
+use Rattle.shfl_core.specs.declared.phase.Rules.{Rules}
 use Rattle.shfl_core.specs.Words.{look, site}
 use Rattle.shfl_core.specs.Plan.{plan, moving, is_idle, is_resting}
-use Rattle.shfl_core.specs.Take.{entry, exit, acquired, released}
+use Rattle.shfl_core.specs.Take.{take, entry, exit, acquired, released}
 use Rattle.shfl_core.specs.Waiting.{MayUse, idle}
 use Rattle.shfl_core.specs.Worlds.{World, known, placed_at, stepped, opening, Move, Acquire, Release, Step, after_move, run}
 use Rattle.shfl_core.specs.Events.{event}
@@ -42,9 +43,22 @@ set-past [] p v h = refl
 set-past (x ∷ xs) zero v h = absurd (omega arith)
 set-past (x ∷ xs) (suc p) v h = ap (λ l. x ∷ l) (set-past xs p v (omega arith))
 
+-- no move adds a pass or takes one away
+pub moved-long : (r : Rules) (w : World) (m : Move) → length (after_move r w m).passes ≡ length w.passes
+moved-long r w m = by m
+  where
+    maybe : (b : Bool) (w' : World) → length w'.passes ≡ length w.passes → length (cond b w' w).passes ≡ length w.passes
+    maybe true w' e = e
+    maybe false w' e = refl
+
+    by : (m : Move) → length (after_move r w m).passes ≡ length w.passes
+    by (Acquire p mode) = let q = known w.passes p in maybe (is_idle q.phase) (placed_at w p (acquired mode q)) (length-set w.passes p (acquired mode q))
+    by (Release p) = let q = known w.passes p in maybe (is_resting q) (placed_at w p (released q)) (length-set w.passes p (released q))
+    by (Step p choice) = let q = known w.passes p in maybe (moving q) (stepped r w p q choice) (length-set w.passes p (take r p q (look w.words (site (plan r p q))) choice))
+
 module _ (t : Terms) (laws : (f : Phase) → LawOf t f) where
   -- the step of a pass, whatever its phase and park state
-  any-step : (w : World) (p : ℕ) (q : PassState) (choice : Bool) (ok : Lawful t w) → get_elem? w.passes p ≡ some q
+  pub any-step : (w : World) (p : ℕ) (q : PassState) (choice : Bool) (ok : Lawful t w) → get_elem? w.passes p ≡ some q
       → Advances t w ok (event t.rules p q (look w.words (site (plan t.rules p q)))) (stepped t.rules w p q choice)
   any-step w p q choice ok at = by q.nap refl
     where

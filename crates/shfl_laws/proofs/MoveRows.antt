@@ -1,4 +1,4 @@
--- The moves that touch no word: acquire and release, and the steps that an idle pass or a holder doesn't make.
+-- The moves that touch no word: acquire and release, an idle pass that is replaced by another, and the steps that an idle pass or a holder doesn't make.
 use Rattle.std.proofs.Common.{◌≡◌, ℕ, ◌+◌, ◌<◌, Bool, true, false, cond, List, length, set, refl, sym, ap, ◌∙◌, subst, arith}
 use Rattle.std.specs.Prelude.{◌&&◌, not}
 use Rattle.shfl_line.specs.declared.events.Mode.{Mode}
@@ -15,14 +15,15 @@ use Rattle.shfl_core.specs.declared.phase.PassState.{PassState}
 use Rattle.shfl_core.specs.declared.words.Word.TheVariants.{Lock}
 use Rattle.shfl_core.specs.Words.{look, index}
 use Rattle.shfl_core.specs.Take.{to, entry, exit}
-use Rattle.shfl_core.specs.Waiting.{MayUse}
+use Rattle.shfl_core.specs.Waiting.{MayUse, idle}
 use Rattle.shfl_core.specs.Worlds.{World, known, placed_at}
-use Rattle.shfl_core.specs.Phases.{is_holding, is_writing, is_reading}
+use Rattle.shfl_core.specs.Phases.{is_holding, is_writing, is_reading, is_backing}
 use Rattle.shfl_core.specs.View.{view}
 use Rattle.shfl_core.specs.Owed.{fits}
 use Rattle.shfl_core.specs.Holding.{write_of, read_of, backs, Holding as Holds}
 use Rattle.shfl_core.specs.Lawful.{Terms, count, Agrees, Lawful, Advances, LawOf}
-use Rattle.shfl_core.proofs.Lists.{set-read}
+use Rattle.shfl_core.proofs.Lists.{seen-at, set-read}
+use Rattle.shfl_laws.specs.Moves.{ForgetLaw}
 use Rattle.shfl_laws.proofs.Frame.{passed}
 use Rattle.shfl_laws.proofs.QuietAgrees.{GoesOn, quiet-agrees}
 use Rattle.shfl_laws.proofs.Advance.{at-phase, advance-load, below-count}
@@ -86,6 +87,15 @@ module _ (t : Terms) (w : World) (ok : Lawful t w) (p : ℕ) (below : p < length
           still v nap refl (goes-outside t (view w) ok.shown p v (ap outside f) refl nap (λ i. absurd (cc)) (λ i. e) (λ s i. ok.agrees.registered.writers s p (λ j. absurd (grind (arith, f, j)))))
           (stay (count t) (view w).held (view w).readers (known w.passes) ok.shown.hold ok.agrees.holding p v (below-count t w ok p below) (view w).readers (grind (arith, f)) refl (omega arith))
 
+  -- an idle pass is replaced by another
+  replaced : (v : PassState) → q.phase ≡ Idle → v.phase ≡ Idle → v.nap ≡ Awake → v.reg.me ≡ q.reg.me → Advances t w ok Nothing (placed_at w p v)
+  replaced v f g here me = let nap = idle-awake q.nap q.phase f (ok.agrees.owed.places p) in
+      let a : backs q ≡ 0 = ap (λ b. cond b 1 0) (ap is_backing f) in
+      let b : backs v ≡ 0 = ap (λ b. cond b 1 0) (ap is_backing g) in
+      still v nap me (goes-outside t (view w) ok.shown p v (ap outside f) (ap outside g) here
+      (λ i. absurd (let z : is_writing v.phase ≡ false = ap is_writing g in cc)) (λ i. absurd (let z : is_reading v.phase ≡ false = ap is_reading g in cc)) (λ s i. absurd (i g)))
+      (stay-out (count t) (view w).held (view w).readers (known w.passes) ok.shown.hold ok.agrees.holding p v (below-count t w ok p below) (view w).readers (ap is_holding g) (ap is_holding f) (omega arith))
+
   -- an idle pass and a holder have no step of their own: the load that they name changes nothing
   rests : (f : Phase) → q.phase ≡ f → outside f ≡ true → is_writing f ≡ false → is_reading f ≡ false → q.nap ≡ Awake → Advances t w ok Nothing (record { words = set w.words (index Lock) (look w.words Lock); passes = set w.passes p (to f q.reg) })
   rests f e out nw nr nap = let v : PassState = to f q.reg in advance-load t w ok p below v Nothing ok.giver refl tt tt Lock (omega arith)
@@ -97,3 +107,8 @@ idle-law t = at-phase t Idle (λ w p c ok below nap f. rests t w ok p below Idle
 
 pub held-law : (t : Terms) → LawOf t Held
 held-law t = at-phase t Held (λ w p c ok below nap f. rests t w ok p below Held f refl refl refl nap)
+
+pub forget-law : (t : Terms) → ForgetLaw t
+forget-law t w p q v ok at f g here me = let e = seen-at w.passes p q (idle p) at in
+    let same : v.reg.me ≡ (known w.passes p).reg.me = me ∙ (sym (ok.numbers p q at) ∙ ap (λ (z : PassState). z.reg.me) (sym e.0)) in
+    replaced t w ok p e.1 v (ap (λ (z : PassState). z.phase) e.0 ∙ f) g here same

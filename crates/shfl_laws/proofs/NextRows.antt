@@ -1,4 +1,4 @@
--- The steps that store a next word: the late link, and the three stores of a relink.
+-- The laws of the steps that store a next word, over words: Link, Pick, Aim and Place.
 use Rattle.std.proofs.Common.{◌≡◌, ◌≢◌, ℕ, suc, ◌+◌, ◌-◌, ◌<◌, ◌≤◌, Bool, true, false, cond, List, ◌∷◌, length, set, refl, sym, ap, ◌∙◌, subst, ⊎_elim, add-one, arith}
 use Rattle.std.specs.Prelude.{None}
 use Rattle.shfl_line.specs.declared.events.LineEvent.{LineEvent}

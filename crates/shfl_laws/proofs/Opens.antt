@@ -1,5 +1,5 @@
--- A lock at its opening, and a seat that is filled.
-use Rattle.std.proofs.Common.{◌≡◌, ◌≢◌, ℕ, zero, suc, ◌+◌, ◌*◌, ◌<◌, ◌⊎◌, inl, inr, Bool, false, List, [], ◌∷◌, ◌++◌, length, get_or, refl, sym, ap, ◌∙◌, subst, ⊎_elim, length-append, arith}
+-- A lock at its opening, with all its seats filled, with none and with the first, and a seat that is filled.
+use Rattle.std.proofs.Common.{◌≡◌, ◌≢◌, ℕ, zero, suc, ◌+◌, ◌*◌, ◌<◌, ◌≤◌, ◌⊎◌, inl, inr, Bool, false, List, [], ◌∷◌, ◌++◌, length, get_or, refl, sym, ap, ◌∙◌, subst, ⊎_elim, length-append, arith}
 use Rattle.std.specs.Prelude.{map, replicate, slice_index}
 use Rattle.std.proofs.lemmas.Bool.Decides.{nat_tests}
 use mathlib.Core.Option.{some, some-injective, some-ne-none}
@@ -9,16 +9,17 @@ use Rattle.shfl_line.specs.declared.words.NodeState.{NodeState}
 use Rattle.shfl_line.specs.Words.{attr_word, state_of}
 use Rattle.shfl_line.specs.Line.{empty}
 use Rattle.shfl_core.specs.declared.phase.PassState.{PassState}
+use Rattle.shfl_core.specs.declared.phase.Rules.{Rules}
 use Rattle.shfl_core.specs.declared.words.Word.{Word}
 use Rattle.shfl_core.specs.declared.words.Word.TheVariants.{Lock, Tail, Next, State, Attr as AttrOf, Bell}
 use Rattle.shfl_core.specs.Words.{look}
 use Rattle.shfl_core.specs.Waiting.{idle}
-use Rattle.shfl_core.specs.Worlds.{node_words, opening_words, idle_from, opening}
+use Rattle.shfl_core.specs.Worlds.{known, node_words, opening_words, idle_from}
 use Rattle.shfl_core.specs.View.{View, view}
 use Rattle.shfl_core.specs.Holding.{total, backs}
 use Rattle.shfl_core.specs.Lawful.{Terms, count, Formed, Agrees}
-use Rattle.shfl_core.proofs.Opening.{node-words-long, idle-from-long, idle-from-at}
-use Rattle.shfl_laws.specs.Moves.{terms, OpeningLaw, SeatLaw}
+use Rattle.shfl_core.proofs.Opening.{node-past, opening-at, opening-next, opening-long, idle-from-long, idle-from-at}
+use Rattle.shfl_laws.specs.Moves.{terms, MayOpen, OpeningLaw, SeatLaw, unseated, first_seated, StartsLawful, StartLaw}
 
 abbrev pub clear : NodeState
 clear = record { ready = false; shuffler = false; parked = false; spin = false; batch = 0 }
@@ -120,87 +121,93 @@ fresh-agrees t w h = subst (λ (z : View). Agrees t z (empty (count t)) 0)
     (blank-agrees t w.attr w.closed)
 
 -- the words of the passes at an opening
-node-zero : (xs : List Attr) (q k : ℕ) → k < 4 → k ≢ 2 → get_or (node_words xs) (4 * q + k) 0 ≡ 0
+node-zero : (xs : List Attr) (q k : ℕ) → k < 4 → k ≢ 2 → get_or (node_words xs) (16 * q + k) 0 ≡ 0
 node-zero [] q k h n = refl
 node-zero (x ∷ xs) zero k h n = by k h n
   where
-    by : (k : ℕ) → k < 4 → k ≢ 2 → get_or (node_words (x ∷ xs)) (4 * 0 + k) 0 ≡ 0
+    by : (k : ℕ) → k < 4 → k ≢ 2 → get_or (node_words (x ∷ xs)) (16 * 0 + k) 0 ≡ 0
     by zero h n = refl
     by (suc zero) h n = refl
     by (suc (suc zero)) h n = absurd (n refl)
     by (suc (suc (suc zero))) h n = refl
     by (suc (suc (suc (suc k)))) h n = absurd (omega arith)
-node-zero (x ∷ xs) (suc q) k h n = let e : 4 * suc q + k ≡ suc (suc (suc (suc (4 * q + k)))) = omega arith in ap (λ i. get_or (node_words (x ∷ xs)) i 0) e ∙ node-zero xs q k h n
+node-zero (x ∷ xs) (suc q) k h n = node-past x xs q k ∙ node-zero xs q k h n
 
-node-attr : (xs : List Attr) (q : ℕ) → get_or (node_words xs) (4 * q + 2) 0 ≡ get_or (map attr_word xs) q 0
+node-attr : (xs : List Attr) (q : ℕ) → get_or (node_words xs) (16 * q + 2) 0 ≡ get_or (map attr_word xs) q 0
 node-attr [] q = refl
 node-attr (x ∷ xs) zero = refl
-node-attr (x ∷ xs) (suc q) = let e : 4 * suc q + 2 ≡ suc (suc (suc (suc (4 * q + 2)))) = omega arith in ap (λ i. get_or (node_words (x ∷ xs)) i 0) e ∙ node-attr xs q
+node-attr (x ∷ xs) (suc q) = node-past x xs q 2 ∙ node-attr xs q
 
 module _ (xs : List Attr) where
-  at-node : (i k q : ℕ) → i ≡ suc (suc (4 * q + k)) → get_or (opening_words xs) i 0 ≡ get_or (node_words xs) (4 * q + k) 0
-  at-node i k q e = ap (λ z. get_or (opening_words xs) z 0) e
-
-  opening-zero : (i k q : ℕ) → i ≡ suc (suc (4 * q + k)) → k < 4 → k ≢ 2 → get_or (opening_words xs) i 0 ≡ 0
-  opening-zero i k q e h n = at-node i k q e ∙ node-zero xs q k h n
+  opening-zero : (q k i : ℕ) → i ≡ 16 * q + 32 + k → k < 4 → k ≢ 2 → get_or (opening_words xs) i 0 ≡ 0
+  opening-zero q k i e h n = opening-at xs q k i e ∙ node-zero xs q k h n
 
   opening-attr : (q : ℕ) → look (opening_words xs) (AttrOf q) ≡ get_or (map attr_word xs) q 0
-  opening-attr q = at-node (4 * q + 4) 2 q (omega arith) ∙ node-attr xs q
-
-  opening-next : (q : ℕ) → look (opening_words xs) (Next q) ≡ 0
-  opening-next q = opening-zero (4 * q + 2) 0 q (omega arith) (omega arith) (omega arith)
+  opening-attr q = opening-at xs q 2 (16 * q + 34) (omega arith) ∙ node-attr xs q
 
   opening-state : (q : ℕ) → look (opening_words xs) (State q) ≡ 0
-  opening-state q = opening-zero (4 * q + 3) 1 q (omega arith) (omega arith) (omega arith)
+  opening-state q = opening-zero q 1 (16 * q + 33) (omega arith) (omega arith) (omega arith)
 
   opening-bell : (q : ℕ) → look (opening_words xs) (Bell q) ≡ 0
-  opening-bell q = opening-zero (4 * q + 5) 3 q (omega arith) (omega arith) (omega arith)
+  opening-bell q = opening-zero q 3 (16 * q + 35) (omega arith) (omega arith) (omega arith)
 
   opening-formed : (v : Word) → Formed v (look (opening_words xs) v)
   opening-formed Lock = record { held = false; closed = false; readers = 0; few = omega arith; is = refl }
   opening-formed Tail = omega arith
-  opening-formed (Next q) = let e = opening-next q in omega arith
+  opening-formed (Next q) = let e = opening-next xs q in omega arith
   opening-formed (State q) = record { ready = false; shuffler = false; parked = false; spin = false; batch = 0; few = omega arith; is = opening-state q }
   opening-formed (AttrOf q) = tt
   opening-formed (Bell q) = let e = opening-bell q in omega arith
 
-  idle-known : (p : ℕ) (ys : List Attr) (q : ℕ) → get_or (idle_from p ys) q (idle (p + q)) ≡ idle (p + q)
-  idle-known p [] q = refl
-  idle-known p (y ∷ ys) zero = ap idle (let e : p ≡ p + 0 = omega arith in e)
-  idle-known p (y ∷ ys) (suc q) = let e : p + suc q ≡ suc p + q = omega arith in ap (λ z. get_or (idle_from (suc p) ys) q (idle z)) e ∙ (idle-known (suc p) ys q ∙ ap idle (sym e))
-
-  opening-fresh : IsFresh (view (opening xs))
-  opening-fresh = record {
+  opening-fresh : (l : List PassState) → ((q : ℕ) → known l q ≡ idle q) → IsFresh (view (record { words = opening_words xs; passes = l }))
+  opening-fresh l idles = record {
     held = refl;
     readers = refl;
     tail = refl;
-    next = opening-next;
+    next = opening-next xs;
     node = λ q. ap state_of (opening-state q);
     bell = opening-bell;
-    pass = λ q. let e : 0 + q ≡ q = omega arith in subst (λ z. get_or (idle_from 0 xs) q (idle z) ≡ idle z) e (idle-known 0 xs q);
+    pass = idles;
   }
 
 map-long : (xs : List Attr) → length (map attr_word xs) ≡ length xs
 map-long [] = refl
 map-long (x ∷ xs) = ap suc (map-long xs)
 
-pub opening-law : OpeningLaw
-opening-law rules attrs may = let n = idle-from-long 0 attrs in let m = node-words-long attrs in let k = map-long attrs in let few = may.few in record {
+idle-known : (p : ℕ) (ys : List Attr) (q : ℕ) → get_or (idle_from p ys) q (idle (p + q)) ≡ idle (p + q)
+idle-known p [] q = refl
+idle-known p (y ∷ ys) zero = ap idle (let e : p ≡ p + 0 = omega arith in e)
+idle-known p (y ∷ ys) (suc q) = let e : p + suc q ≡ suc p + q = omega arith in ap (λ z. get_or (idle_from (suc p) ys) q (idle z)) e ∙ (idle-known (suc p) ys q ∙ ap idle (sym e))
+
+-- the words of an opening, with whatever idle passes have their seats
+opens-with : (rules : Rules) (attrs : List Attr) → MayOpen rules attrs → (l : List PassState) → length l ≤ length attrs
+    → ((q : ℕ) → known l q ≡ idle q) → ((p : ℕ) (q : PassState) → get_elem? l p ≡ some q → q.reg.me ≡ p) → StartsLawful rules attrs (record { words = opening_words attrs; passes = l })
+opens-with rules attrs may l seats idles numbered = let k = map-long attrs in let few = may.few in record {
   lawful = record {
-    room = omega arith;
+    room = let l = opening-long attrs in omega arith;
     seats = omega arith;
     few = omega arith;
     limit = may.limit;
     formed = opening-formed attrs;
     attrs = λ q h. opening-attr attrs q;
-    numbers = λ p q e. ap (λ (z : PassState). z.reg.me) (idle-from-at 0 attrs p q e).0 ∙ (let z : 0 + p ≡ p = omega arith in z);
+    numbers = numbered;
     shown = empty (length (map attr_word attrs));
     giver = 0;
     of_passes = record { marks = zeros-long (length (map attr_word attrs)); hold = tt; line = λ q h. absurd (omega arith); hand = λ q h. absurd (omega arith); once = λ q. grind (arith, nat_tests) };
-    agrees = fresh-agrees (terms rules attrs) (view (opening attrs)) (opening-fresh attrs);
+    agrees = fresh-agrees (terms rules attrs) (view (record { words = opening_words attrs; passes = l })) (opening-fresh attrs l idles);
   };
   shown = ap empty (map-long attrs);
 }
+
+pub opening-law : OpeningLaw
+opening-law rules attrs may = let n = idle-from-long 0 attrs in
+    let o = opens-with rules attrs may (idle_from 0 attrs) (omega arith)
+    (λ q. let e : 0 + q ≡ q = omega arith in subst (λ z. get_or (idle_from 0 attrs) q (idle z) ≡ idle z) e (idle-known 0 attrs q))
+    (λ p q e. ap (λ (z : PassState). z.reg.me) (idle-from-at 0 attrs p q e).0 ∙ (let z : 0 + p ≡ p = omega arith in z)) in
+    record { lawful = o.lawful; shown = o.shown }
+
+pub start-law : StartLaw unseated
+start-law rules attrs may = opens-with rules attrs may [] (omega arith) (λ q. refl) (λ p q e. absurd (some-ne-none q (sym e)))
 
 -- a list of passes with one more that is idle
 append-read : (l : List PassState) (x d : PassState) (q : ℕ) → (q ≡ length l → x ≡ d) → get_or (l ++ x ∷ []) q d ≡ get_or l q d
@@ -208,6 +215,10 @@ append-read [] x d zero h = h refl
 append-read [] x d (suc q) h = refl
 append-read (y ∷ ys) x d zero h = refl
 append-read (y ∷ ys) x d (suc q) h = append-read ys x d q (λ e. h (ap suc e))
+
+-- one idle pass more changes no pass that is known
+pub known-one : (l : List PassState) (q : ℕ) → known (l ++ idle (length l) ∷ []) q ≡ known l q
+known-one l q = append-read l (idle (length l)) (idle q) q (λ e. ap idle (sym e))
 
 append-at : (l : List PassState) (x : PassState) (i : ℕ) (u : PassState) → get_elem? (l ++ x ∷ []) i ≡ some u → (get_elem? l i ≡ some u) ⊎ ((i ≡ length l) × (x ≡ u))
 append-at [] x zero u e = inr (refl, some-injective x u e)
@@ -229,8 +240,13 @@ seat-law t w ok room = let l = w.passes in let n = length-append w.passes (idle 
     giver = ok.giver;
     of_passes = ok.of_passes;
     agrees = subst (λ (z : View). Agrees t z ok.shown ok.giver)
-        (λ j. record (view w) { pass = λ q. sym (append-read w.passes (idle (length w.passes)) (idle q) q (λ e. ap idle (sym e))) j }) ok.agrees;
+        (λ j. record (view w) { pass = λ q. sym (known-one w.passes q) j }) ok.agrees;
   };
   admitted = tt;
   shown = refl;
 }
+
+-- the first seat is one that is filled
+pub first-seat-law : StartLaw first_seated
+first-seat-law rules attrs may = let s = start-law rules attrs may in let k = map-long attrs in let some = may.some in
+    let a = seat-law (terms rules attrs) (unseated attrs) s.lawful (omega arith) in record { lawful = a.lawful; shown = a.shown ∙ s.shown }

@@ -1,4 +1,4 @@
--- The steps between phases outside the queue, which write the lock word.
+-- The laws of the steps outside the queue, over words: Steal, Count, Uncount, TryUncount, Open, Release and ReadRelease.
 use Rattle.std.proofs.Common.{◌≡◌, ◌≢◌, ℕ, ◌+◌, ◌-◌, ◌%◌, ◌^◌, ◌<◌, ◌≤◌, ◌==◌, Bool, true, false, cond, length, set, refl, sym, ap, ◌∙◌, subst, arith}
 use Rattle.std.specs.Prelude.{bit_and, ◌||◌, ◌&&◌, not}
 use Rattle.std.proofs.lemmas.Bool.Decides.{nat_tests}

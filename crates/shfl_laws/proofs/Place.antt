@@ -1,10 +1,11 @@
--- The second and the third store of the relink.
+-- The order and the grouping after Aim and Place, the second and the third store of a relink.
 use Rattle.std.proofs.Common.{◌≡◌, ◌≢◌, ℕ, suc, ◌+◌, ◌<◌, List, ◌∷◌, Bool, true, false, cond, ◌==◌, refl, sym, ap, ◌∙◌, subst, arith}
 use Rattle.std.specs.Prelude.{None}
 use Rattle.std.proofs.lemmas.Bool.Decides.{nat_tests}
 use Rattle.shfl_line.specs.Line.{Line, mark_of}
 use Rattle.shfl_line.specs.Words.{link_word}
 use Rattle.shfl_core.specs.declared.phase.Phase.TheVariants.{Aim, Place, Mark}
+use Rattle.shfl_core.specs.declared.phase.Nap.TheVariants.{Awake}
 use Rattle.shfl_line.specs.Passes.{updated, times, Chain, end, put_after, put_behind}
 use Rattle.shfl_core.specs.Phases.{after_to_place, next_to_place, is_round, is_queued, is_linking, has_hand}
 use Rattle.shfl_core.specs.View.{View}
@@ -15,6 +16,7 @@ use Rattle.shfl_line.proofs.Chain
 use Rattle.shfl_laws.proofs.Order
 use Rattle.shfl_line.proofs.Marks
 use Rattle.shfl_laws.proofs.Quiet.{Quiet}
+use Rattle.shfl_laws.proofs.RoundApart.{at-mark}
 use Rattle.shfl_laws.proofs.Relink.{relink-follows, relink-order, relink-grouping}
 
 abbrev pub placed : Line → ℕ → ℕ → Line
@@ -101,27 +103,16 @@ module _ (w : View) (s : Line) (g p x : ℕ) (xs : List ℕ) (c : At w s g p x x
   )
 
   place-round : mark_of s (w.pass p).reg.cand ≡ 0 → Round (updated w.next (w.pass p).reg.last (suc (w.pass p).reg.cand)) (mark_of s) w.tail (put_behind (w.pass p).reg.last (w.pass p).reg.cand s.line) 0 (on (w.pass p) Mark)
-  place-round z = let r = c.o.round p (grind (arith, f)) in record {
-    prev_in = (let t = Marks.times-put-behind (w.pass p).reg.prev (w.pass p).reg.last (w.pass p).reg.cand s.line c.last_in in let i = r.prev_in in omega arith);
-    prev_free = r.prev_free;
-    cand_next = λ h. absurd (grind arith);
-    cand_inner = λ h. absurd (grind arith);
-    first_next = λ h. absurd (grind arith);
-    first_cand = λ h. absurd (grind arith);
-    apart = λ h. absurd (grind arith);
-    after_next = λ h. absurd (grind arith);
-    gap = λ h. absurd (grind arith);
-    aimed = λ h. absurd (grind arith);
-    hand_is = refl;
-    marking = λ _. (
-      Chain.updated-same w.next (w.pass p).reg.last (suc (w.pass p).reg.cand),
-      z,
-      λ _. (
-        Chain.updated-else w.next (w.pass p).reg.last (w.pass p).reg.cand (suc (w.pass p).reg.cand) cand-off ∙ aimed,
-        λ e. (let i = r.prev_in in let z0 = c.cand_out in let i0 : 0 < times (w.pass p).reg.cand s.line = subst (λ v. 0 < times v s.line) e i in omega arith),
-      ),
-    );
-  }
+  place-round z = let r = c.o.round p (grind (arith, f)) in
+      at-mark (updated w.next (w.pass p).reg.last (suc (w.pass p).reg.cand)) (mark_of s) w.tail (put_behind (w.pass p).reg.last (w.pass p).reg.cand s.line) 0 (w.pass p).reg Awake
+      (let t = Marks.times-put-behind (w.pass p).reg.prev (w.pass p).reg.last (w.pass p).reg.cand s.line c.last_in in let i = r.prev_in in omega arith) r.prev_free refl (
+        Chain.updated-same w.next (w.pass p).reg.last (suc (w.pass p).reg.cand),
+        z,
+        λ _. (
+          Chain.updated-else w.next (w.pass p).reg.last (w.pass p).reg.cand (suc (w.pass p).reg.cand) cand-off ∙ aimed,
+          λ e. (let i = r.prev_in in let z0 = c.cand_out in let i0 : 0 < times (w.pass p).reg.cand s.line = subst (λ v. 0 < times v s.line) e i in omega arith),
+        ),
+      )
 
 place-order : (limit : ℕ) (w : View) (s : Line) (g p x : ℕ) (xs : List ℕ) → Ordered w s g → Grouping limit w s → At w s g p x xs → (w.pass p).phase ≡ Place → Ordered (row_place w p) (placed s (w.pass p).reg.last (w.pass p).reg.cand) g
 place-order limit w s g p x xs o k c f = relink-order w s g (w.pass p).reg.last (suc (w.pass p).reg.cand) p (on (w.pass p) Mark) o (place-quiet w s g p x xs c f)

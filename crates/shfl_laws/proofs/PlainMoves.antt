@@ -1,21 +1,23 @@
 -- What every move and every run keeps, in plain words.
-use Rattle.std.proofs.Common.{sym, ap, ◌∙◌, subst}
+use Rattle.std.proofs.Common.{List, length, sym, ap, ◌∙◌, subst}
+use Rattle.shfl_line.specs.declared.words.Attr.{Attr}
 use Rattle.shfl_line.specs.declared.events.LineEvent.{LineEvent}
-use Rattle.shfl_line.specs.Line.{Line}
+use Rattle.shfl_line.specs.Line.{Line, empty}
 use Rattle.shfl_line.specs.Steps.{Admits, after}
 use Rattle.shfl_line.specs.declared.events.LineEvent.TheVariants.{Nothing}
+use Rattle.shfl_core.specs.declared.phase.Rules.{Rules}
 use Rattle.shfl_core.specs.Words.{look, site}
 use Rattle.shfl_core.specs.Plan.{attempt_plan}
 use Rattle.shfl_core.specs.Worlds.{World, opening, tried, after_move, run}
 use Rattle.shfl_core.specs.Events.{attempt_event}
 use Rattle.shfl_core.specs.Lawful.{Terms, Lawful, Advances}
-use Rattle.shfl_laws.specs.Moves.{move_event, terms, with_one_more}
+use Rattle.shfl_laws.specs.Moves.{move_event, terms, MayOpen, unseated, first_seated, StartLaw, with_one_more}
 use Rattle.shfl_laws.specs.Plain.{PlainLawful}
-use Rattle.shfl_laws.specs.PlainMoves.{PlainOne, PlainOpening, StepsTo, PlainMoves, PlainAttempts, PlainSeats, PlainRuns}
+use Rattle.shfl_laws.specs.PlainMoves.{PlainOne, PlainOpening, PlainStarts, StepsTo, PlainMoves, PlainAttempts, PlainSeats, PlainRuns}
 use Rattle.shfl_laws.proofs.AttemptRows.{attempt-law}
 use Rattle.shfl_laws.proofs.Laws.{laws}
 use Rattle.shfl_laws.proofs.MoveLaws.{move-law, run-law}
-use Rattle.shfl_laws.proofs.Opens.{opening-law, seat-law}
+use Rattle.shfl_laws.proofs.Opens.{opening-law, start-law, first-seat-law, seat-law}
 use Rattle.shfl_laws.proofs.Plain.{plain-law, lawful-law}
 use Rattle.shfl_laws.proofs.ShownOne.{shows-one}
 
@@ -25,6 +27,13 @@ plain-one t w a b h k = let x = lawful-law t w a h in let y = lawful-law t w b k
 pub plain-opening : PlainOpening
 plain-opening rules attrs may = let o = opening-law rules attrs may in
     subst (λ s. PlainLawful (terms rules attrs) (opening attrs) s) o.shown (plain-law (terms rules attrs) (opening attrs) o.lawful)
+
+start-plainly : (start : List Attr → World) → StartLaw start → (rules : Rules) (attrs : List Attr) → MayOpen rules attrs → PlainLawful (terms rules attrs) (start attrs) (empty (length attrs))
+start-plainly start law rules attrs may = let o = law rules attrs may in
+    subst (λ s. PlainLawful (terms rules attrs) (start attrs) s) o.shown (plain-law (terms rules attrs) (start attrs) o.lawful)
+
+pub plain-starts : PlainStarts
+plain-starts = record { unseated = start-plainly unseated start-law; first_seat = start-plainly first_seated first-seat-law }
 
 -- a law of the invariant, in plain words
 steps-to : (t : Terms) (w w' : World) (s : Line) (e : LineEvent) → PlainLawful t w s → ((ok : Lawful t w) → Advances t w ok e w') → StepsTo t s e w'

@@ -1,4 +1,4 @@
--- Rows that leave the walk as it is.
+-- The order and the grouping are kept, where a pass goes on in its place and no next word changes.
 use Rattle.std.proofs.Common.{◌≡◌, ◌≢◌, ℕ, suc, ◌<◌, List, [], ◌∷◌, Bool, true, false, cond, refl, sym, ap, ◌∙◌, arith}
 use Rattle.std.specs.Prelude.{None}
 use Rattle.shfl_line.specs.Line.{Line, mark_of, active_shuffler, idle_shuffler}

@@ -1,4 +1,4 @@
--- A pass goes on in its place, awake, and at most the lock word is written: everything is kept but what the row must say.
+-- The whole invariant is kept, where a pass goes on in its place, awake, and at most the lock word is written.
 use Rattle.std.proofs.Common.{◌≡◌, ◌≢◌, ℕ, ◌<◌, Bool, true, false, List, refl, sym, ◌∙◌}
 use Rattle.shfl_line.specs.declared.events.Mode.{Mode}
 use Rattle.shfl_line.specs.Line.{Line, mark_of}

@@ -1,4 +1,4 @@
--- The law of the step that makes the successor ready.
+-- The law of Ready, over words, and who is then to be woken.
 use Rattle.std.proofs.Common.{◌≡◌, ℕ, ◌<◌, Bool, true, false, cond, ◌||◌, ◌&&◌, not, length, set, refl, sym, ap, ◌∙◌, subst, arith}
 use Rattle.std.specs.Prelude.{bit_or}
 use Rattle.shfl_line.specs.declared.events.LineEvent.TheVariants.{Nothing}

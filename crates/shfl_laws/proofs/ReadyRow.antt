@@ -1,4 +1,4 @@
--- The pass that left makes its successor ready, and is about to wake it where it sleeps.
+-- Ready, as the world is read: the successor is the line's first, and the order and the grouping stay.
 use Rattle.std.proofs.Common.{◌≡◌, ◌≢◌, ℕ, zero, suc, ◌<◌, List, [], ◌∷◌, Bool, true, false, cond, ◌||◌, refl, sym, ap, ◌∙◌, subst, arith}
 use Rattle.std.proofs.lemmas.Bool.Decides.{nat_tests}
 use Rattle.shfl_line.specs.declared.events.Form.{Form}

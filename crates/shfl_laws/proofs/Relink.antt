@@ -1,4 +1,4 @@
--- Rows that write one next word, and leave each pass in its place.
+-- The order and the grouping after a store of one next word that leaves each pass in its place.
 use Rattle.std.proofs.Common.{◌≡◌, ◌≢◌, ℕ, suc, ◌+◌, ◌<◌, List, true, false, cond, ◌==◌, refl, sym, ap, ◌∙◌, arith}
 use Rattle.std.specs.Prelude.{Option, None}
 use Rattle.shfl_line.specs.Line.{Line, mark_of, active_shuffler, idle_shuffler}

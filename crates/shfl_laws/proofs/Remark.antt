@@ -1,4 +1,4 @@
--- The order and the batch, where batch numbers are written.
+-- The order and the batch's last are kept, where batch numbers go.
 use Rattle.std.proofs.Common.{◌≡◌, ℕ, ◌<◌, List, [], ◌∷◌, ◌++◌, sym, ◌∙◌, inl, inr, ⊎_elim, arith}
 use Rattle.std.specs.Prelude.{None, slice_index}
 use Rattle.shfl_line.specs.declared.events.Role.{Role}

@@ -1,4 +1,4 @@
--- The laws of a round's steps that only read.
+-- What the order asks of a round's registers when the tail word, the attributes and the candidate's next word are read, and at the decision.
 use Rattle.std.proofs.Common.{◌≡◌, ◌≢◌, ℕ, zero, suc, ◌+◌, ◌<◌, ◌==◌, Bool, true, false, cond, List, ◌∷◌, refl, sym, ap, ◌∙◌, inr, ⊎_elim, subst, arith}
 use Rattle.std.proofs.lemmas.Bool.Decides.{nat_tests}
 use Rattle.shfl_line.specs.Line.{Line, mark_of}
@@ -7,6 +7,7 @@ use Rattle.shfl_line.specs.Passes.{times, EachPair, MarkedFirst, StopsAt, IsLast
 use Rattle.shfl_line.proofs.Chain
 use Rattle.shfl_core.specs.declared.phase.Phase.{Phase}
 use Rattle.shfl_core.specs.declared.phase.Phase.TheVariants.{Next, Tail, Attr, Decide, After, Mark, Give}
+use Rattle.shfl_core.specs.declared.phase.Nap.TheVariants.{Awake}
 use Rattle.shfl_core.specs.declared.phase.PassState.{PassState}
 use Rattle.shfl_core.specs.Take.{to, after_found, stops}
 use Rattle.shfl_core.specs.Phases.{is_round, tail_to_pick}
@@ -15,6 +16,7 @@ use Rattle.shfl_core.specs.Order.{Order as Ordered, Round, Follows}
 use Rattle.shfl_core.specs.Grouping.{Grouping}
 use Rattle.shfl_laws.proofs.Order
 use Rattle.shfl_laws.proofs.Loads.{Rounded, give}
+use Rattle.shfl_laws.proofs.RoundApart.{at-next, at-mark}
 use Rattle.shfl_laws.proofs.RoundLoads.{Stays}
 
 -- the candidate of a round stands in the line, behind the batch
@@ -100,39 +102,14 @@ after-round w s q r f (suc x) e = record {
 
 -- a candidate that isn't chosen is the pass behind which the round goes on
 pub passed-by : (w : View) (s : Line) (q : PassState) → Rounded w s q → Candidate w s q → q.phase ≡ Decide → Rounded w s (to Next (record q.reg { prev = q.reg.cand }))
-passed-by w s q r c f = record {
-  prev_in = c.inside;
-  prev_free = inr c.unmarked;
-  cand_next = λ h. absurd (grind arith);
-  cand_inner = λ h. absurd (grind arith);
-  first_next = λ h m. Chain.by_eq q.reg.prev q.reg.last
-      (λ e. subst (λ z. w.next z ≡ suc q.reg.cand) e (r.cand_next (grind (arith, f))) ∙ ap suc (r.first_cand (grind (arith, f)) e))
-      (λ n. r.first_next (grind (arith, f)) n);
-  first_cand = λ h. absurd (grind arith);
-  apart = λ h. absurd (grind arith);
-  after_next = λ h. absurd (grind arith);
-  gap = λ h. absurd (grind arith);
-  aimed = λ h. absurd (grind arith);
-  hand_is = r.hand_is ∙ grind (arith, f);
-  marking = λ h. absurd (grind arith);
-}
+passed-by w s q r c f = at-next w.next (mark_of s) w.tail s.line (link_word s.hand) (record q.reg { prev = q.reg.cand }) Awake c.inside (inr c.unmarked) (r.hand_is ∙ grind (arith, f)) (λ m. Chain.by_eq q.reg.prev q.reg.last
+    (λ e. subst (λ z. w.next z ≡ suc q.reg.cand) e (r.cand_next (grind (arith, f))) ∙ ap suc (r.first_cand (grind (arith, f)) e))
+    (λ n. r.first_next (grind (arith, f)) n))
 
 -- a chosen candidate directly behind the batch is marked, any other is moved first
 pub chosen : (w : View) (s : Line) (q : PassState) → Rounded w s q → Candidate w s q → q.phase ≡ Decide → (b : Bool) → (q.reg.prev == q.reg.last) ≡ b → Rounded w s (to (cond b Mark After) q.reg)
-chosen w s q r c f true e = let same : q.reg.prev ≡ q.reg.last = grind (arith, nat_tests, e) in record {
-  prev_in = r.prev_in;
-  prev_free = r.prev_free;
-  cand_next = λ h. absurd (grind arith);
-  cand_inner = λ h. absurd (grind arith);
-  first_next = λ h. absurd (grind arith);
-  first_cand = λ h. absurd (grind arith);
-  apart = λ h. absurd (grind arith);
-  after_next = λ h. absurd (grind arith);
-  gap = λ h. absurd (grind arith);
-  aimed = λ h. absurd (grind arith);
-  hand_is = r.hand_is ∙ grind (arith, f);
-  marking = λ h. (subst (λ z. w.next z ≡ suc q.reg.cand) same (r.cand_next (grind (arith, f))), c.unmarked, λ n. absurd (n same));
-}
+chosen w s q r c f true e = let same : q.reg.prev ≡ q.reg.last = grind (arith, nat_tests, e) in
+    at-mark w.next (mark_of s) w.tail s.line (link_word s.hand) q.reg Awake r.prev_in r.prev_free (r.hand_is ∙ grind (arith, f)) (subst (λ z. w.next z ≡ suc q.reg.cand) same (r.cand_next (grind (arith, f))), c.unmarked, λ n. absurd (n same))
 chosen w s q r c f false e = let other : q.reg.prev ≢ q.reg.last = (λ i. grind (arith, nat_tests, e, i)) in record {
   prev_in = r.prev_in;
   prev_free = r.prev_free;

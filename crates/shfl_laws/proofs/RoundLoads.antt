@@ -1,4 +1,4 @@
--- The steps of a round that only read.
+-- A round goes on by a load: what its pass keeps, and the law of such a step.
 use Rattle.std.proofs.Common.{◌≡◌, ◌≢◌, ℕ, ◌<◌, true, false, length, set, sym, ◌∙◌, subst, arith}
 use Rattle.shfl_line.specs.declared.events.LineEvent.TheVariants.{Nothing}
 use Rattle.shfl_line.specs.Line.{Line, mark_of}

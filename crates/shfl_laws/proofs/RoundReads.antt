@@ -1,5 +1,5 @@
--- The laws of a round's reading steps, over words.
-use Rattle.std.proofs.Common.{◌≡◌, ◌≢◌, ℕ, zero, suc, ◌+◌, ◌*◌, ◌<◌, ◌==◌, Bool, true, false, cond, length, set, refl, ap, arith}
+-- The laws of Next, Tail, Attr, Decide and After, over words.
+use Rattle.std.proofs.Common.{◌≡◌, ◌≢◌, ℕ, zero, suc, ◌+◌, ◌<◌, ◌==◌, Bool, true, false, cond, length, set, refl, ap, arith}
 use Rattle.shfl_line.specs.declared.events.LineEvent.TheVariants.{Nothing}
 use Rattle.shfl_core.specs.declared.phase.Phase.TheVariants.{Next, Tail, Attr, Decide, After, Mark, Give}
 use Rattle.shfl_core.specs.declared.phase.Nap.TheVariants.{Awake}
@@ -53,7 +53,7 @@ module _ (t : Terms) (w : World) (p : ℕ) (ok : Lawful t w) (below : p < length
   own-there = let s = ok.seats in omega arith
 
   law-next : q.phase ≡ Next → Advances t w ok Nothing (record { words = set w.words (index (NextOf q.reg.prev)) (look w.words (NextOf q.reg.prev)); passes = set w.passes p (next_found q.reg (look w.words (NextOf q.reg.prev))) })
-  law-next f = let h = prev-there (ap is_round f) in round-load t w p ok below nap (NextOf q.reg.prev) (let z : 4 * q.reg.prev + 2 < wide (count t) = omega arith in z) (next_found q.reg (look w.words (NextOf q.reg.prev))) (next-stays q f (look w.words (NextOf q.reg.prev)))
+  law-next f = let h = prev-there (ap is_round f) in round-load t w p ok below nap (NextOf q.reg.prev) (let z : index (NextOf q.reg.prev) < wide (count t) = omega arith in z) (next_found q.reg (look w.words (NextOf q.reg.prev))) (next-stays q f (look w.words (NextOf q.reg.prev)))
       (next-round (view w) ok.shown q (rounded (ap is_round f)) f) (picks (look w.words (NextOf q.reg.prev)))
     where
       picks : (n : ℕ) → decide_to_pick (next_found q.reg n).phase ≡ true → (next_found q.reg n).reg.seen ≡ (view w).attr (next_found q.reg n).reg.cand
@@ -61,7 +61,7 @@ module _ (t : Terms) (w : World) (p : ℕ) (ok : Lawful t w) (below : p < length
       picks (suc c) e = absurd (cc)
 
   law-tail : q.phase ≡ Tail → (b : Bool) → (look w.words TailWord == q.reg.cand + 1) ≡ b → Advances t w ok Nothing (record { words = set w.words (index TailWord) (look w.words TailWord); passes = set w.passes p (to (cond b Give Attr) q.reg) })
-  law-tail f b e = round-load t w p ok below nap TailWord (let z : 1 < wide (count t) = omega arith in z) (to (cond b Give Attr) q.reg) (tail-stays q f b) (tail-round (view w) ok.shown q (rounded (ap is_round f)) f b e) (picks b)
+  law-tail f b e = round-load t w p ok below nap TailWord (let z : index TailWord < wide (count t) = omega arith in z) (to (cond b Give Attr) q.reg) (tail-stays q f b) (tail-round (view w) ok.shown q (rounded (ap is_round f)) f b e) (picks b)
     where
       picks : (b : Bool) → decide_to_pick (cond b Give Attr) ≡ true → q.reg.seen ≡ (view w).attr q.reg.cand
       picks true e = absurd (cc)
@@ -69,12 +69,12 @@ module _ (t : Terms) (w : World) (p : ℕ) (ok : Lawful t w) (below : p < length
 
   law-attr : q.phase ≡ Attr → Advances t w ok Nothing (record { words = set w.words (index (AttrOf q.reg.cand)) (look w.words (AttrOf q.reg.cand)); passes = set w.passes p (to Decide (record q.reg { seen = look w.words (AttrOf q.reg.cand) })) })
   law-attr f = let h = cand-there (ap is_round f) (ap tail_to_pick f) in let v : PassState = to Decide (record q.reg { seen = look w.words (AttrOf q.reg.cand) }) in
-      round-load t w p ok below nap (AttrOf q.reg.cand) (let z : 4 * q.reg.cand + 4 < wide (count t) = omega arith in z) v
+      round-load t w p ok below nap (AttrOf q.reg.cand) (let z : index (AttrOf q.reg.cand) < wide (count t) = omega arith in z) v
       (on-registers q v (ap is_round f) (λ i. grind (arith, f)) refl refl refl refl refl refl refl refl refl) (attr-round (view w) ok.shown q (look w.words (AttrOf q.reg.cand)) (rounded (ap is_round f)) f) (λ _. refl)
 
   law-after : q.phase ≡ After → Advances t w ok Nothing (record { words = set w.words (index (NextOf q.reg.cand)) (look w.words (NextOf q.reg.cand)); passes = set w.passes p (after_found q.reg (look w.words (NextOf q.reg.cand))) })
   law-after f = let h = cand-there (ap is_round f) (ap tail_to_pick f) in
-      round-load t w p ok below nap (NextOf q.reg.cand) (let z : 4 * q.reg.cand + 2 < wide (count t) = omega arith in z) (after_found q.reg (look w.words (NextOf q.reg.cand))) (after-stays q f (look w.words (NextOf q.reg.cand)))
+      round-load t w p ok below nap (NextOf q.reg.cand) (let z : index (NextOf q.reg.cand) < wide (count t) = omega arith in z) (after_found q.reg (look w.words (NextOf q.reg.cand))) (after-stays q f (look w.words (NextOf q.reg.cand)))
       (after-round (view w) ok.shown q (rounded (ap is_round f)) f (look w.words (NextOf q.reg.cand)) refl) (picks (look w.words (NextOf q.reg.cand)))
     where
       picks : (n : ℕ) → decide_to_pick (after_found q.reg n).phase ≡ true → (after_found q.reg n).reg.seen ≡ (view w).attr (after_found q.reg n).reg.cand
@@ -85,8 +85,8 @@ module _ (t : Terms) (w : World) (p : ℕ) (ok : Lawful t w) (below : p < length
   site-of b = cond b Lock (StateOf p)
 
   near : (b : Bool) → index (site-of b) < wide (count t)
-  near true = let z : 0 < wide (count t) = omega arith in z
-  near false = let h = own-there in (let z : 4 * p + 3 < wide (count t) = omega arith in z)
+  near true = let z : index Lock < wide (count t) = omega arith in z
+  near false = let h = own-there in (let z : index (StateOf p) < wide (count t) = omega arith in z)
 
   law-decide : q.phase ≡ Decide → (stop choice : Bool) → Advances t w ok Nothing (record { words = set w.words (index (site-of q.reg.headed)) (look w.words (site-of q.reg.headed)); passes = set w.passes p (decided q.reg stop choice) })
   law-decide f stop choice = round-load t w p ok below nap (site-of q.reg.headed) (near q.reg.headed) (decided q.reg stop choice) (stays stop choice (q.reg.prev == q.reg.last)) (rounds stop choice) (picks stop choice (q.reg.prev == q.reg.last))

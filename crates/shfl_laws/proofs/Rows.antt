@@ -1,4 +1,4 @@
--- What each row does to a world as it is read.
+-- What each step does to a world as it is read.
 use Rattle.std.specs.Prelude.{ℕ, suc, ◌+◌, Bool, true, cond, ◌==◌, nat_lt}
 use Rattle.shfl_line.specs.Passes.{updated}
 use Rattle.shfl_core.specs.declared.phase.Phase.{Phase}

@@ -1,4 +1,4 @@
--- A pass that has entered is still seen as idle, and one that leaves as a holder.
+-- A pass that has entered is still seen as idle, and one that leaves as a holder; one that is idle is seen as it stands.
 use Rattle.std.proofs.Common.{◌≡◌, ◌<◌, Bool, true, false, cond, List, length, refl, sym, ap, ◌∙◌, subst}
 use mathlib.Core.Option.{some}
 use Rattle.shfl_line.specs.declared.events.Form.{Form}
@@ -13,7 +13,7 @@ use Rattle.shfl_core.specs.Waiting.{MayUse, idle}
 use Rattle.shfl_core.specs.Worlds.{known, placed_at}
 use Rattle.shfl_core.specs.Lawful.{Terms, Advances}
 use Rattle.shfl_core.proofs.Lists.{seen-at, set-again}
-use Rattle.shfl_laws.specs.Seen.{SeenAs, Alike, Enters, Leaves, SeenLaw, MovesUnseen}
+use Rattle.shfl_laws.specs.Seen.{SeenAs, Alike, Enters, Leaves, SeenLaw, MovesUnseen, IdleAlike}
 use Rattle.shfl_laws.proofs.MoveRows.{acquire-advances, release-advances}
 use Rattle.shfl_laws.proofs.MoveLaws.{idle-is, resting-is}
 
@@ -70,3 +70,16 @@ module _ (form : Form) (seen : PassState) where
 
 pub moves-unseen : (form : Form) → MovesUnseen form
 moves-unseen form = record { acquire = λ m own seen may seen_as. acquire-unseen form seen m own may seen_as; release = λ own seen seen_as. release-unseen form seen own seen_as }
+
+pub idle-alike : (form : Form) → IdleAlike form
+idle-alike form own seen (Alike e) rests = e
+idle-alike form own seen (Enters m may f e) rests = absurd (let z : is_idle own.phase ≡ false = ap (λ (q : PassState). is_idle q.phase) e ∙ out m in let x : true ≡ false = sym rests ∙ z in cc)
+  where
+    out : (m : Mode) → is_idle (entry m) ≡ false
+    out Write = refl
+    out Read = refl
+idle-alike form own seen (Leaves r e) rests = absurd (let z : is_idle own.phase ≡ false = ap (λ (q : PassState). is_idle q.phase) e ∙ out seen.reg.mode in let x : true ≡ false = sym rests ∙ z in cc)
+  where
+    out : (m : Mode) → is_idle (exit m) ≡ false
+    out Write = refl
+    out Read = refl

@@ -1,4 +1,4 @@
--- A world shows one state.
+-- A world shows one state: line, detached waiter, shuffler, hold and batch numbers.
 use Rattle.std.proofs.Common.{◌≡◌, ℕ, suc, ◌+◌, ◌<◌, ◌⊎◌, inl, inr, List, [], ◌∷◌, Bool, true, false, cond, ◌==◌, refl, sym, ap, ◌∙◌, subst, arith}
 use Rattle.std.specs.Prelude.{Option, Some, None, ◌&&◌, not, slice_index, length}
 use Rattle.std.proofs.lemmas.Bool.Decides.{nat_tests}

@@ -1,4 +1,4 @@
--- A step of parking: only park states, announcements and wakeup words change.
+-- A step of parking, as the world is read: only park states, announcements and wakeup words change.
 use Rattle.std.proofs.Common.{◌≡◌, ℕ, List, [], ◌∷◌, Bool, refl, sym, ap, ◌∙◌, subst}
 use Rattle.shfl_line.specs.declared.events.Form.{Form}
 use Rattle.shfl_line.specs.declared.events.Mode.{Mode}

@@ -1,4 +1,4 @@
--- A pass joins the line: it exchanges the tail word.
+-- The law of Swap: a pass joins the line by exchanging the tail word.
 use Rattle.std.proofs.Common.{◌≡◌, ◌≢◌, ℕ, zero, suc, ◌+◌, ◌<◌, List, [], ◌∷◌, ◌++◌, true, false, cond, length, set, refl, sym, ap, ◌∙◌, subst, add-one, arith}
 use Rattle.std.specs.Prelude.{slice_index, slice_set}
 use Rattle.shfl_line.specs.declared.events.LineEvent.TheVariants.{Join}

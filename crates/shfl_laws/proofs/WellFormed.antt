@@ -1,4 +1,4 @@
--- A lock's world shows a well-formed line state.
+-- The state that a lawful world shows is well formed.
 use Rattle.std.proofs.Common.{◌≡◌, ℕ, suc, ◌+◌, ◌<◌, ◌≤◌, ◌⊎◌, List, [], ◌∷◌, Bool, true, false, cond, ◌==◌, ◌&&◌, not, ap, ◌∙◌, inl, inr, arith}
 use Rattle.std.proofs.lemmas.Bool.Decides.{nat_tests}
 use Rattle.shfl_line.specs.declared.events.Mode.{Mode}

@@ -3,6 +3,7 @@ pub mod Headline
 pub mod Rows
 pub mod Theorem
 pub mod Seen
+pub mod Holds
 pub mod Facts
 pub mod RoundMeasure
 pub mod Rounds

@@ -17,7 +17,7 @@ use Rattle.shfl_core.specs.Waiting.{MayUse}
 use Rattle.shfl_core.specs.Worlds.{World, opening, tried, Move, after_move, run}
 use Rattle.shfl_core.specs.Events.{attempt_event}
 use Rattle.shfl_core.specs.Lawful.{Terms, count}
-use Rattle.shfl_laws.specs.Moves.{MayMove, EachMayMove, move_event, terms, MayOpen, with_one_more}
+use Rattle.shfl_laws.specs.Moves.{MayMove, EachMayMove, move_event, terms, MayOpen, unseated, first_seated, with_one_more}
 use Rattle.shfl_laws.specs.Plain.{PlainLawful}
 
 -- a world shows one state
@@ -28,6 +28,11 @@ PlainOne = (t : Terms) (w : World) (a b : Line) → PlainLawful t w a → PlainL
 abbrev pub PlainOpening : Type 0
 PlainOpening = (rules : Rules) (attrs : List Attr) → MayOpen rules attrs
     → PlainLawful (terms rules attrs) (opening attrs) (empty (length attrs))
+
+-- and so does one before any seat is filled, and with the first one filled
+pub record PlainStarts : Type 0 where
+  pub unseated : (rules : Rules) (attrs : List Attr) → MayOpen rules attrs → PlainLawful (terms rules attrs) (unseated attrs) (empty (length attrs))
+  pub first_seat : (rules : Rules) (attrs : List Attr) → MayOpen rules attrs → PlainLawful (terms rules attrs) (first_seated attrs) (empty (length attrs))
 
 -- the event is a step of the line from s, and the world is lawful and shows the state after it
 pub record StepsTo (t : Terms) (s : Line) (e : LineEvent) (w : World) : Type 0 where

@@ -1,10 +1,18 @@
 -- The laws of what is left of a round: own steps lower it, nobody else changes it, and a round is short.
-use Rattle.std.specs.Prelude.{◌≡◌, ℕ, ◌+◌, ◌*◌, ◌<◌, ◌≤◌, List, [], ◌∷◌, Bool, true, false, cond, ◌==◌, ◌&&◌}
-use Rattle.shfl_core.specs.declared.phase.Phase.TheVariants.{Begin}
+use mathlib.Core.Option.{some}
+use lib.ListN.{get_elem?}
+use Rattle.std.specs.Prelude.{◌≡◌, ℕ, ◌+◌, ◌*◌, ◌<◌, ◌≤◌, List, [], ◌∷◌, length, Bool, true, false, cond, ◌==◌, ◌&&◌}
+use Rattle.shfl_line.specs.declared.events.Mode.{Mode}
+use Rattle.shfl_core.specs.declared.phase.Phase.TheVariants.{Begin, Idle}
+use Rattle.shfl_core.specs.declared.phase.PassState.{PassState}
 use Rattle.shfl_core.specs.declared.phase.Rules.{Rules}
-use Rattle.shfl_core.specs.Plan.{is_awake}
+use Rattle.shfl_core.specs.Words.{look, site}
+use Rattle.shfl_core.specs.Plan.{is_awake, attempt_plan}
+use Rattle.shfl_core.specs.Events.{attempt_event}
 use Rattle.shfl_core.specs.Phases.{is_round}
-use Rattle.shfl_core.specs.Worlds.{World, known, Move, Acquire, Release, Step, after_move}
+use Rattle.shfl_core.specs.Worlds.{World, known, tried, Move, Acquire, Release, Step, after_move}
+use Rattle.shfl_core.specs.ShownLine.{shown_line}
+use Rattle.shfl_core.specs.Runner.{Lock, moved}
 use Rattle.shfl_core.specs.Lawful.{Terms, count, Lawful, Advances}
 use Rattle.shfl_laws.specs.Moves.{MayMove, EachMayMove, move_event}
 use Rattle.shfl_laws.specs.RoundMeasure.{round_measure}
@@ -35,6 +43,13 @@ OtherMoveKeeps t = (w : World) (ok : Lawful t w) (p : ℕ) (m : Move) (a : Advan
     → in_round w p ≡ true → is_own w p m ≡ false
     → (in_round (after_move t.rules w m) p ≡ true) × (left t (after_move t.rules w m) a.lawful p ≡ left t w ok p)
 
+-- and so does an attempt of another pass
+abbrev pub OtherAttemptKeeps : Terms → Type 0
+OtherAttemptKeeps t = (w : World) (ok : Lawful t w) (p r : ℕ) (q : PassState) (mode : Mode)
+    (a : Advances t w ok (attempt_event mode r (look w.words (site (attempt_plan mode)))) (tried w r q mode))
+    → in_round w p ≡ true → get_elem? w.passes r ≡ some q → q.phase ≡ Idle
+    → (in_round (tried w r q mode) p ≡ true) × (left t (tried w r q mode) a.lawful p ≡ left t w ok p)
+
 -- where a round begins, so much is left at most
 abbrev pub BeginBounds : Terms → Type 0
 BeginBounds t = (w : World) (ok : Lawful t w) (p : ℕ) (m : Move) (a : Advances t w ok (move_event t.rules w m) (after_move t.rules w m))
@@ -51,3 +66,31 @@ abbrev pub RoundIsShort : Terms → Type 0
 RoundIsShort t = (w : World) (ok : Lawful t w) (p : ℕ) (m : Move) (moves : List Move)
     → MayMove t.rules.form m → EachMayMove t.rules.form moves → (known w.passes p).phase ≡ Begin → is_own w p m ≡ true
     → 1 + round_steps t.rules (after_move t.rules w m) p moves ≤ 9 * count t + 3
+
+-- where p, awake, begins a round, the rest of it takes at most nine own steps for each pass and two more, whatever the
+-- passes do in between
+abbrev pub BeginsShortRound : Lock → ℕ → Lock → Type 0
+BeginsShortRound old p new = (known old.world.passes p).phase ≡ Begin → is_awake (known old.world.passes p).nap ≡ true
+    → (moves : List Move) → EachMayMove old.rules.form moves → round_steps old.rules new.world p moves ≤ 9 * length old.world.passes + 2
+
+-- so it is of every step in a lawful lock with all its seats filled
+abbrev pub StepBeginsShortRound : Terms → Type 0
+StepBeginsShortRound t = (lock : Lock) (p : ℕ) (choice : Bool) → lock.rules ≡ t.rules → Lawful t lock.world → length lock.world.passes ≡ count t
+    → BeginsShortRound lock p (moved lock (Step p choice))
+
+-- what is left of the round of p in a lock with all its seats filled, by the line that the lock shows
+abbrev pub round_left : World → ℕ → ℕ
+round_left w p = round_measure (length w.passes) (shown_line w) p (known w.passes p)
+
+-- what the move m, from one world to another, leaves of the round of p
+pub record RoundGoesOn (old new : World) (m : Move) (p : ℕ) : Type 0 where
+  -- an own step that stays in the round lowers what is left
+  pub own : in_round old p ≡ true → is_own old p m ≡ true → in_round new p ≡ true → round_left new p < round_left old p
+  -- any other move leaves the pass in its round, and what is left of it
+  pub others : in_round old p ≡ true → is_own old p m ≡ false → (in_round new p ≡ true) × (round_left new p ≡ round_left old p)
+  -- where the round begins, so much is left at most
+  pub begins : (known old.passes p).phase ≡ Begin → is_own old p m ≡ true → in_round new p ≡ true → round_left new p ≤ 9 * length old.passes + 2
+
+-- so it is of every move and the round of any pass, in a lock with all its seats filled
+abbrev pub RoundsGoOn : Terms → Type 0
+RoundsGoOn t = (w : World) (m : Move) (p : ℕ) → Lawful t w → length w.passes ≡ count t → MayMove t.rules.form m → RoundGoesOn w (after_move t.rules w m) m p

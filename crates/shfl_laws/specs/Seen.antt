@@ -1,20 +1,24 @@
 -- What the layers over shared words rest on: a planned word is there, a told word has its form, and a pass that has
 -- entered or is about to leave is still seen as idle or as a holder.
-use Rattle.std.specs.Prelude.{◌≡◌, ℕ, Bool, true, false}
+use Rattle.std.specs.Prelude.{◌≡◌, ℕ, ◌<◌, Bool, true, false}
 use mathlib.Core.Option.{some}
 use lib.ListN.{get_elem?}
 use Rattle.shfl_line.specs.declared.events.Form.{Form}
 use Rattle.shfl_line.specs.declared.events.Mode.{Mode}
 use Rattle.shfl_line.specs.declared.events.LineEvent.TheVariants.{Nothing}
 use Rattle.shfl_core.specs.declared.phase.Phase.TheVariants.{Idle}
+use Rattle.shfl_core.specs.declared.phase.Nap.TheVariants.{Ring}
 use Rattle.shfl_core.specs.declared.phase.PassState.{PassState}
 use Rattle.shfl_core.specs.declared.phase.Rules.{Rules}
-use Rattle.shfl_core.specs.Words.{look, site, told, is_store}
-use Rattle.shfl_core.specs.Plan.{plan, is_resting}
+use Rattle.shfl_core.specs.declared.words.Word.{Word}
+use Rattle.shfl_core.specs.declared.words.Word.TheVariants.{Bell}
+use Rattle.shfl_core.specs.Words.{look, index, site, wide, told, is_store, NamesPass}
+use Rattle.shfl_core.specs.Plan.{plan, is_idle, is_resting}
 use Rattle.shfl_core.specs.Take.{take, entry, exit, acquired, released}
 use Rattle.shfl_core.specs.Waiting.{MayUse}
-use Rattle.shfl_core.specs.Worlds.{World, placed_at}
-use Rattle.shfl_core.specs.Lawful.{Terms, Lawful, Advances, Formed, InRange}
+use Rattle.shfl_core.specs.Worlds.{World, placed_at, stepped}
+use Rattle.shfl_core.specs.Events.{event}
+use Rattle.shfl_core.specs.Lawful.{Terms, count, Lawful, Advances, Formed, InRange}
 
 -- in a lawful world the word that a pass plans to touch is one of the world's
 abbrev pub InRangeLaw : Terms → Type 0
@@ -24,6 +28,20 @@ InRangeLaw t = (w : World) (p : ℕ) (q : PassState) → Lawful t w → get_elem
 abbrev pub ToldLaw : Terms → Type 0
 ToldLaw t = (w : World) (p : ℕ) (q : PassState) → Lawful t w → is_store (plan t.rules p q) ≡ false
     → Formed (site (plan t.rules p q)) (told (plan t.rules p q) (look w.words (site (plan t.rules p q))))
+
+-- a word that has its form names a pass where it should
+abbrev pub FormedNames : Type 0
+FormedNames = (v : Word) (n : ℕ) → Formed v n → NamesPass v n
+
+-- so what an operation tells is what a step may find
+abbrev pub ToldNames : Terms → Type 0
+ToldNames t = (w : World) (p : ℕ) (q : PassState) → Lawful t w → is_store (plan t.rules p q) ≡ false
+    → NamesPass (site (plan t.rules p q)) (told (plan t.rules p q) (look w.words (site (plan t.rules p q))))
+
+-- a pass's own wakeup word is one of the world's, and so is that of a pass that it is about to wake
+pub record BellsInRange (t : Terms) : Type 0 where
+  pub own : (w : World) (p : ℕ) (q : PassState) → Lawful t w → get_elem? w.passes p ≡ some q → index (Bell p) < wide (count t)
+  pub woken : (w : World) (p : ℕ) (q : PassState) (whom : ℕ) → Lawful t w → get_elem? w.passes p ≡ some q → q.nap ≡ Ring whom → whom < count t
 
 -- a step that stores looks at nothing: what its operation tells serves as well as what it found
 abbrev pub StoresBlindly : Type 0
@@ -44,3 +62,16 @@ SeenLaw t = (w : World) (p : ℕ) (own seen : PassState) (ok : Lawful t w) → g
 pub record MovesUnseen (form : Form) : Type 0 where
   pub acquire : (m : Mode) (own seen : PassState) → MayUse form m → SeenAs form own seen → SeenAs form (acquired m own) seen
   pub release : (own seen : PassState) → SeenAs form own seen → SeenAs form (released own) seen
+
+-- an idle pass is seen as it stands
+abbrev pub IdleAlike : Form → Type 0
+IdleAlike form = (own seen : PassState) → SeenAs form own seen → is_idle own.phase ≡ true → own ≡ seen
+
+-- the step of a pass as it stands, from a world that is lawful as the pass is seen: it is the named step of the line
+abbrev pub OwnStepLaw : Terms → Type 0
+OwnStepLaw t = (w : World) (p : ℕ) (own seen : PassState) (ok : Lawful t w) → get_elem? w.passes p ≡ some seen → SeenAs t.rules.form own seen → (choice : Bool)
+    → Advances t w ok (event t.rules p own (look w.words (site (plan t.rules p own)))) (stepped t.rules w p own choice)
+
+-- and the word that it plans to touch is one of the world's
+abbrev pub OwnRangeLaw : Terms → Type 0
+OwnRangeLaw t = (w : World) (p : ℕ) (own seen : PassState) → Lawful t w → get_elem? w.passes p ≡ some seen → SeenAs t.rules.form own seen → InRange t p own

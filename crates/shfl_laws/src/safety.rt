@@ -2,7 +2,7 @@
 ghost use Rattle.shfl_laws.specs.Theorem.{HeadlineLaw, ShowsWellFormed, ShowsOne, ShownLineLaw, RunHeadline};
 ghost use Rattle.shfl_laws.specs.Facts.{FactsLaw};
 ghost use Rattle.shfl_laws.specs.Plain.{PlainLaw, LawfulLaw};
-ghost use Rattle.shfl_laws.specs.PlainMoves.{PlainOne, PlainOpening, PlainMoves};
+ghost use Rattle.shfl_laws.specs.PlainMoves.{PlainOne, PlainOpening, PlainStarts, PlainMoves};
 ghost use Rattle.shfl_laws.specs.PlainMoves.{PlainAttempts, PlainSeats, PlainRuns};
 
 /// In every lawful world one writer holds the lock, or readers alone, or nobody; every queued waiter stands once in the
@@ -32,6 +32,7 @@ pub fn plain_words_are_the_invariant()
 pub fn every_move_in_plain_words()
     ensures one { PlainOne }
     ensures opening { PlainOpening }
+    ensures starts { PlainStarts }
     ensures moves { PlainMoves }
     ensures attempts { PlainAttempts }
     ensures seats { PlainSeats }

@@ -3,7 +3,6 @@ use Rattle.std.specs.Prelude.{◌≡◌, ℕ, ◌+◌, ◌*◌, ◌/◌, ◌%◌
 use Rattle.shfl_line.specs.declared.words.LockWord.{LockWord}
 use Rattle.shfl_line.specs.declared.words.NodeState.{NodeState}
 use Rattle.shfl_line.specs.declared.words.Attr.{Attr}
-use Rattle.shfl_line.specs.declared.words.TheConstants.{HELD, CLOSED, READER, READY, SHUFFLER, PARKED, SPIN, BATCH}
 
 abbrev pub bit : Bool → ℕ
 bit true = 1
@@ -11,7 +10,7 @@ bit false = 0
 
 -- the lock word: held in bit 0, closed in bit 8, and the readers in the high half
 abbrev pub packed_lock : Bool → Bool → ℕ → ℕ
-packed_lock held closed readers = HELD * bit held + CLOSED * bit closed + READER * readers
+packed_lock held closed readers = 1 * bit held + 256 * bit closed + 4294967296 * readers
 
 abbrev pub lock_word : LockWord → ℕ
 lock_word w = packed_lock w.held w.closed w.readers
@@ -20,10 +19,10 @@ abbrev pub held_of : ℕ → Bool
 held_of word = word % 2 == 1
 
 abbrev pub closed_of : ℕ → Bool
-closed_of word = word / CLOSED % 2 == 1
+closed_of word = word / 256 % 2 == 1
 
 abbrev pub readers_of : ℕ → ℕ
-readers_of word = word / READER
+readers_of word = word / 4294967296
 
 abbrev pub lock_of : ℕ → LockWord
 lock_of word = record { held = held_of word; closed = closed_of word; readers = readers_of word }
@@ -36,10 +35,10 @@ pub record IsLockWord (word : ℕ) : Type 0 where
   pub few : readers < 2 ^ 32
   pub is : word ≡ packed_lock held closed readers
 
--- a node's state word: four bits, and the batch from bit 16 on
+-- a node's state word: ready, shuffler, parked and spin in bits 0 to 3, and the batch from bit 16 on
 abbrev pub packed_state : Bool → Bool → Bool → Bool → ℕ → ℕ
 packed_state ready shuffler parked spin batch =
-    READY * bit ready + SHUFFLER * bit shuffler + PARKED * bit parked + SPIN * bit spin + BATCH * batch
+    1 * bit ready + 2 * bit shuffler + 4 * bit parked + 8 * bit spin + 65536 * batch
 
 abbrev pub state_word : NodeState → ℕ
 state_word s = packed_state s.ready s.shuffler s.parked s.spin s.batch
@@ -48,16 +47,16 @@ abbrev pub ready_of : ℕ → Bool
 ready_of word = word % 2 == 1
 
 abbrev pub shuffler_of : ℕ → Bool
-shuffler_of word = word / SHUFFLER % 2 == 1
+shuffler_of word = word / 2 % 2 == 1
 
 abbrev pub parked_of : ℕ → Bool
-parked_of word = word / PARKED % 2 == 1
+parked_of word = word / 4 % 2 == 1
 
 abbrev pub spin_of : ℕ → Bool
-spin_of word = word / SPIN % 2 == 1
+spin_of word = word / 8 % 2 == 1
 
 abbrev pub batch_of : ℕ → ℕ
-batch_of word = word / BATCH
+batch_of word = word / 65536
 
 abbrev pub state_of : ℕ → NodeState
 state_of word = record {

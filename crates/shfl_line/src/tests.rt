@@ -174,6 +174,28 @@ fn words_have_their_layout(rt: HostRuntime) {
 }
 
 #[test]
+fn each_bit_of_a_word_has_its_own_place(rt: HostRuntime) {
+    for (bit, word) in [1, 2, 4, 8].iter().enumerate() {
+        let state = NodeState {
+            ready: bit == 0,
+            shuffler: bit == 1,
+            parked: bit == 2,
+            spin: bit == 3,
+            batch: 0,
+        };
+        assert_eq!(rt; state.pack(), *word);
+    }
+    for (bit, word) in [1, 256].iter().enumerate() {
+        let lock = LockWord {
+            held: bit == 0,
+            closed: bit == 1,
+            readers: 0,
+        };
+        assert_eq!(rt; lock.pack(), *word);
+    }
+}
+
+#[test]
 fn policies_answer_by_the_socket_or_always_alike(rt: HostRuntime) {
     let here = Attr::unpack(1);
     let there = Attr::unpack(2);

@@ -1,17 +1,18 @@
 //! The waiter of a lock that readers may share.
 #![tactic(auto)]
 
-ghost use Rattle.std.specs.Prelude.{◌≡◌};
+ghost use Rattle.std.specs.Prelude.{◌≡◌, false};
+ghost use Rattle.shfl_core.specs.Plan.{parks};
 ghost use Rattle.shfl_core.specs.Waiting.{fresh};
 
 #[cfg(test)]
 mod tests;
 
 use shfl_core::asks::{
-    acquire_row, ask_row, idle_pass, is_moving, is_resting, release_row, watch_row,
+    acquire_row_in_place, ask_row, idle_pass, is_moving, release_row_in_place, watch_row,
 };
 use shfl_core::plans::plan_row;
-use shfl_core::rows::take_row;
+use shfl_core::rows::take_row_in_place;
 use shfl_core::{Access, Ask, Nap, PassState, Phase, Registers, Rules, Waiter, Watch};
 use shfl_line::{Attr, Form, Mode};
 use std::marker::Model;
@@ -30,11 +31,18 @@ impl Model for RwLocal {
     ghost Value = { Meaning };
 
     ghost view = { λ l. record { attr = l.attr; rules = l.rules; pass = l.pass } };
+
+    ghost use Rattle.std.specs.Prelude.{◌≡◌, false};
+    ghost use Rattle.shfl_core.specs.Plan.{parks};
+    ghost use Rattle.shfl_core.specs.declared.phase.Nap.TheVariants.{Awake};
+
+    ghost invariant = { λ l. (parks l.rules.form ≡ false) × (l.pass.nap ≡ Awake) };
 }
 
 impl RwLocal {
-    /// The pass `me`, idle.
+    /// The pass `me`, idle, in a form without parking.
     pub fn new(me: u32, attr: Attr, limit: u16, form: Form) -> RwLocal
+        requires { parks form ≡ false }
         ensures { result ≡ fresh me attr (record { limit = limit; form = form }) }
     {
         RwLocal {
@@ -49,15 +57,11 @@ impl Waiter for RwLocal {
     ghost meaning = { λ l. l };
 
     fn acquire(&mut self, mode: Mode) -> bool {
-        let idle = matches!(self.pass.phase, Phase::Idle);
-        self.pass = acquire_row(mode, self.pass);
-        idle
+        acquire_row_in_place(mode, &mut self.pass)
     }
 
     fn release(&mut self) -> bool {
-        let resting = is_resting(self.pass);
-        self.pass = release_row(self.pass);
-        resting
+        release_row_in_place(&mut self.pass)
     }
 
     fn moving(&self) -> bool {
@@ -89,6 +93,7 @@ impl Waiter for RwLocal {
     }
 
     fn take(&mut self, found: u64, choice: bool) {
-        self.pass = take_row(self.rules, self.pass.reg.me, self.pass, found, choice);
+        let me = self.pass.reg.me;
+        take_row_in_place(self.rules, me, &mut self.pass, found, choice);
     }
 }

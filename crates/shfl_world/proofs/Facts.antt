@@ -19,12 +19,14 @@ use Rattle.shfl_core.specs.Runner.{Lock}
 use Rattle.shfl_laws.specs.Headline.{Headline}
 use Rattle.shfl_laws.proofs.Leasts.{each-long}
 use Rattle.shfl_laws.proofs.Headline.{headline}
+use Rattle.shfl_laws.proofs.Laws.{laws}
+use Rattle.shfl_laws.proofs.MeasureRounds.{rounds-short}
 use Rattle.shfl_laws.proofs.Leave.{link-room}
 use Rattle.shfl_laws.proofs.NextRows.{queued-below}
 use Rattle.shfl_laws.proofs.Order
 use Rattle.shfl_laws.proofs.ShownLine.{shown-line-law}
 use Rattle.shfl_laws.proofs.WellFormed.{agrees-well-formed}
-use Rattle.shfl_world.specs.LawfulLock.{terms_of, IsLawfulLock}
+use Rattle.shfl_world.specs.LawfulLock.{terms_of, IsLawfulLock, RoundsAreShort}
 
 module _ (lock : Lock) (ok : IsLawfulLock lock) where
   abbrev n : ℕ
@@ -95,3 +97,7 @@ module _ (lock : Lock) (ok : IsLawfulLock lock) where
   pub hand-apart : (h : Option ℕ) → (shown_line lock.world).hand ≡ h → IfSome h (λ q. times q (shown_line lock.world).line ≡ 0)
   hand-apart None e = tt
   hand-apart (Some q) e = let i : link_word s.hand ≡ suc q = ap link_word e in let o = of-passes.once q in grind (arith, nat_tests, i, o)
+
+  -- no round is long
+  pub rounds-end : RoundsAreShort lock
+  rounds-end p m rest one each begins own = let short = rounds-short laws (terms_of lock) lock.world ok p m rest one each begins own in let e = full in omega arith

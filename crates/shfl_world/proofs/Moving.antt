@@ -1,67 +1,42 @@
 -- A lawful lock stays lawful with every move, and shows the step of the line that the move names.
-use Rattle.std.proofs.Common.{◌≡◌, ℕ, suc, ◌<◌, ◌≤◌, List, [], ◌∷◌, Bool, true, false, cond, length, refl, sym, ap, ◌∙◌, ⊎_elim, subst, arith}
-use Rattle.std.specs.Prelude.{slice_index, map}
-use Rattle.std.proofs.Math.ListN.{length-set}
-use Rattle.std.proofs.lemmas.List.{get_or_past}
+use Rattle.std.proofs.Common.{◌≡◌, ℕ, suc, ◌<◌, List, [], ◌∷◌, length, refl, sym, ap, ◌∙◌, subst}
+use Rattle.std.specs.Prelude.{map}
 use Rattle.shfl_line.specs.declared.words.Attr.{Attr as AttrValue}
 use Rattle.shfl_line.specs.Line.{Line, empty}
 use Rattle.shfl_line.specs.Steps.{Admits, after}
 use Rattle.shfl_line.specs.Words.{attr_word}
 use Rattle.shfl_core.specs.declared.phase.Rules.{Rules}
 use Rattle.shfl_core.specs.declared.words.Word.TheVariants.{Attr}
-use Rattle.shfl_core.specs.Words.{look, site}
-use Rattle.shfl_core.specs.Plan.{plan, moving, is_idle, is_resting}
-use Rattle.shfl_core.specs.Take.{take, acquired, released}
-use Rattle.shfl_core.specs.Worlds.{World, known, idle_from, opening, placed_at, stepped, Move, Acquire, Release, Step, after_move}
+use Rattle.shfl_core.specs.Words.{look}
+use Rattle.shfl_core.specs.Worlds.{idle_from, opening, Move}
 use Rattle.shfl_core.specs.ShownLine.{each_below, shown_line}
 use Rattle.shfl_core.specs.Lawful.{Terms, count, Lawful, Advances}
 use Rattle.shfl_core.specs.Runner.{Lock, opened, moved}
-use Rattle.shfl_core.proofs.Lists.{below-or}
 use Rattle.shfl_laws.specs.Moves.{MayMove, MayOpen, OpensLawful, terms}
 use Rattle.shfl_laws.proofs.Laws.{laws}
-use Rattle.shfl_laws.proofs.Leasts.{each-long, each-read}
-use Rattle.shfl_laws.proofs.MoveLaws.{move-law}
+use Rattle.shfl_laws.proofs.MoveLaws.{move-law, moved-long}
 use Rattle.shfl_laws.proofs.Opens.{opening-law}
 use Rattle.shfl_laws.proofs.ShownLine.{shown-line-law}
-use Rattle.shfl_laws.proofs.ShownOne.{numbers-one}
+use Rattle.shfl_laws.proofs.TermsTold.{each-told}
 use Rattle.shfl_world.specs.LawfulLock.{terms_of, IsLawfulLock, line_event, MovesLawfully}
 use Rattle.shfl_world.proofs.Facts.{full, shown-is}
 
--- a list of numbers is what a function gives for each place
-each-told : (f : ℕ → ℕ) (n : ℕ) (l : List ℕ) → length l ≡ n → ((q : ℕ) → q < n → f q ≡ slice_index l q) → each_below f n ≡ l
-each-told f n l e h = numbers-one (each_below f n) l (each-long f n ∙ sym e) (λ q. ⊎_elim
-    (λ b. each-read f n q (λ over. absurd (omega arith)) ∙ h q b)
-    (λ b. get_or_past (each_below f n) q 0 (subst (λ k. k ≤ q) (sym (each-long f n)) b) ∙ sym (get_or_past l q 0 (subst (λ k. k ≤ q) (sym e) b)))
-    (below-or q n))
-
 -- what an opening fixed is what the lock's own words say
-pub lawful-lock : (t : Terms) (lock : Lock) → lock.rules ≡ t.rules → length lock.world.passes ≡ count t → Lawful t lock.world → IsLawfulLock lock
-lawful-lock t lock r e ok = subst (λ (u : Terms). Lawful u lock.world) (sym same) ok
+pub lawful-terms : (t : Terms) (lock : Lock) → lock.rules ≡ t.rules → length lock.world.passes ≡ count t → Lawful t lock.world → terms_of lock ≡ t
+lawful-terms t lock r e ok = λ j. record { rules = r j; attrs = attrs j }
   where
     attrs : each_below (λ p. look lock.world.words (Attr p)) (length lock.world.passes) ≡ t.attrs
     attrs = each-told (λ p. look lock.world.words (Attr p)) (length lock.world.passes) t.attrs (sym e) (λ q h. ok.attrs q (subst (λ k. q < k) e h))
 
-    same : terms_of lock ≡ t
-    same = λ j. record { rules = r j; attrs = attrs j }
-
--- no move adds a pass or takes one away
-moved-long : (r : Rules) (w : World) (m : Move) → length (after_move r w m).passes ≡ length w.passes
-moved-long r w m = by m
-  where
-    maybe : (b : Bool) (w' : World) → length w'.passes ≡ length w.passes → length (cond b w' w).passes ≡ length w.passes
-    maybe true w' e = e
-    maybe false w' e = refl
-
-    by : (m : Move) → length (after_move r w m).passes ≡ length w.passes
-    by (Acquire p mode) = let q = known w.passes p in maybe (is_idle q.phase) (placed_at w p (acquired mode q)) (length-set w.passes p (acquired mode q))
-    by (Release p) = let q = known w.passes p in maybe (is_resting q) (placed_at w p (released q)) (length-set w.passes p (released q))
-    by (Step p choice) = let q = known w.passes p in maybe (moving q) (stepped r w p q choice) (length-set w.passes p (take r p q (look w.words (site (plan r p q))) choice))
+pub lawful-lock : (t : Terms) (lock : Lock) → lock.rules ≡ t.rules → length lock.world.passes ≡ count t → Lawful t lock.world → IsLawfulLock lock
+lawful-lock t lock r e ok = subst (λ (u : Terms). Lawful u lock.world) (sym (lawful-terms t lock r e ok)) ok
 
 pub move-lawful : (lock : Lock) (m : Move) → IsLawfulLock lock → MayMove lock.rules.form m → MovesLawfully lock m
 move-lawful lock m ok may = record {
   lawful = lawful-lock t (moved lock m) refl there advance.lawful;
   admitted = subst (λ (s : Line). Admits lock.rules.limit s (line_event lock m)) (shown-is lock ok) advance.admitted;
   shown = sym (shown-line-law t (moved lock m).world advance.lawful there) ∙ (advance.shown ∙ ap (λ (s : Line). after s (line_event lock m)) (shown-is lock ok));
+  terms = lawful-terms t (moved lock m) refl there advance.lawful;
 }
   where
     t : Terms
@@ -85,6 +60,9 @@ module _ (rules : Rules) (attrs : List AttrValue) (may : MayOpen rules attrs) wh
   pub opened-lawful : IsLawfulLock (opened rules attrs)
   opened-lawful = lawful-lock (terms rules attrs) (opened rules attrs) refl (idle-long 0 attrs) opens.lawful
 
+  pub opened-terms : terms_of (opened rules attrs) ≡ terms rules attrs
+  opened-terms = lawful-terms (terms rules attrs) (opened rules attrs) refl (idle-long 0 attrs) opens.lawful
+
   pub opened-shows : shown_line (opening attrs) ≡ empty (length attrs)
   opened-shows = sym (shown-line-law (terms rules attrs) (opening attrs) opens.lawful (idle-long 0 attrs)) ∙ opens.shown
 
@@ -101,3 +79,6 @@ module _ (old now new : Lock) (m : Move) (ok : IsLawfulLock old) (same : old ≡
 
   pub shows-event : shown_line new.world ≡ after (shown_line now.world) (line_event now m)
   shows-event = ap (λ (l : Lock). shown_line l.world) is ∙ (law.shown ∙ (λ j. after (shown_line (same j).world) (line_event (same j) m)))
+
+  pub keeps-terms : terms_of new ≡ terms_of now
+  keeps-terms = ap terms_of is ∙ (law.terms ∙ ap terms_of same)

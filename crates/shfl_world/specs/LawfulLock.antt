@@ -1,15 +1,17 @@
 -- A lock over plain words that is lawful with all its passes, and what a move of it shows.
-use Rattle.std.specs.Prelude.{◌≡◌, length}
+use Rattle.std.specs.Prelude.{◌≡◌, ℕ, ◌+◌, ◌*◌, ◌≤◌, List, true, length}
 use Rattle.shfl_line.specs.declared.events.LineEvent.{LineEvent}
 use Rattle.shfl_line.specs.Line.{Line, IsWellFormed}
 use Rattle.shfl_line.specs.Steps.{Admits, after}
+use Rattle.shfl_core.specs.declared.phase.Phase.TheVariants.{Begin}
 use Rattle.shfl_core.specs.declared.words.Word.TheVariants.{Attr}
 use Rattle.shfl_core.specs.Words.{look}
-use Rattle.shfl_core.specs.Worlds.{Move}
+use Rattle.shfl_core.specs.Worlds.{Move, known}
 use Rattle.shfl_core.specs.ShownLine.{each_below, shown_line}
 use Rattle.shfl_core.specs.Lawful.{Terms, Lawful}
 use Rattle.shfl_core.specs.Runner.{Lock, moved}
-use Rattle.shfl_laws.specs.Moves.{move_event}
+use Rattle.shfl_laws.specs.Moves.{MayMove, EachMayMove, move_event}
+use Rattle.shfl_laws.specs.Rounds.{is_own, round_steps}
 use Rattle.shfl_laws.specs.Headline.{Headline}
 
 -- what the lock's opening fixed: its rules, and the attribute word of each pass
@@ -38,8 +40,16 @@ ShowsHeadline lock = Headline lock.rules.limit lock.world (shown_by lock).line (
 abbrev pub line_event : Lock → Move → LineEvent
 line_event lock m = move_event lock.rules lock.world m
 
+-- a round that the move begins takes at most nine own steps of its pass for each pass, and three, whatever moves follow
+abbrev pub RoundsAreShort : Lock → Type 0
+RoundsAreShort lock = (p : ℕ) (m : Move) (rest : List Move) → MayMove lock.rules.form m → EachMayMove lock.rules.form rest
+    → (known lock.world.passes p).phase ≡ Begin → is_own lock.world p m ≡ true
+    → 1 + round_steps lock.rules (moved lock m).world p rest ≤ 9 * length lock.world.passes + 3
+
 -- the move leads to a lawful lock, and the shown states are one admitted step of the line apart, the move's own
 pub record MovesLawfully (lock : Lock) (m : Move) : Type 0 where
   pub lawful : IsLawfulLock (moved lock m)
   pub admitted : Admits lock.rules.limit (shown_by lock) (line_event lock m)
   pub shown : shown_by (moved lock m) ≡ after (shown_by lock) (line_event lock m)
+  -- the rules and the attributes stay
+  pub terms : terms_of (moved lock m) ≡ terms_of lock

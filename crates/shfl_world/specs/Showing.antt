@@ -1,5 +1,5 @@
 -- What a scan of the passes finds: by whom the rest of a line state is shown.
-use Rattle.std.specs.Prelude.{◌≡◌, ℕ, suc, ◌<◌, Bool, cond, ◌==◌, ◌&&◌, slice_index}
+use Rattle.std.specs.Prelude.{◌≡◌, ℕ, suc, ◌<◌, Bool, cond, ◌==◌, ◌&&◌, length, slice_index}
 use Rattle.shfl_line.specs.declared.words.NodeState.{NodeState}
 use Rattle.shfl_line.specs.Words.{ready_of, shuffler_of}
 use Rattle.shfl_core.specs.declared.phase.PassState.{PassState}
@@ -7,6 +7,7 @@ use Rattle.shfl_core.specs.declared.words.Word.TheVariants.{State}
 use Rattle.shfl_core.specs.Words.{look}
 use Rattle.shfl_core.specs.Phases.{is_queued, is_fore, is_round, is_linking, has_hand}
 use Rattle.shfl_core.specs.Worlds.{World, known}
+use Rattle.shfl_core.specs.Runner.{Lock}
 use Rattle.shfl_core.specs.ShownLine.{least, is_ready}
 use Rattle.shfl_world.specs.declared.glance.Glance.{Glance}
 
@@ -21,6 +22,10 @@ pub record Finds (w : World) (n : ℕ) (g : Glance) : Type 0 where
   -- for each pass, who has yet to write its next word
   pub linkers : (a : ℕ) → a < 64
       → slice_index g.linkers a ≡ least (λ p. is_linking (known w.passes p).phase && ((known w.passes p).reg.before == a)) n
+
+-- a scan of all passes finds this
+abbrev pub FindsAll : Lock → Glance → Type 0
+FindsAll lock g = Finds lock.world (length lock.world.passes) g
 
 -- a pass plus 1 where none was found before and the pass passes the test
 abbrev pub first_found : ℕ → Bool → ℕ → ℕ

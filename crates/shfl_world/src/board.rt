@@ -7,7 +7,7 @@ ghost use Rattle.shfl_core.specs.Words.{look};
 ghost use Rattle.shfl_core.specs.Worlds.{Acquire, Release, Step, admitted};
 ghost use Rattle.shfl_line.specs.Line.{IsWellFormed};
 ghost use Rattle.shfl_line.specs.Steps.{Admits, after};
-ghost use Rattle.shfl_world.specs.LawfulLock.{line_event, shown_by};
+ghost use Rattle.shfl_world.specs.LawfulLock.{line_event, shown_by, terms_of};
 
 use crate::showing;
 use crate::world::World;
@@ -22,6 +22,7 @@ impl<W: Waiter> Board for World<W> {
         requires mode { MayUse self.old.rules.form mode }
         ensures answer { result ≡ admitted self.old.world (Acquire pass mode) }
         ensures after { self.new ≡ runner.moved self.old (Acquire pass mode) }
+        ensures terms { terms_of self.new ≡ terms_of self.old }
         ensures shown { shown_by self.new ≡ shown_by self.old }
     {
         self.plain.acquire(pass, mode)
@@ -31,6 +32,7 @@ impl<W: Waiter> Board for World<W> {
         requires declared { pass < length self.old.world.passes }
         ensures answer { result ≡ admitted self.old.world (Release pass) }
         ensures after { self.new ≡ runner.moved self.old (Release pass) }
+        ensures terms { terms_of self.new ≡ terms_of self.old }
         ensures shown { shown_by self.new ≡ shown_by self.old }
     {
         self.plain.release(pass)
@@ -44,6 +46,7 @@ impl<W: Waiter> Board for World<W> {
         requires declared { pass < length self.old.world.passes }
         ensures answer { result ≡ admitted self.old.world (Step pass choice) }
         ensures after { self.new ≡ runner.moved self.old (Step pass choice) }
+        ensures terms { terms_of self.new ≡ terms_of self.old }
         ensures event { Admits self.old.rules.limit (shown_by self.old)
             (line_event self.old (Step pass choice)) }
         ensures shown { shown_by self.new

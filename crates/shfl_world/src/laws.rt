@@ -3,7 +3,7 @@ ghost use Rattle.shfl_core.specs.Runner.{Lock};
 ghost use Rattle.shfl_core.specs.Worlds.{Move};
 ghost use Rattle.shfl_laws.specs.Moves.{MayMove};
 ghost use Rattle.shfl_world.specs.LawfulLock.{IsLawfulLock, ShowsWellFormed, ShowsHeadline};
-ghost use Rattle.shfl_world.specs.LawfulLock.{MovesLawfully};
+ghost use Rattle.shfl_world.specs.LawfulLock.{MovesLawfully, RoundsAreShort};
 
 /// The shown state is well formed, and is what the plain words say: who holds, who waits where, and
 /// who shuffles.
@@ -17,4 +17,10 @@ pub fn what_a_world_shows()
 pub fn every_move_of_a_world()
     ensures law { (lock : Lock) (m : Move) → IsLawfulLock lock → MayMove lock.rules.form m
         → MovesLawfully lock m }
+{}
+
+/// A round of shuffling takes at most nine own steps for each pass, and three, those of parking not counted: whatever
+/// the other passes do in between, and whatever the policy answers.
+pub fn every_round_of_a_world()
+    ensures law { (lock : Lock) → IsLawfulLock lock → RoundsAreShort lock }
 {}

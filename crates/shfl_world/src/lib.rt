@@ -5,10 +5,12 @@ mod board;
 mod glance;
 mod laws;
 mod phases;
-mod showing;
+pub mod showing;
+mod sight;
 #[cfg(test)]
 mod tests;
 mod world;
 
-pub use laws::{every_move_of_a_world, what_a_world_shows};
+pub use laws::{every_move_of_a_world, every_round_of_a_world, what_a_world_shows};
+pub use sight::Sight;
 pub use world::World;

@@ -7,28 +7,29 @@ ghost use Rattle.shfl_core.specs.Words.{look};
 ghost use Rattle.shfl_line.specs.Line.{empty, holds};
 ghost use Rattle.shfl_line.specs.Words.{state_of};
 ghost use Rattle.shfl_world.specs.LawfulLock.{IsLawfulLock};
-ghost use Rattle.shfl_world.specs.Showing.{Finds};
+ghost use Rattle.shfl_world.specs.Showing.{FindsAll};
 
 use crate::glance::Glance;
 use crate::phases::is_holding;
-use shfl_core::{PassState, PlainWorld, Waiter, Word};
+use crate::sight::Sight;
+use shfl_core::{PassState, Word};
 use shfl_line::{LineState, NodeState, Role};
 
-fn count_of<W: Waiter>(lock: &PlainWorld<W>) -> u32
-    requires { IsLawfulLock lock.now }
-    ensures count { result ≡ length lock.now.world.passes }
+fn count_of<S: Sight>(lock: &S) -> u32
+    requires { IsLawfulLock (S.meaning lock.now) }
+    ensures count { result ≡ length (S.meaning lock.now).world.passes }
     ensures few { result ≤ 64 }
 {
-    lock.count() as u32
+    lock.passes() as u32
 }
 
 // What the state word of a pass says.
-fn node_of<W: Waiter>(lock: &PlainWorld<W>, pass: u32) -> NodeState
-    requires lawful { IsLawfulLock lock.now }
-    requires declared { pass < length lock.now.world.passes }
-    ensures { result ≡ state_of (look lock.now.world.words (State pass)) }
+fn node_of<S: Sight>(lock: &S, pass: u32) -> NodeState
+    requires lawful { IsLawfulLock (S.meaning lock.now) }
+    requires declared { pass < length (S.meaning lock.now).world.passes }
+    ensures { result ≡ state_of (look (S.meaning lock.now).world.words (State pass)) }
 {
-    NodeState::unpack(lock.look(Word::State(pass)))
+    NodeState::unpack(lock.says(Word::State(pass)))
 }
 
 // Shows a pass that holds.
@@ -45,15 +46,15 @@ fn show_holder(out: &mut LineState, pass: u32, own: PassState)
 }
 
 // Shows the holders, and finds by whom the rest is shown.
-fn scan<W: Waiter>(lock: &PlainWorld<W>, out: &mut LineState) -> Glance
-    requires lawful { IsLawfulLock lock.now }
-    requires blank { out.old ≡ empty (length lock.now.world.passes) }
-    ensures hold { out.new ≡ record out.old { hold = (shown_line lock.now.world).hold } }
-    ensures found { Finds lock.now.world (length lock.now.world.passes) result }
+fn scan<S: Sight>(lock: &S, out: &mut LineState) -> Glance
+    requires lawful { IsLawfulLock (S.meaning lock.now) }
+    requires blank { out.old ≡ empty (length (S.meaning lock.now).world.passes) }
+    ensures hold { out.new ≡ record out.old { hold = (shown_line (S.meaning lock.now).world).hold } }
+    ensures found { FindsAll (S.meaning lock.now) result }
 {
     let mut found = Glance::nobody();
     for pass in 0..count_of(lock) {
-        let own = lock.standing(pass);
+        let own = lock.stands(pass);
         show_holder(out, pass, own);
         found.see(pass, own, node_of(lock, pass));
     }
@@ -61,12 +62,12 @@ fn scan<W: Waiter>(lock: &PlainWorld<W>, out: &mut LineState) -> Glance
 }
 
 // The queue's head plus 1, or 0.
-fn head<W: Waiter>(lock: &PlainWorld<W>, found: &Glance) -> u64
-    requires { Finds lock.now.world (length lock.now.world.passes) found.now }
-    ensures { result ≡ head_of lock.now.world }
+fn head<S: Sight>(lock: &S, found: &Glance) -> u64
+    requires { FindsAll (S.meaning lock.now) found.now }
+    ensures { result ≡ head_of (S.meaning lock.now).world }
 {
     if found.granter > 0 {
-        let own = lock.standing(found.granter - 1);
+        let own = lock.stands(found.granter - 1);
         return own.reg.heir as u64 + 1;
     }
     if found.fore > 0 {
@@ -77,13 +78,13 @@ fn head<W: Waiter>(lock: &PlainWorld<W>, found: &Glance) -> u64
 }
 
 // The successor of a pass plus 1, or 0: whom its next word names, else who has yet to write it.
-fn successor<W: Waiter>(lock: &PlainWorld<W>, found: &Glance, pass: u32) -> u64
-    requires lawful { IsLawfulLock lock.now }
-    requires found { Finds lock.now.world (length lock.now.world.passes) found.now }
-    requires declared { pass < length lock.now.world.passes }
-    ensures { result ≡ successor_of lock.now.world pass }
+fn successor<S: Sight>(lock: &S, found: &Glance, pass: u32) -> u64
+    requires lawful { IsLawfulLock (S.meaning lock.now) }
+    requires found { FindsAll (S.meaning lock.now) found.now }
+    requires declared { pass < length (S.meaning lock.now).world.passes }
+    ensures { result ≡ successor_of (S.meaning lock.now).world pass }
 {
-    let next = lock.look(Word::Next(pass));
+    let next = lock.says(Word::Next(pass));
     if next > 0 {
         next
     } else {
@@ -92,13 +93,14 @@ fn successor<W: Waiter>(lock: &PlainWorld<W>, found: &Glance, pass: u32) -> u64
 }
 
 // Shows the queue from its head on, with the batch numbers.
-fn show_queue<W: Waiter>(lock: &PlainWorld<W>, found: &Glance, out: &mut LineState)
-    requires lawful { IsLawfulLock lock.now }
-    requires found { Finds lock.now.world (length lock.now.world.passes) found.now }
-    requires blank { out.old ≡ record (empty (length lock.now.world.passes)) { hold = out.old.hold } }
+fn show_queue<S: Sight>(lock: &S, found: &Glance, out: &mut LineState)
+    requires lawful { IsLawfulLock (S.meaning lock.now) }
+    requires found { FindsAll (S.meaning lock.now) found.now }
+    requires blank { out.old
+        ≡ record (empty (length (S.meaning lock.now).world.passes)) { hold = out.old.hold } }
     ensures { out.new ≡ record out.old {
-      line = (shown_line lock.now.world).line;
-      mark = (shown_line lock.now.world).mark;
+      line = (shown_line (S.meaning lock.now).world).line;
+      mark = (shown_line (S.meaning lock.now).world).mark;
     } }
 {
     let mut link = head(lock, found);
@@ -113,12 +115,12 @@ fn show_queue<W: Waiter>(lock: &PlainWorld<W>, found: &Glance, out: &mut LineSta
 }
 
 // The detached waiter: the candidate of the pass that took it out.
-fn detached<W: Waiter>(lock: &PlainWorld<W>, found: &Glance) -> Option<u32>
-    requires { Finds lock.now.world (length lock.now.world.passes) found.now }
-    ensures { result ≡ (shown_line lock.now.world).hand }
+fn detached<S: Sight>(lock: &S, found: &Glance) -> Option<u32>
+    requires { FindsAll (S.meaning lock.now) found.now }
+    ensures { result ≡ (shown_line (S.meaning lock.now).world).hand }
 {
     if found.relinker > 0 {
-        Some(lock.standing(found.relinker - 1).reg.cand)
+        Some(lock.stands(found.relinker - 1).reg.cand)
     } else {
         None
     }
@@ -139,10 +141,10 @@ fn role(found: &Glance) -> Role
 
 /// Fills a state that was opened for as many passes with what the lock shows. The time is linear in
 /// the passes.
-pub fn show<W: Waiter>(lock: &PlainWorld<W>, out: &mut LineState)
-    requires lawful { IsLawfulLock lock.now }
-    requires room { length out.old.mark ≡ length lock.now.world.passes }
-    ensures { out.new ≡ shown_line lock.now.world }
+pub fn show<S: Sight>(lock: &S, out: &mut LineState)
+    requires lawful { IsLawfulLock (S.meaning lock.now) }
+    requires room { length out.old.mark ≡ length (S.meaning lock.now).world.passes }
+    ensures { out.new ≡ shown_line (S.meaning lock.now).world }
 {
     out.clear();
     let found = scan(lock, out);

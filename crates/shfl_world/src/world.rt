@@ -5,7 +5,9 @@ ghost use Rattle.shfl_core.specs.Waiting.{MakesIdle, rules};
 ghost use Rattle.shfl_line.specs.Line.{empty};
 ghost use Rattle.shfl_line.specs.declared.events.Form.{Form};
 ghost use Rattle.shfl_world.specs.LawfulLock.{IsLawfulLock, ShowsWellFormed, ShowsHeadline};
-ghost use Rattle.shfl_world.specs.LawfulLock.{shown_by};
+ghost use Rattle.shfl_world.specs.LawfulLock.{RoundsAreShort};
+ghost use Rattle.shfl_world.specs.LawfulLock.{shown_by, terms_of};
+ghost use Rattle.shfl_laws.specs.Moves.{terms};
 
 use shfl_core::{PlainWorld, Waiter};
 use shfl_line::{Attr, NoMemory};
@@ -46,6 +48,7 @@ impl<W: Waiter> World<W> {
         requires idle { MakesIdle W.meaning (λ p a w. F.post make p a limit w) (rules limit form) }
         ensures opened { IfOk result (λ w. w ≡ opened (rules limit form) attrs.now) }
         ensures shown { IfOk result (λ w. shown_by w ≡ empty (length attrs.now)) }
+        ensures terms { IfOk result (λ w. terms_of w ≡ terms (rules limit form) attrs.now) }
     {
         let plain = PlainWorld::open(alloc, attrs, limit, make)?;
         Ok(World { plain })
@@ -63,6 +66,7 @@ impl<W: Waiter> World<W> {
         ensures lawful { IsLawfulLock self.now }
         ensures well_formed { ShowsWellFormed self.now }
         ensures headline { ShowsHeadline self.now }
+        ensures rounds { RoundsAreShort self.now }
     {
         let _ = &self.plain;
     }

@@ -12,7 +12,8 @@ use Rattle.trace_text.specs.declared.trace.TraceAct.{TraceAct}
 use Rattle.trace_text.specs.declared.trace.TraceAct.TheVariants as does
 use Rattle.trace_text.specs.declared.trace.TraceCall.{TraceCall}
 use Rattle.trace_text.specs.Report.{Done}
-use Rattle.syncord_replay.specs.Histories.{Made, made_by, made_in, made_of, operation_of}
+use Rattle.trace_text.specs.Histories.{Made, made_by, made_in, made_of}
+use Rattle.trace_text.proofs.Answered.{operation_of}
 use Rattle.syncord_replay.specs.Serial.{Follows}
 
 legal_more : (state : List ℕ) (os : List Operation) (o : Operation) → IsLegal reply_at state_after state os

@@ -1,5 +1,5 @@
 -- The calls of a trace may all be done, and what they lead to is a history of it.
-use Rattle.std.proofs.Common.{ℕ, zero, suc, ◌<◌, List, [], ◌∷◌, length, get_or, sym, ap, subst, arith}
+use Rattle.std.proofs.Common.{ℕ, zero, suc, ◌<◌, List, [], ◌∷◌, length, get_or, refl, sym, ap, subst, arith}
 use Rattle.std.specs.Prelude.{slice_index}
 use Rattle.std.specs.List.{AllByRecursion}
 use Rattle.dir_table.specs.Directory.{Directory}
@@ -12,7 +12,8 @@ use Rattle.trace_text.specs.declared.trace.TraceCall.{TraceCall}
 use Rattle.trace_text.specs.declared.trace.Trace.{Trace}
 use Rattle.trace_text.specs.Report.{Done}
 use Rattle.trace_text.specs.Traces.{IsActOf, IsCallOf}
-use Rattle.syncord_replay.specs.Histories.{Made, of_worker, beginning, IsHistoryOf}
+use Rattle.trace_text.specs.Histories.{Made, of_worker, beginning, IsHistoryOf}
+use Rattle.trace_text.proofs.Answered.{answered, left}
 use Rattle.syncord_replay.specs.Serial.{MayDo, Follows}
 
 -- what holds of all holds of each
@@ -34,9 +35,9 @@ pub may_all : (state : List ℕ) (workers policies : ℕ) (calls : List TraceCal
 may_all state workers policies [] all = tt
 may_all state workers policies (c ∷ calls) all = (may_act state policies c.worker c.act all.0.act, may_all state workers policies calls all.1)
 
-pub is_history : (t : Trace) (history : List Done) (final : Directory) → Follows (beginning t) t.calls.items history (state_numbers final) → IsHistoryOf t history final
+pub is_history : (t : Trace) (history : List Done) (final : Directory) → Follows (state_numbers (beginning t)) t.calls.items history (state_numbers final) → IsHistoryOf t history final
 is_history t history final f = record {
-  legal = f.legal;
-  leaves = f.left;
+  legal = answered (beginning t) history f.legal;
+  leaves = left (beginning t) final history refl f.left;
   each_once = λ worker. ap (λ (made : List Made). of_worker worker made) f.made;
 }

@@ -1,5 +1,3 @@
-pub mod Histories
-pub mod Attachments
 pub mod Replays
 pub mod Serial
 pub mod Sums

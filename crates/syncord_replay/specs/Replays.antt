@@ -12,8 +12,8 @@ use Rattle.trace_text.specs.Traces.{document_of, names_of, policy_names_of, IsWi
 use Rattle.trace_text.specs.Report.{Done, Replay, report}
 use Rattle.syncord_endings.specs.declared.ending.Refusal.{Refusal}
 use Rattle.syncord_endings.specs.declared.ending.Refusal.TheVariants.{Line}
-use Rattle.syncord_replay.specs.Histories.{IsHistoryOf}
-use Rattle.syncord_replay.specs.Attachments.{attaches_of}
+use Rattle.trace_text.specs.Histories.{IsHistoryOf}
+use Rattle.trace_text.specs.Attachments.{attaches_of}
 
 -- the trace in memory that a document is: the names of its calls stand in order of their bytes, each once
 pub record IsTraceOf (document : Document) (t : Trace) : Type 0 where

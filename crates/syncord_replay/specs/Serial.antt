@@ -10,7 +10,8 @@ use Rattle.trace_text.specs.declared.trace.TraceAct.TheVariants as does
 use Rattle.trace_text.specs.declared.trace.TraceCall.{TraceCall}
 use Rattle.trace_text.specs.declared.trace.Trace.{Trace}
 use Rattle.trace_text.specs.Report.{Done}
-use Rattle.syncord_replay.specs.Histories.{made_in, made_of, operation_of}
+use Rattle.trace_text.specs.Histories.{made_in, made_of}
+use Rattle.trace_text.proofs.Answered.{operation_of}
 
 -- the state admits the call, where it is one on the directory
 abbrev pub MayDo : List ℕ → TraceAct → Type 0

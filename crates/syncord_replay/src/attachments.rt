@@ -1,6 +1,6 @@
 //! The policies that a trace attaches, each with its version.
 ghost use Rattle.std.specs.Prelude.{◌≡◌, IfOk};
-ghost use Rattle.syncord_replay.specs.Attachments.{attached_in, versions_from};
+ghost use Rattle.trace_text.specs.Attachments.{attached_in, versions_from};
 
 use std::alloc::Global;
 use trace_text::{NoMemory, TraceAct, TraceCall};

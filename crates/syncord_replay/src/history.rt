@@ -5,7 +5,7 @@ ghost use Rattle.dir_table.specs.Numbers.{state_numbers};
 ghost use Rattle.trace_text.specs.declared.trace.TraceCall.{TraceCall};
 ghost use Rattle.trace_text.specs.Report.{done_of};
 ghost use Rattle.trace_text.specs.Traces.{IsWithin};
-ghost use Rattle.syncord_replay.specs.Histories.{IsHistoryOf};
+ghost use Rattle.trace_text.specs.Histories.{IsHistoryOf};
 ghost use Rattle.syncord_replay.specs.Serial.{MayDo, Follows, directory_for};
 
 use dir_table::Dir;

@@ -14,3 +14,4 @@ pub mod Counts
 pub mod Generated
 pub mod Found
 pub mod Only
+pub mod Answered

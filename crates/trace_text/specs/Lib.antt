@@ -10,4 +10,6 @@ pub mod Traces
 pub mod Errors
 pub mod Report
 pub mod Reported
+pub mod Histories
+pub mod Attachments
 pub mod Generator

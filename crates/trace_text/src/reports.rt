@@ -10,7 +10,7 @@ use crate::trace::{NamedSource, Trace, TraceAct};
 use crate::words::{name_at, push_call, push_reply};
 use crate::write::policy_name;
 use bpf_isa::Profile;
-use dir_table::{Dir, DirReply, DirRow};
+use dir_table::{Dir, DirReply, DirRow, Rows};
 use doc_text::{push_decimal, push_line};
 use hist_log::Entry;
 use policy_text::{NoMemory, push_number, push_version, push_word};
@@ -101,9 +101,9 @@ fn push_history(
     Ok(())
 }
 
-fn push_rows(out: &mut Vec<u8>, names: &[Vec<u8>], rows: &[DirRow]) -> Result<(), NoMemory>
+fn push_rows(out: &mut Vec<u8>, names: &[Vec<u8>], rows: Rows<'_>) -> Result<(), NoMemory>
     ensures { OnOk result (out.new.items ≡ out.old.items
-        ++ flat_map ended (map (row_line (map (λ n. n.items) names.now)) (map entry_of rows.now))) }
+        ++ flat_map ended (map (row_line (map (λ n. n.items) names.now)) (map entry_of rows.entry))) }
 {
     for row in rows {
         push_row(out, names, row)?;

@@ -1,7 +1,7 @@
 //! Closing a registry.
 ghost use Rattle.std.specs.Prelude.{◌≡◌, ℕ, slice_get, Some};
-ghost use Rattle.policy_versions.specs.Rule.{IsAmong, IsPublished};
-ghost use Rattle.policy_versions.specs.Models.{PassModel, IsClosed, words_of};
+ghost use Rattle.policy_versions.specs.Rule.{IsAmong, version_of, which_of};
+ghost use Rattle.policy_versions.specs.Models.{PassModel, IsClosed, IsRow};
 
 use super::{Published, Publisher, Registry, VersionPass};
 use crate::view::{CurrentWord, Declared, ReturnUser, View};
@@ -44,7 +44,7 @@ impl Registry {
         ensures declared { result.0.items ≡ self.declared }
         ensures rows { result.1 ≡ publisher.rows }
         ensures loaded { (i : ℕ) (p : PassModel) (k : ℕ) → slice_get passes.items i ≡ Some p
-            → IsAmong k p.seen → IsPublished (words_of publisher.rows) k }
+            → IsAmong k p.seen → IsRow publisher.rows (version_of k) (which_of k) }
     {
         let Registry {
             declared,

@@ -1,7 +1,7 @@
 //! Users: entering, using and leaving a version.
 ghost use Rattle.std.specs.Prelude.{◌≡◌, ℕ, ◌+◌, ◌<◌, ◌≤◌, ◌%◌, true, false, slice_get, Some, None, IfSome};
 ghost use Rattle.policy_versions.specs.Rule.{IsAmong, version_of, which_of, word_of};
-ghost use Rattle.policy_versions.specs.Models.{IsClosed, IsNewest, LoadedLast, Tries};
+ghost use Rattle.policy_versions.specs.Models.{IsClosed, IsNewest, IsVersion, LoadedLast, Tries};
 
 use super::{PLACES, Registry, Using, VersionPass, WHICH};
 use crate::view::Load;
@@ -12,7 +12,7 @@ use std::thread;
 impl VersionPass {
     /// One load of the current word, and one try at its place.
     fn try_enter<'r>(&mut self, registry: &'r Registry) -> Option<Using<'r>>
-        requires registry { self.old.registry ≡ registry.now }
+        requires registry { self.old.registry.table ≡ registry.now.table }
         requires closed { self.old.is_open ≡ false }
         ensures same { (self.new.registry ≡ self.old.registry) × (self.new.user ≡ self.old.user) }
         ensures tries { Tries self.old self.new result }
@@ -23,7 +23,9 @@ impl VersionPass {
         let word = registry.table.shared.load::<Load>(&mut self.seat, 0);
         let version = word % WHICH;
         let which = word / WHICH;
-        let reading = registry.places[(version % PLACES) as usize].read()?;
+        let Ok(reading) = registry.places[(version % PLACES) as usize].read() else {
+            return None;
+        };
         if !reading.shows(which as u32) {
             reading.leave();
             return None;
@@ -44,6 +46,7 @@ impl VersionPass {
         ensures same { (self.new.registry ≡ self.old.registry) × (self.new.user ≡ self.old.user) }
         ensures open { self.new.is_open ≡ true }
         ensures current { LoadedLast self.old.seen self.new.seen (word_of result.version result.which) }
+        ensures version { IsVersion result.version }
         ensures newest { IsNewest self.old.seen result.version }
         ensures of_registry { result.registry ≡ registry.now }
         ensures of_user { result.user ≡ self.old.user }
@@ -59,7 +62,8 @@ impl VersionPass {
 
     /// Ends the use.
     pub fn leave(&mut self, registry: &Registry, held: Using<'_>)
-        requires registry { (self.old.registry ≡ registry.now) × (held.registry ≡ registry.now) }
+        requires registry { self.old.registry.table ≡ registry.now.table }
+        requires held { held.registry ≡ registry.now }
         requires pass { (self.old.is_open ≡ true) × (held.user ≡ self.old.user) }
         ensures { self.new ≡ record self.old { is_open = false } }
     {

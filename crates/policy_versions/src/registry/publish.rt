@@ -1,5 +1,5 @@
 //! Publishing.
-ghost use Rattle.std.specs.Prelude.{◌≡◌, ◌+◌, ◌<◌, ◌%◌, length, Some, IfOk, OnOk, IfErr, IsSomeAnd};
+ghost use Rattle.std.specs.Prelude.{◌≡◌, ◌+◌, ◌<◌, ◌%◌, length, Some, IfOk, OnOk, OnErr, IfErr, IsSomeAnd};
 ghost use Rattle.policy_versions.specs.Places.{registry_of};
 ghost use Rattle.policy_versions.specs.Models.{IsOf, with_row, next_version};
 ghost use Rattle.policy_versions.specs.Turning.{Rose, IsLost};
@@ -47,10 +47,15 @@ impl Publisher {
         requires instance { IsOf registry.now instance }
         ensures version { IfOk result (λ version. version ≡ next_version self.old) }
         ensures row { IfOk result (λ version. self.new ≡ with_row self.old version instance.which) }
-        ensures won { OnOk result (T.lost turns.new ≡ T.lost turns.old) }
-        ensures in_use { IfErr result (λ e. Rose (T.lost turns.old) (T.lost turns.new)
-            × IsLost e.loaded e.word) }
-        ensures unchanged { IfErr result (λ e. (self.new ≡ self.old) × (e.instance ≡ instance)) }
+        ensures won { OnOk result (Rose (T.won turns.old) (T.won turns.new)) }
+        ensures none_lost { OnOk result (T.lost turns.new ≡ T.lost turns.old) }
+        ensures lost { OnErr result (Rose (T.lost turns.old) (T.lost turns.new)) }
+        ensures none_won { OnErr result (T.won turns.new ≡ T.won turns.old) }
+        ensures in_use { IfErr result (λ e. IsLost e.loaded e.word) }
+        ensures words { IfErr result (λ e. IsSomeAnd (T.last_lost turns.new)
+            (λ l. (l.loaded ≡ e.loaded) × (l.word ≡ e.word))) }
+        ensures publisher { OnErr result (self.new ≡ self.old) }
+        ensures instance { IfErr result (λ e. e.instance ≡ instance) }
     {
         let version = self.rows.len() as u64 + 1;
         let place = &registry.places[(version % PLACES) as usize];

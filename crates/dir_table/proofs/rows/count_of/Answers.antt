@@ -1,22 +1,20 @@
-use Rattle.std.proofs.Common.{◌≡◌, ◌+◌, ltb, leb, eqb, length, rules, arith}
+use Rattle.std.proofs.Common.{◌≡◌, ◌+◌, eqb, length, ap, sym, ◌∙◌, subst, arith}
 use Rattle.std.specs.List.{filter}
-use Rattle.std.proofs.lemmas.List.Sorted.{IsPartitionedBy-ltb, IsPartitionedBy-leb}
-use Rattle.std.proofs.lemmas.Fn.{always_returns_same}
 use Rattle.dir_table.specs.Names.{entries_of}
-use Rattle.dir_table.proofs.Counts.{directories_rise, count_between}
+use Rattle.dir_table.specs.Rows.{AreInOrder}
+use Rattle.dir_table.specs.Blocks.{joined, rows_before}
+use Rattle.dir_table.proofs.Limits.{count_cut}
 use Rattle.dir_table.proofs.rows.count_of.Goals as goal
 
--- the rows between the two partition points
-between : (c : goal.After-partition_point-end)
-    → c.partition_point-start.result + length (filter (λ e. eqb e.0.0 c.args.dir) (entries_of c.args.rows.now)) ≡ c.partition_point-end.result
+-- the rows between the two cuts
+between : (c : goal.After-row_number-end)
+    → c.row_number-start.result + length (filter (λ e. eqb e.0.0 c.args.dir) (entries_of (joined c.args.rows.now.blocks))) ≡ c.row_number-end.result
 between c =
-    let rows = c.args.rows.now in
-    let rises = directories_rise rows c.requires.in_order in
-    let first = c.partition_point-start.ensures in
-    let second = c.partition_point-end.ensures in
-    let less = first.partitioned (λ row. ltb row.dir c.args.dir) (always_returns_same _ _ _ (λ a r g called. search rules)) (IsPartitionedBy-ltb (λ row. row.dir) rows c.args.dir rises) in
-    let most = second.partitioned (λ row. leb row.dir c.args.dir) (always_returns_same _ _ _ (λ a r g called. search rules)) (IsPartitionedBy-leb (λ row. row.dir) rows c.args.dir rises) in
-    count_between rows c.args.dir _ _ first.bound second.bound less.0 less.1 most.0 most.1
+    let rows = joined c.blocks-blocks.result.now in
+    ap (λ n. n + length (filter (λ e. eqb e.0.0 c.args.dir) (entries_of (joined c.args.rows.now.blocks)))) c.row_number-start.ensures
+    ∙ ap (λ bs. rows_before c.blocks-blocks.result.now c.cut.result + length (filter (λ e. eqb e.0.0 c.args.dir) (entries_of (joined bs)))) (sym c.blocks-blocks.ensures.blocks)
+    ∙ count_cut rows c.args.dir _ _ c.cut.ensures.cut c.cut-2.ensures.cut
+    ∙ sym c.row_number-end.ensures
 
 pub overflow_sub-result : goal.overflow_sub-result
 overflow_sub-result c = omega (arith, between c)

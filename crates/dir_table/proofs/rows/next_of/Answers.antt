@@ -1,23 +1,39 @@
-use Rattle.std.proofs.Common.{ap, sym, ◌∙◌, arith}
+use Rattle.std.proofs.Common.{◌≡◌, Some, None, ap, sym, ◌∙◌, subst}
+use Rattle.std.specs.List.{find, slice_get}
 use Rattle.std.specs.Option.{option_map}
-use Rattle.std.proofs.lemmas.List.{get_or_default}
-use Rattle.dir_table.specs.declared.calls.DirRow.{DirRow}
-use Rattle.dir_table.proofs.Next.{next_there, next_absent}
+use Rattle.dir_table.specs.Names.{entries_of}
+use Rattle.dir_table.specs.Rows.{AreInOrder}
+use Rattle.dir_table.specs.Blocks.{joined, rows_before}
+use Rattle.dir_table.proofs.Next.{is_next}
+use Rattle.dir_table.proofs.Spots.{next_is_row, no_next_row}
 use Rattle.dir_table.proofs.rows.next_of.Goals as goal
-use Rattle.dir_table.proofs.rows.next_of.Goals.{else-at-rows-via-then-at-rows+else-rows-at, else-at-rows-via-else-at-rows}
 
-pub returns-then-rows-at : goal.returns-then-rows-at
-returns-then-rows-at c =
-    let none : DirRow = record { dir = 0; name = 0; ino = 0 } in
-    ap (option_map (λ e. e.0.1)) (sym (next_there c.args.rows.now c.args.dir c.args.after c.place_after-at.result none c.place_after-at.ensures c.if-at-rows.true c.if-rows-at.true))
+pub returns-in-Some : goal.returns-in-Some
+returns-in-Some c =
+    let blocks = c.blocks-blocks.result.now in
+    let i = rows_before blocks c.place_after.result in
+    let read : slice_get (joined blocks) i ≡ Some c.in-Some.row = sym c.row_from.ensures ∙ c.in-Some.is in
+    sym (next_is_row (joined blocks) c.args.dir c.args.after i c.in-Some.row c.place_after.ensures.begin read c.if-row-dir.true)
+    ∙ ap (λ bs. option_map (λ e. e.0.1) (find (is_next c.args.dir c.args.after) (entries_of (joined bs)))) c.blocks-blocks.ensures.blocks
 
--- there is no row where the names begin, or one of another directory
-pub returns-else-at-rows : goal.returns-else-at-rows
-returns-else-at-rows c =
-    let rows = c.args.rows.now in
-    let at = c.place_after-at.result in
-    ap (option_map (λ e. e.0.1)) (sym (next_absent rows c.args.dir c.args.after at c.requires c.place_after-at.ensures (λ d below same.
-    elim c.else-at-rows.branch [
-      | else-at-rows-via-then-at-rows+else-rows-at w ↦ w.if-rows-at.false (ap (λ row. row.dir) (get_or_default rows at (record { dir = 0; name = 0; ino = 0 }) d below) ∙ same)
-      | else-at-rows-via-else-at-rows w ↦ omega (arith, w.if-at-rows.false)
-    ])))
+pub returns-in_default : goal.returns-in_default
+returns-in_default c =
+    let blocks = c.blocks-blocks.result.now in
+    let i = rows_before blocks c.place_after.result in
+    let read : slice_get (joined blocks) i ≡ Some c.in-Some.row = sym c.row_from.ensures ∙ c.in-Some.is in
+    let sorted = subst (λ bs. AreInOrder (joined bs)) (sym c.blocks-blocks.ensures.blocks) c.requires in
+    sym (no_next_row (joined blocks) c.args.dir c.args.after i sorted c.place_after.ensures.begin (λ row is same.
+    let one : Some row ≡ Some c.in-Some.row = sym is ∙ read in
+    let row_is : row ≡ c.in-Some.row = cc in
+    c.if-row-dir.false (ap (λ r. r.dir) (sym row_is) ∙ same)))
+    ∙ ap (λ bs. option_map (λ e. e.0.1) (find (is_next c.args.dir c.args.after) (entries_of (joined bs)))) c.blocks-blocks.ensures.blocks
+
+pub returns-in_default-2 : goal.returns-in_default-2
+returns-in_default-2 c =
+    let blocks = c.blocks-blocks.result.now in
+    let i = rows_before blocks c.place_after.result in
+    let sorted = subst (λ bs. AreInOrder (joined bs)) (sym c.blocks-blocks.ensures.blocks) c.requires in
+    sym (no_next_row (joined blocks) c.args.dir c.args.after i sorted c.place_after.ensures.begin (λ row is same.
+    let none : Some row ≡ None = sym is ∙ sym c.row_from.ensures ∙ c.in_default.is in
+    cc))
+    ∙ ap (λ bs. option_map (λ e. e.0.1) (find (is_next c.args.dir c.args.after) (entries_of (joined bs)))) c.blocks-blocks.ensures.blocks

@@ -1,15 +1,24 @@
-use Rattle.std.proofs.Common.{ap, sym, ◌∙◌, Some}
-use Rattle.std.proofs.Math.ListN.{get_or-map}
+use Rattle.std.proofs.Common.{◌≡◌, [], Some, get_or, sym, ap, ◌∙◌}
+use Rattle.std.specs.FinMap.{find}
+use Rattle.std.proofs.lemmas.List.{get_or_default}
 use Rattle.dir_table.specs.declared.calls.DirRow.{DirRow}
-use Rattle.dir_table.specs.Names.{entry_of, entries_of}
-use Rattle.dir_table.proofs.Places.{find_at, find_gap}
+use Rattle.dir_table.specs.Names.{place_cmp, entries_of}
+use Rattle.dir_table.specs.Blocks.{joined, block_at}
+use Rattle.dir_table.proofs.Places.{find_gap}
+use Rattle.dir_table.proofs.Spots.{spot_number}
 use Rattle.dir_table.proofs.rows.number_of.Goals as goal
 
 pub returns-in-Ok : goal.returns-in-Ok
 returns-in-Ok c =
+    let blocks = c.blocks-blocks.result.now in
+    let spot = c.in-Ok.spot in
     let none : DirRow = record { dir = 0; name = 0; ino = 0 } in
-    sym (find_at (entries_of c.args.rows.now) (c.args.dir, c.args.name) c.in-Ok.at (entry_of none) c.in-Ok.ensures.found
-    ∙ ap (λ e. Some e.1) (get_or-map entry_of c.args.rows.now c.in-Ok.at none))
+    let here : c.as_slice.result.now ≡ block_at blocks spot.block = c.as_slice.ensures ∙ c.index-blocks-spot.is ∙ get_or_default blocks spot.block _ [] c.in-Ok.ensures.row.block in
+    ap (λ rs. Some (get_or rs spot.at none).ino) here
+    ∙ sym (spot_number blocks spot c.in-Ok.ensures.row (c.args.dir, c.args.name) none c.in-Ok.ensures.found)
+    ∙ ap (λ bs. find place_cmp (c.args.dir, c.args.name) (entries_of (joined bs))) c.blocks-blocks.ensures.blocks
 
 pub returns-in-Err : goal.returns-in-Err
-returns-in-Err c = sym (find_gap (entries_of c.args.rows.now) (c.args.dir, c.args.name) _ c.in-Err.ensures.absent)
+returns-in-Err c =
+    sym (find_gap (entries_of (joined c.blocks-blocks.result.now)) (c.args.dir, c.args.name) _ c.in-Err.ensures.absent)
+    ∙ ap (λ bs. find place_cmp (c.args.dir, c.args.name) (entries_of (joined bs))) c.blocks-blocks.ensures.blocks

@@ -1,6 +1,10 @@
 use Rattle.shfl_laws.proofs.Laws.{laws}
 use Rattle.shfl_laws.proofs.MeasureRounds.{rounds-short}
+use Rattle.shfl_laws.proofs.MeasureShown.{begins-short}
 use Rattle.shfl_laws.proofs.measure.a_round_is_short.Goals as goal
 
-pub returns : goal.returns
-returns c = record { law = rounds-short laws }
+pub returns-clause-law : goal.returns-clause-law
+returns-clause-law c = rounds-short laws
+
+pub returns-clause-begun : goal.returns-clause-begun
+returns-clause-begun c = begins-short

@@ -27,6 +27,11 @@ returns-in_err-push_row-clause-part g c =
     let p = err_from_is_err_and c.from_residual-in_err-push_row.result c.from_residual-in_err-push_row.ensures.1 in
     rw p.1 (i + 1, c.push_row.ensures.unchanged ∙ after)
 
+pub returns-in_err-push_totals-clause-part : goal.returns-in_err-push_totals-clause-part
+returns-in_err-push_totals-clause-part g c =
+    let p = err_from_is_err_and c.from_residual-in_err-push_totals.result c.from_residual-in_err-push_totals.ensures.1 in
+    rw p.1 (c.loop-event.event-index, c.loop-event.invariant.lock)
+
 pub loop-event-preserved : goal.loop-event-preserved
 loop-event-preserved g c =
     let s = c.args.schedule.now in

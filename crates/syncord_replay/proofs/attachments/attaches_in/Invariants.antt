@@ -1,5 +1,5 @@
 use Rattle.std.proofs.Common.{◌≡◌, ◌+◌, ◌++◌, drop, vec_len}
-use Rattle.syncord_replay.specs.Attachments.{attached_in, versions_from}
+use Rattle.trace_text.specs.Attachments.{attached_in, versions_from}
 use Rattle.syncord_replay.proofs.attachments.attaches_in.Given as goal
 
 abbrev pub invariant-loop-call : goal.invariant-loop-call

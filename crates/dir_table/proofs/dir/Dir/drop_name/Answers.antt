@@ -1,3 +1,4 @@
+use Rattle.dir_table.specs.Blocks.{joined}
 use Rattle.std.proofs.Common.{◌≡◌, ◌-◌, cond, ap, sym, ◌∙◌, subst, arith}
 use Rattle.std.specs.Prelude.{◌↔◌, IsNone}
 use Rattle.std.specs.FinMap.{get}
@@ -17,8 +18,8 @@ invariant_of-self c =
     let inv = c.self.invariant in
     let removed = c.remove_row.ensures.removed in
     record {
-      in_order = removal_in_order i.rows.rows c.remove_row.new.rows.rows inv.in_order (c.args.dir, c.args.name) removed;
-      in_range = removal_in_range i.room i.rows.rows c.remove_row.new.rows.rows (c.args.dir, c.args.name) inv.in_range removed;
+      in_order = removal_in_order (joined i.rows.blocks) (joined c.remove_row.new.rows.blocks) inv.in_order (c.args.dir, c.args.name) removed;
+      in_range = removal_in_range i.room (joined i.rows.blocks) (joined c.remove_row.new.rows.blocks) (c.args.dir, c.args.name) inv.in_range removed;
       made = omega (arith, c.remove_row.ensures.fewer);
       reserved = omega (arith, c.remove_row.ensures.fewer);
       numbered = omega arith;
@@ -29,7 +30,7 @@ returns-clause-reply c =
     let i = c.self.inside in
     subst (λ d. c.done_if.result ≡ reply_to d (Drop c.args.dir c.args.name)) c.self.view_is
     (c.done_if.ensures ∙ ap (λ b. cond b Done Absent) c.is_some.ensures
-    ∙ drop_reply i.rows.rows i.next_number i.room i.spare c.self.invariant.in_order c.args.dir c.args.name c.remove_row.result c.remove_row.ensures.number)
+    ∙ drop_reply (joined i.rows.blocks) i.next_number i.room i.spare c.self.invariant.in_order c.args.dir c.args.name c.remove_row.result c.remove_row.ensures.number)
 
 pub returns-clause-absent : goal.returns-clause-absent
 returns-clause-absent c =
@@ -39,8 +40,8 @@ returns-clause-absent c =
 pub returns-clause-after : goal.returns-clause-after
 returns-clause-after c =
     let i = c.self.inside in
-    subst (λ d. record { names = names_of c.remove_row.new.rows.rows; next_number = i.next_number; room = i.room; spare = i.spare - 1 } ≡ spent (after d (Drop c.args.dir c.args.name))) c.self.view_is
-    (dropped i.rows.rows i.next_number i.room i.spare c.self.invariant.in_order c.remove_row.new.rows.rows c.args.dir c.args.name c.remove_row.ensures.removed)
+    subst (λ d. record { names = names_of (joined c.remove_row.new.rows.blocks); next_number = i.next_number; room = i.room; spare = i.spare - 1 } ≡ spent (after d (Drop c.args.dir c.args.name))) c.self.view_is
+    (dropped (joined i.rows.blocks) i.next_number i.room i.spare c.self.invariant.in_order (joined c.remove_row.new.rows.blocks) c.args.dir c.args.name c.remove_row.ensures.removed)
 
 pub returns-clause-others : goal.returns-clause-others
 returns-clause-others c other differs =

@@ -1,9 +1,9 @@
-use Rattle.std.proofs.Common.{◌≡◌, ◌+◌, ◌-◌, ◌<◌, cond, ap, sym, ◌∙◌, subst, arith}
+use Rattle.std.proofs.Common.{◌≡◌, ◌+◌, ◌-◌, ◌<◌, cond, Some, None, ap, sym, ◌∙◌, subst, refl, arith}
 use Rattle.std.specs.Prelude.{◌↔◌, IsSome}
-use Rattle.std.specs.FinMap.{get, find}
+use Rattle.std.specs.FinMap.{get}
 use Rattle.dir_table.specs.declared.calls.DirCall.TheVariants.{Make}
 use Rattle.dir_table.specs.declared.calls.DirReply.TheVariants.{Ino, Exists}
-use Rattle.dir_table.specs.Names.{place_cmp, entries_of}
+use Rattle.dir_table.specs.Blocks.{joined}
 use Rattle.dir_table.specs.Directory.{IsInRange, spent}
 use Rattle.dir_table.specs.Answers.{reply_to, after}
 use Rattle.dir_table.specs.Rows.{names_of}
@@ -13,64 +13,63 @@ use Rattle.dir_table.proofs.Ranges.{put_in_range}
 use Rattle.dir_table.proofs.dir.Dir.make.Goals as goal
 
 -- the name was there
-pub returns-then-is_some-clause-reply : goal.returns-then-is_some-clause-reply
-returns-then-is_some-clause-reply c =
+pub returns-in-Some-clause-reply : goal.returns-in-Some-clause-reply
+returns-in-Some-clause-reply c =
     let i = c.self.inside in
     subst (λ d. Exists ≡ reply_to d (Make c.args.dir c.args.name)) c.self.view_is
-    (ap (λ b. cond b Exists (Ino i.next_number)) (sym c.if-is_some.true ∙ c.is_some.ensures)
-    ∙ make_reply i.rows.rows i.next_number i.room i.spare c.self.invariant.in_order c.args.dir c.args.name c.number_of.result
-    (c.number_of.ensures ∙ ap (λ rs. find place_cmp (c.args.dir, c.args.name) (entries_of rs)) c.as_slice.ensures))
+    (make_reply (joined i.rows.blocks) i.next_number i.room i.spare c.self.invariant.in_order c.args.dir c.args.name (Some c.in-Some.field-0) c.in-Some.ensures.number)
 
-pub returns-then-is_some-clause-exists : goal.returns-then-is_some-clause-exists
-returns-then-is_some-clause-exists c =
-    subst (λ r. (r ≡ Exists) ↔ IsSome (get c.args.self.now.names (c.args.dir, c.args.name))) (sym (returns-then-is_some-clause-reply c))
+pub returns-in-Some-clause-exists : goal.returns-in-Some-clause-exists
+returns-in-Some-clause-exists c =
+    subst (λ r. (r ≡ Exists) ↔ IsSome (get c.args.self.now.names (c.args.dir, c.args.name))) (sym (returns-in-Some-clause-reply c))
     (make_exists (get c.args.self.now.names (c.args.dir, c.args.name)) c.args.self.now.next_number)
 
-pub returns-then-is_some-clause-after : goal.returns-then-is_some-clause-after
-returns-then-is_some-clause-after c =
+pub returns-in-Some-clause-after : goal.returns-in-Some-clause-after
+returns-in-Some-clause-after c =
     let i = c.self.inside in
-    subst (λ d. record { names = names_of i.rows.rows; next_number = i.next_number; room = i.room; spare = i.spare - 1 } ≡ spent (after d (Make c.args.dir c.args.name))) c.self.view_is
-    (made_none i.rows.rows i.next_number i.room i.spare c.self.invariant.in_order c.args.dir c.args.name c.number_of.result
-    (c.number_of.ensures ∙ ap (λ rs. find place_cmp (c.args.dir, c.args.name) (entries_of rs)) c.as_slice.ensures)
-    (sym c.is_some.ensures ∙ c.if-is_some.true))
+    ap (λ b. record { names = names_of (joined b.blocks); next_number = i.next_number; room = i.room; spare = i.spare - 1 }) c.in-Some.ensures.there
+    ∙ subst (λ d. record { names = names_of (joined i.rows.blocks); next_number = i.next_number; room = i.room; spare = i.spare - 1 } ≡ spent (after d (Make c.args.dir c.args.name))) c.self.view_is
+    (made_none (joined i.rows.blocks) i.next_number i.room i.spare c.self.invariant.in_order c.args.dir c.args.name (Some c.in-Some.field-0) c.in-Some.ensures.number refl)
+
+pub returns-in-Some-clause-others : goal.returns-in-Some-clause-others
+returns-in-Some-clause-others c other differs =
+    ap (λ d. get d.names other) (returns-in-Some-clause-after c) ∙ make_others c.args.self.now c.args.dir c.args.name other differs
 
 -- the name is new
-pub invariant_of-self-2 : goal.invariant_of-self-2
-invariant_of-self-2 c =
+pub invariant_of-self-in-None : goal.invariant_of-self-in-None
+invariant_of-self-in-None c =
     let i = c.self.inside in
     let inv = c.self.invariant in
     let left : 0 < i.spare = subst (λ d. 0 < d.spare) (sym c.self.view_is) c.requires.left in
     let range : IsInRange i.room c.args.dir c.args.name = subst (λ d. IsInRange d.room c.args.dir c.args.name) (sym c.self.view_is) c.requires.in_range in
-    let put = c.put_row.ensures.put in
+    let put = c.in-None.ensures.put in
+    let len = c.in-None.ensures.len in
+    let spare = c.in-None.ensures.spare in
     record {
-      in_order = put_in_order i.rows.rows c.put_row.new.rows.rows inv.in_order (c.args.dir, c.args.name) i.next_number put;
-      in_range = put_in_range i.room i.rows.rows c.put_row.new.rows.rows (c.args.dir, c.args.name) i.next_number inv.in_range range put;
+      in_order = put_in_order (joined i.rows.blocks) (joined c.add_row.new.rows.blocks) inv.in_order (c.args.dir, c.args.name) i.next_number put;
+      in_range = put_in_range i.room (joined i.rows.blocks) (joined c.add_row.new.rows.blocks) (c.args.dir, c.args.name) i.next_number inv.in_range range put;
       made = omega arith;
       reserved = omega arith;
       numbered = omega arith;
     }
 
-pub returns-clause-reply : goal.returns-clause-reply
-returns-clause-reply c =
+pub returns-in-None-clause-reply : goal.returns-in-None-clause-reply
+returns-in-None-clause-reply c =
     let i = c.self.inside in
     subst (λ d. Ino i.next_number ≡ reply_to d (Make c.args.dir c.args.name)) c.self.view_is
-    (ap (λ b. cond b Exists (Ino i.next_number)) (sym c.if-is_some.false ∙ c.is_some.ensures)
-    ∙ make_reply i.rows.rows i.next_number i.room i.spare c.self.invariant.in_order c.args.dir c.args.name c.number_of.result
-    (c.number_of.ensures ∙ ap (λ rs. find place_cmp (c.args.dir, c.args.name) (entries_of rs)) c.as_slice.ensures))
+    (make_reply (joined i.rows.blocks) i.next_number i.room i.spare c.self.invariant.in_order c.args.dir c.args.name None c.in-None.ensures.number)
 
-pub returns-clause-exists : goal.returns-clause-exists
-returns-clause-exists c =
-    subst (λ r. (r ≡ Exists) ↔ IsSome (get c.args.self.now.names (c.args.dir, c.args.name))) (sym (returns-clause-reply c))
+pub returns-in-None-clause-exists : goal.returns-in-None-clause-exists
+returns-in-None-clause-exists c =
+    subst (λ r. (r ≡ Exists) ↔ IsSome (get c.args.self.now.names (c.args.dir, c.args.name))) (sym (returns-in-None-clause-reply c))
     (make_exists (get c.args.self.now.names (c.args.dir, c.args.name)) c.args.self.now.next_number)
 
-pub returns-clause-after : goal.returns-clause-after
-returns-clause-after c =
+pub returns-in-None-clause-after : goal.returns-in-None-clause-after
+returns-in-None-clause-after c =
     let i = c.self.inside in
-    subst (λ d. record { names = names_of c.put_row.new.rows.rows; next_number = i.next_number + 1; room = i.room; spare = i.spare - 1 } ≡ spent (after d (Make c.args.dir c.args.name))) c.self.view_is
-    (made_one i.rows.rows i.next_number i.room i.spare c.self.invariant.in_order c.put_row.new.rows.rows c.args.dir c.args.name c.number_of.result
-    (c.number_of.ensures ∙ ap (λ rs. find place_cmp (c.args.dir, c.args.name) (entries_of rs)) c.as_slice.ensures)
-    (sym c.is_some.ensures ∙ c.if-is_some.false) c.put_row.ensures.put)
+    subst (λ d. record { names = names_of (joined c.add_row.new.rows.blocks); next_number = i.next_number + 1; room = i.room; spare = i.spare - 1 } ≡ spent (after d (Make c.args.dir c.args.name))) c.self.view_is
+    (made_one (joined i.rows.blocks) i.next_number i.room i.spare c.self.invariant.in_order (joined c.add_row.new.rows.blocks) c.args.dir c.args.name None c.in-None.ensures.number refl c.in-None.ensures.put)
 
-pub returns-clause-others : goal.returns-clause-others
-returns-clause-others c other differs =
-    ap (λ d. get d.names other) (returns-clause-after c) ∙ make_others c.args.self.now c.args.dir c.args.name other differs
+pub returns-in-None-clause-others : goal.returns-in-None-clause-others
+returns-in-None-clause-others c other differs =
+    ap (λ d. get d.names other) (returns-in-None-clause-after c) ∙ make_others c.args.self.now c.args.dir c.args.name other differs

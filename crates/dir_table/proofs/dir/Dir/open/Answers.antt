@@ -6,5 +6,5 @@ use Rattle.dir_table.proofs.dir.Dir.open.Goals as goal
 
 pub returns : goal.returns
 returns c =
-    ap (λ rs. record { names = from_sorted (entries_of rs); next_number = 1; room = c.args.room; spare = c.args.calls }) c.in_ok-with_room.ensures.rows
+    ap (λ rs. record { names = from_sorted (entries_of rs); next_number = 1; room = c.args.room; spare = c.args.calls }) c.in_ok-open.ensures.rows
     ∙ ap (λ m. record { names = m; next_number = 1; room = c.args.room; spare = c.args.calls }) no_names

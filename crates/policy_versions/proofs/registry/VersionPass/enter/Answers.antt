@@ -1,4 +1,4 @@
-use Rattle.std.proofs.Common.{◌≤◌, ◌∷◌, sym, ap, ◌∙◌, subst}
+use Rattle.std.proofs.Common.{arith, ◌≤◌, ◌∷◌, sym, ap, ◌∙◌, subst}
 use Rattle.policy_versions.specs.Rule.{IsAmong, version_of, word_of}
 use Rattle.policy_versions.proofs.Indexed.{has_longer, word_is}
 use Rattle.policy_versions.proofs.registry.VersionPass.enter.Goals as goal
@@ -13,6 +13,9 @@ returns-in-Some-try_enter-clause-current g c = let l = c.in-Some-try_enter.ensur
   i.0,
   l.seen ∙ (λ j. (word_is l.word ∙ (λ z. word_of (sym l.names.0 z) (sym l.names.1 z))) j ∷ i.1 j),
 )
+
+pub returns-in-Some-try_enter-clause-version : goal.returns-in-Some-try_enter-clause-version
+returns-in-Some-try_enter-clause-version g c = let e = c.in-Some-try_enter.ensures.tries.names.0 in omega (arith, e)
 
 pub loop-preserved : goal.loop-preserved
 loop-preserved g c = let e = c.try_enter.ensures in let i = c.loop.invariant in (

@@ -1,17 +1,14 @@
-use Rattle.std.proofs.Common.{◌≡◌, ◌+◌, ◌*◌, ◌-◌, ◌≤◌, take, vec_len}
+use Rattle.std.proofs.Common.{◌≡◌, ◌+◌, ◌-◌, ◌≤◌, length, take, vec_len}
 use Rattle.std.specs.Prelude.{vec_capacity}
 use Rattle.shfl_line.specs.declared.events.Form.{Form}
 use Rattle.shfl_core.specs.Waiting.{MakesIdle, rules}
-use Rattle.shfl_core.specs.Worlds.{opening_words}
 use Rattle.shfl_core.proofs.Opening.{AreMade}
 use Rattle.shfl_core.proofs.world.PlainWorld.open.Given as goal
 
 abbrev pub invariant-loop-attr : goal.invariant-loop-attr
 invariant-loop-attr g l = record {
   number : l.number ≡ l.attr-index;
-  words : l.words.items ≡ opening_words (take l.attr-index l.attrs);
   passes : (form : Form) → MakesIdle g.W.Waiter.meaning (λ p a w. g.F.Fn.post l.make (p, (a, (l.limit, tt))) w) (rules l.limit form)
       → AreMade g.W.Waiter.meaning (rules l.limit form) l.passes.items (take l.attr-index l.attrs);
-  word_room : vec_len l.words + 4 * (l.count - l.attr-index) ≤ vec_capacity l.words;
-  pass_room : vec_len l.passes + (l.count - l.attr-index) ≤ vec_capacity l.passes;
+  pass_room : vec_len l.passes + (length l.attrs - l.attr-index) ≤ vec_capacity l.passes;
 }

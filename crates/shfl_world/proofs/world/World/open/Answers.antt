@@ -3,8 +3,8 @@ use Rattle.shfl_core.specs.ShownLine.{shown_line}
 use Rattle.shfl_core.specs.Runner.{Lock}
 use Rattle.shfl_core.specs.Waiting.{rules}
 use Rattle.shfl_laws.specs.Moves.{MayOpen}
-use Rattle.shfl_world.specs.LawfulLock.{IsLawfulLock}
-use Rattle.shfl_world.proofs.Moving.{opened-lawful, opened-shows}
+use Rattle.shfl_world.specs.LawfulLock.{IsLawfulLock, terms_of}
+use Rattle.shfl_world.proofs.Moving.{opened-lawful, opened-shows, opened-terms}
 use Rattle.shfl_world.proofs.world.World.open.Goals as goal
 
 pub open-requires-clause-idle : goal.open-requires-clause-idle
@@ -20,3 +20,7 @@ returns-clause-opened g c = c.in_ok-plain.ensures g.form c.requires.1.1.1.1.1.1
 pub returns-clause-shown : goal.returns-clause-shown
 returns-clause-shown g c = let r = c.requires.1.1 in let may : MayOpen (rules c.args.limit g.form) c.args.attrs.now = record { limit = r.1.1.0; some = r.0; few = r.1.0 } in
     ap (λ (l : Lock). shown_line l.world) (c.in_ok-plain.ensures g.form r.1.1.1.1) ∙ opened-shows (rules c.args.limit g.form) c.args.attrs.now may
+
+pub returns-clause-terms : goal.returns-clause-terms
+returns-clause-terms g c = let r = c.requires.1.1 in let may : MayOpen (rules c.args.limit g.form) c.args.attrs.now = record { limit = r.1.1.0; some = r.0; few = r.1.0 } in
+    ap terms_of (c.in_ok-plain.ensures g.form r.1.1.1.1) ∙ opened-terms (rules c.args.limit g.form) c.args.attrs.now may

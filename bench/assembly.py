@@ -1,0 +1,60 @@
+"""Makes the texts of assembly.sh, compares what the two programs write, and times them. Words: PROGRAM PEER."""
+import random
+import resource
+import subprocess
+import sys
+import tempfile
+
+LETTERS = "abcdefghijklmnopqrstuvwxyz0123456789_"
+
+
+def short(n):
+    word = ""
+    while True:
+        word = LETTERS[n % 37] + word
+        n //= 37
+        if n == 0:
+            return word
+
+
+def texts():
+    draw = random.Random(7)
+    yield "4 MiB, 466,000 names in order", [f"n{n:06}" for n in range(466000)]
+    mixed = [f"n{n:06}" for n in range(466000)]
+    draw.shuffle(mixed)
+    yield "4 MiB, the same out of order", mixed
+    yield "4 MiB, in order of numbers", [f"n{n}" for n in range(466000)]
+    every = [short(n) for n in range(2700000)]
+    yield "16 MiB, 2,700,000 names", every
+    every = list(every)
+    draw.shuffle(every)
+    yield "16 MiB, the same out of order", every
+    alike = ["x" * 27 + f"{n:05}" for n in range(100000)] + ["y" * 26 + f"{n:06}" for n in range(390000)]
+    draw.shuffle(alike)
+    yield "16 MiB, names that differ at their ends", alike
+
+
+def used():
+    children = resource.getrusage(resource.RUSAGE_CHILDREN)
+    return children.ru_utime + children.ru_stime
+
+
+def main(program, peer):
+    print("text                                        ours ms   peer ms   ratio")
+    for what, names in texts():
+        with tempfile.NamedTemporaryFile("w") as text:
+            text.write("".join(f":{name}\n" for name in names) + "mov64 r0 0\nexit\n")
+            text.flush()
+            best = {}
+            for _ in range(5):
+                for which, words in ((program, ["asm"]), (peer, [])):
+                    before = used()
+                    done = subprocess.run([which] + words, stdin=open(text.name, "rb"), stdout=subprocess.PIPE)
+                    best[which] = min(best.get(which, (9e9, b""))[0], used() - before), done.stdout
+            if best[program][1] != best[peer][1]:
+                sys.exit(f"{what}: the two programs write different bytes")
+            ours, theirs = best[program][0] * 1000, best[peer][0] * 1000
+            print(f"{what:42} {ours:9.1f} {theirs:9.1f} {ours / theirs:7.2f}", flush=True)
+
+
+main(*sys.argv[1:])

@@ -1,0 +1,66 @@
+//! Where rows in blocks are, which stand in order of directory and name.
+ghost use Rattle.std.specs.Prelude.{◌≡◌, ◌+◌, ◌<◌, ◌^◌, length, Bool};
+ghost use Rattle.std.specs.List.{slice_get};
+ghost use Rattle.dir_table.specs.Blocks.{joined, rows_before, is_below, begins_with, AreFilled, IsGap, IsCut};
+ghost use Rattle.dir_table.specs.Rows.{AreInOrder};
+
+use crate::block::{Block, Spot, rows_in};
+use crate::calls::DirRow;
+
+// Whether the row is of a lesser directory, or of this one and a name below `name`.
+fn is_below(row: &DirRow, dir: u8, name: u64) -> bool
+    ensures { result ≡ is_below (dir, name) row.now }
+{
+    (row.dir, u64::from(row.name)).cmp(&(dir, name)).is_lt()
+}
+
+// Whether the first row of the block is below.
+fn begins_below(block: &Block, dir: u8, name: u64) -> bool
+    ensures { result ≡ begins_with (is_below (dir, name)) block.now }
+{
+    match block.as_slice().first() {
+        Some(row) => is_below(row, dir, name),
+        None => false,
+    }
+}
+
+/// Where the rows begin that are not below. It is the end of a block, and not the start of the next one.
+pub fn cut(blocks: &[Block], dir: u8, name: u64) -> Spot
+    requires filled { AreFilled blocks.now }
+    requires in_order { AreInOrder (joined blocks.now) }
+    ensures gap { IsGap blocks.now result }
+    ensures cut { IsCut (joined blocks.now) (dir, name) (rows_before blocks.now result) }
+    ensures start { result.at ≡ 0 → rows_before blocks.now result ≡ 0 }
+{
+    let block = blocks[1..].partition_point(|block| begins_below(block, dir, name));
+    let rows = blocks[block].as_slice();
+    let at = rows.partition_point(|row| is_below(row, dir, name));
+    Spot { block, at }
+}
+
+/// How many rows stand before the spot.
+pub fn row_number(blocks: &[Block], spot: Spot) -> usize
+    requires gap { IsGap blocks.now spot }
+    requires few { length (joined blocks.now) < 2 ^ 32 }
+    ensures { result ≡ rows_before blocks.now spot }
+{
+    rows_in(&blocks[..spot.block]) + spot.at
+}
+
+/// The row at the spot, or the one behind it.
+pub fn row_from(blocks: &[Block], spot: Spot) -> Option<DirRow>
+    requires filled { AreFilled blocks.now }
+    requires gap { IsGap blocks.now spot }
+    ensures { result ≡ slice_get (joined blocks.now) (rows_before blocks.now spot) }
+{
+    let rows = blocks[spot.block].as_slice();
+    if spot.at < rows.len() {
+        return Some(rows[spot.at]);
+    }
+    let next = spot.block + 1;
+    if next < blocks.len() {
+        blocks[next].as_slice().first().copied()
+    } else {
+        None
+    }
+}

@@ -1,0 +1,3 @@
+pub mod NextWords
+pub mod Dashes
+pub mod Reading

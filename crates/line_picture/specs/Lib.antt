@@ -1,0 +1,9 @@
+pub mod Errors
+pub mod Columns
+pub mod Lists
+pub mod Heading
+pub mod Reports
+pub mod Rows
+pub mod Grammar
+pub mod Changes
+pub mod TextPictures

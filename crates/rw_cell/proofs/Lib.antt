@@ -1,0 +1,12 @@
+pub mod Copies
+pub mod KeptReads
+pub mod HeldCopies
+pub mod MadeWrites
+pub mod MadeReads
+pub mod EachPlace
+pub mod GivenReads
+pub mod SortedReads
+pub mod GivenCopies
+pub mod OrderedPasses
+pub mod CallOrder
+pub mod LastCalls

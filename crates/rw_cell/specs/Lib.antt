@@ -1,0 +1,4 @@
+pub mod KeptReads
+pub mod RwCells
+pub mod Closings
+pub mod CallOrder

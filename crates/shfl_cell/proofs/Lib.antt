@@ -1,0 +1,2 @@
+pub mod EachPass
+pub mod MadeCalls

@@ -1,0 +1,11 @@
+//! An object behind the lock, with the history of its calls.
+#![tactic(auto)]
+
+mod calls;
+mod cell;
+mod closing;
+mod opening;
+#[cfg(test)]
+mod tests;
+
+pub use cell::{CellPass, CellPassOf, ShflCell, ShflCellOf};

@@ -1,0 +1,5 @@
+use Rattle.shfl_laws.proofs.Waits.{waits-on}
+use Rattle.shfl_laws.proofs.held.waiters_wait_on.Goals as goal
+
+pub returns : goal.returns
+returns c = record { law = waits-on }

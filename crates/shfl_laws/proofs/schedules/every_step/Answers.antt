@@ -1,0 +1,5 @@
+use Rattle.shfl_laws.proofs.OwnSteps.{step-law}
+use Rattle.shfl_laws.proofs.schedules.every_step.Goals as goal
+
+pub returns : goal.returns
+returns c = record { law = step-law }

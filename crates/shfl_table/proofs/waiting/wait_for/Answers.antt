@@ -1,0 +1,51 @@
+use Rattle.std.proofs.Common.{◌≡◌, true, false, sym, ap, ◌∙◌, subst, refl}
+use Rattle.shfl_table.specs.PassModel.{PassModel}
+use Rattle.shfl_table.specs.Views.{step_decisions}
+use Rattle.shfl_table.specs.Waits.{AsksAll, WaitsFor}
+use Rattle.shfl_table.proofs.WaitSteps.{waits-first, waits-in, waits-more, rests-now, asks-more, asks-none}
+use Rattle.shfl_table.proofs.OpenRounds.{rests-closed}
+use Rattle.shfl_table.proofs.waiting.wait_for.Goals as goal
+
+pub loop-init : goal.loop-init
+loop-init g c = let p = c.args.pass.now in let r = c.acquire.ensures.after in let told = g.C.Chooser.told c.args.chooser.now in (
+  tt,
+  search,
+  subst (λ (z : PassModel _). WaitsFor g.V.Kept.initial_state g.V.Kept.history c.args.mode p z) (sym r) (waits-first g.V.Kept.initial_state g.V.Kept.history c.args.mode p c.requires.idle.0 c.requires.idle.1),
+  subst (λ (z : PassModel _). AsksAll c.args.anchor.now p.decisions z.decisions told told) (sym r) (asks-none c.args.anchor.now p.decisions told),
+  refl,
+  λ closed is. absurd (let x : true ≡ false = sym is ∙ closed in cc),
+)
+
+pub loop-preserved : goal.loop-preserved
+loop-preserved g c = let i = c.loop.invariant in let s = c.step_on-again.ensures in let p = c.args.pass.now in let row = s.row.1 in let now = c.loop.pass in (
+  search,
+  search,
+  waits-more g.V.Kept.initial_state g.V.Kept.history c.args.mode p now c.step_on-again.new.pass s.row.0 i.2 row,
+  asks-more c.args.anchor.now p.decisions now.decisions c.step_on-again.new.pass.decisions _ _ _ (step_decisions now.board.rules now.own s.row.0) i.3 (ap (λ (z : PassModel _). z.decisions) row.row) s.row.2,
+  s.home ∙ i.4,
+  λ closed. s.in_round (i.5 closed),
+)
+
+pub step_on-again-requires-clause-board : goal.step_on-again-requires-clause-board
+step_on-again-requires-clause-board g c = c.loop.invariant.2.board ∙ c.requires.board
+
+pub returns-then-not-moving-clause-home : goal.returns-then-not-moving-clause-home
+returns-then-not-moving-clause-home g c = c.loop.invariant.4
+
+pub returns-then-not-moving-clause-holds : goal.returns-then-not-moving-clause-holds
+returns-then-not-moving-clause-holds g c = rests-now c.loop.pass.own c.loop.invariant.2.goes_on (sym c.moving.ensures ∙ c.if-not-moving.true)
+
+pub returns-then-not-moving-clause-waited : goal.returns-then-not-moving-clause-waited
+returns-then-not-moving-clause-waited g c = c.loop.invariant.2
+
+pub returns-then-not-moving-clause-asked : goal.returns-then-not-moving-clause-asked
+returns-then-not-moving-clause-asked g c = c.loop.invariant.3
+
+pub returns-then-not-moving-clause-in_round : goal.returns-then-not-moving-clause-in_round
+returns-then-not-moving-clause-in_round g c closed = rests-closed (g.C.Chooser.in_round c.loop.chooser) c.loop.pass.own (rests-now c.loop.pass.own c.loop.invariant.2.goes_on (sym c.moving.ensures ∙ c.if-not-moving.true)) (c.loop.invariant.5 closed)
+
+pub returns-then-not-moving-clause-within : goal.returns-then-not-moving-clause-within
+returns-then-not-moving-clause-within g c = (waits-in g.V.Kept.initial_state g.V.Kept.history c.args.mode c.args.pass.now c.loop.pass c.loop.invariant.2 (rests-now c.loop.pass.own c.loop.invariant.2.goes_on (sym c.moving.ensures ∙ c.if-not-moving.true))).0
+
+pub returns-then-not-moving-clause-places : goal.returns-then-not-moving-clause-places
+returns-then-not-moving-clause-places g c = (waits-in g.V.Kept.initial_state g.V.Kept.history c.args.mode c.args.pass.now c.loop.pass c.loop.invariant.2 (rests-now c.loop.pass.own c.loop.invariant.2.goes_on (sym c.moving.ensures ∙ c.if-not-moving.true))).1

@@ -1,0 +1,11 @@
+pub mod BoardRule
+pub mod Histories
+pub mod PassInvariant
+pub mod PassModel
+pub mod PassSteps
+pub mod Perform
+pub mod Places
+pub mod ValueMoves
+pub mod Views
+pub mod Waits
+pub mod Books

@@ -1,0 +1,31 @@
+//! The lock on words that threads share, with values behind it, under one rule for the words, the passes and the values.
+#![tactic(auto)]
+
+mod attempts;
+mod board;
+mod book;
+mod closing;
+mod exchanges;
+mod kept;
+mod opening;
+mod operation;
+mod passes;
+mod performing;
+mod plays;
+mod sleepers;
+mod view;
+mod waiting;
+
+pub use attempts::Busy;
+pub use board::SharedBoard;
+pub use book::Book;
+pub use closing::Closing;
+pub use kept::{Action, Kept};
+pub use opening::open;
+pub use passes::Pass;
+pub use performing::perform;
+pub use view::{Decision, Given};
+pub use waiting::{free, wait_for};
+
+#[cfg(test)]
+mod tests;

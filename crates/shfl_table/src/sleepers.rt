@@ -1,0 +1,102 @@
+//! Where passes sleep: a word for each, with nothing else on its cache lines.
+ghost use Rattle.std.specs.Prelude.{◌≡◌};
+
+use crate::board::SharedBoard;
+use crate::kept::Kept;
+use crate::passes::Pass;
+use crossbeam_utils::CachePadded;
+use std::hint;
+use std::sync::Wait;
+use std::sync::atomic::{AtomicU64, Ordering};
+
+// Nobody sleeps here, and nobody was woken.
+const EMPTY: u64 = 0;
+
+// A wake came, and the pass hasn't seen it yet.
+const NOTIFIED: u64 = 1;
+
+// The pass sleeps.
+const PARKED: u64 = 2;
+
+// How often a pass looks for a wake before it sleeps.
+const LOOKS: u32 = 100;
+
+/// Where one pass sleeps.
+#[derive(Drop)]
+pub struct Sleeper {
+    state: CachePadded<AtomicU64>,
+}
+
+impl Sleeper {
+    pub fn new() -> Sleeper {
+        Sleeper {
+            state: CachePadded::new(AtomicU64::new(EMPTY)),
+        }
+    }
+
+    // Whether the state was this one, and is the other now.
+    fn turns(&self, from: u64, to: u64) -> bool {
+        let state: &AtomicU64 = &self.state;
+        state
+            .compare_exchange(from, to, Ordering::SeqCst, Ordering::SeqCst)
+            .is_ok()
+    }
+
+    // Whether a wake came while the pass looked.
+    fn is_woken_soon(&self) -> bool {
+        let state: &AtomicU64 = &self.state;
+        for _ in 0..LOOKS {
+            if state.load(Ordering::SeqCst) == NOTIFIED {
+                return self.turns(NOTIFIED, EMPTY);
+            }
+            hint::spin_loop();
+        }
+        false
+    }
+
+    /// Waits for a wake: it looks a while, and then sleeps. A wake that came before ends it at once.
+    pub fn sleep<R: Wait>(&self, rt: &R) {
+        if self.is_woken_soon() {
+            return;
+        }
+        let _ = self.turns(EMPTY, PARKED);
+        let state: &AtomicU64 = &self.state;
+        for _ in rt.forever() {
+            if self.turns(NOTIFIED, EMPTY) {
+                return;
+            }
+            state.park(rt, PARKED as u32);
+        }
+    }
+
+    /// Ends the sleep that is going on here, or else the next one. Only a pass that really sleeps costs a call of the system.
+    pub fn wake(&self) {
+        let state: &AtomicU64 = &self.state;
+        if state.swap(NOTIFIED, Ordering::SeqCst) == PARKED {
+            state.wake_one();
+        }
+    }
+}
+
+impl<V: Kept + Drop> Pass<V> {
+    /// Waits until another pass wakes this one, or not at all where one did so since the last sleep. It looks a while before it
+    /// sleeps, and a sleeping thread uses no processor time. No word and no view changes, and nobody's step waits for it. It is made
+    /// for a pass that has parked and found its wakeup flag unset.
+    pub fn sleep<R: Wait>(&self, rt: &R, board: &SharedBoard<V>)
+        requires board { self.now.board ≡ board.now.id }
+    {
+        if let Some(sleeper) = board.sleepers.get(self.number() as usize) {
+            sleeper.sleep(rt);
+        }
+    }
+
+    /// Wakes the pass of this number from its sleep, or keeps it from the next one. No word and no view changes. It is made for a
+    /// pass that has set the other one's wakeup flag.
+    pub fn wake<R: Wait>(&self, _rt: &R, board: &SharedBoard<V>, whom: u32)
+        requires board { self.now.board ≡ board.now.id }
+    {
+        if let Some(sleeper) = board.sleepers.get(whom as usize) {
+            sleeper.wake();
+        }
+    }
+}

@@ -1,0 +1,5 @@
+pub mod Attachments
+pub mod Turns
+pub mod Counting
+pub mod Joining
+pub mod Loading

@@ -1,0 +1,44 @@
+-- A chooser that answers by a version of live policies.
+use Rattle.std.specs.Prelude.{◌≡◌, ℕ, List, ◌∷◌, Bool, true, false, Option, Some, None, slice_get}
+use Rattle.shfl_line.specs.declared.words.Attr.{Attr}
+use Rattle.shfl_policy.specs.Policies.{PolicyModel, skip_of, should_of}
+use Rattle.atomic_table.specs.Seated.{TableId}
+use Rattle.policy_versions.specs.Places.{RegistryId}
+use Rattle.policy_versions.specs.Models.{PassModel, UsingModel}
+
+-- the registry, the name of the lent pass and what it is now, and the use that a round has
+pub record ChooserModel : Type 0 where
+  pub registry : RegistryId
+  pub name : ℕ
+  pub pass : PassModel
+  pub held : Option UsingModel
+
+abbrev pub is_open : Option UsingModel → Bool
+is_open None = false
+is_open (Some u) = true
+
+-- the use is of the registry and of the pass's user
+abbrev pub IsHeldBy : RegistryId → PassModel → Option UsingModel → Type 0
+IsHeldBy registry pass None = Unit {0}
+IsHeldBy registry pass (Some u) = (u.registry ≡ registry) × (u.user ≡ pass.user)
+
+-- which table it is
+abbrev pub table_numbers : TableId → List ℕ
+table_numbers t = t.words ∷ t.slots ∷ t.views_name ∷ t.atom ∷ t.block ∷ t.offset ∷ t.slot_names
+
+-- the registry and the pass's user
+abbrev pub home_of : ChooserModel → List ℕ
+home_of c = c.name ∷ c.pass.user ∷ table_numbers c.registry.table
+
+-- the policy that a round is answered by: the declared one that its use names
+abbrev pub policy_of : ChooserModel → Option PolicyModel
+policy_of c = elim c.held [ None ↦ None | Some u ↦ slice_get c.registry.declared u.which ]
+
+-- without a policy the answer is no
+abbrev pub skipped : Option PolicyModel → Attr → ℕ → Bool
+skipped None anchor batch = false
+skipped (Some p) anchor batch = skip_of p anchor batch
+
+abbrev pub moved_up : Option PolicyModel → Attr → Attr → ℕ → Bool
+moved_up None anchor waiter batch = false
+moved_up (Some p) anchor waiter batch = should_of p anchor waiter batch

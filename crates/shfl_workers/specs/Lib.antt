@@ -1,0 +1,5 @@
+pub mod Choosing
+pub mod Attaching
+pub mod Shares
+pub mod Progress
+pub mod Activities

@@ -1,0 +1,155 @@
+//! What each worker works with, in one list for its thread.
+ghost use Rattle.std.specs.List.{AllByRecursion};
+ghost use Rattle.trace_text.specs.Traces.{IsCallOf};
+ghost use Rattle.std.specs.Prelude.{IsSome, ◌<◌, length, ◌++◌, ◌≡◌, ◌≢◌, ℕ, ◌≤◌, ◌+◌, List, [], ◌∷◌, map, Some, IfOk, All, IsSomeAnd, vec_len, vec_capacity, slice_index_or};
+ghost use Rattle.shfl_workers.specs.declared.activity.Activity.{Activity};
+ghost use Rattle.shfl_workers.specs.Activities.{Joined, IsAt};
+
+use crate::attaching::Attaching;
+use crate::shared_dir::SharedDir;
+use crate::worker::work;
+use policy_versions::{Publisher, Registry, VersionPass};
+use std::alloc::Global;
+use std::sync::Wait;
+use std::thread;
+use std::thread::Threads;
+use syn_outer::Gate;
+use trace_text::{NoMemory, TraceCall};
+
+/// A worker's pass of the directory and of the policies; worker 0 attaches besides.
+#[derive(Drop)]
+pub struct Activity<P: Drop> {
+    pub pass: P,
+    pub user: VersionPass,
+    pub attaching: Option<Attaching>,
+}
+
+/// An activity for each pass and user, of which the first one attaches.
+pub fn join<P: Drop>(
+    alloc: Global,
+    passes: Vec<P>,
+    users: Vec<VersionPass>,
+    attaching: Attaching,
+) -> Result<Vec<Activity<P>>, NoMemory>
+    requires { vec_len passes ≡ vec_len users }
+    ensures { IfOk result (λ v. Joined passes.items users.items (Some attaching) v.items) }
+{
+    let mut activities = Vec::with_capacity(alloc, passes.len())?;
+    let mut users = users.into_iter();
+    let mut attaching = Some(attaching);
+    for pass in passes {
+        let Some(user) = users.next() else {
+            unreachable!()
+        };
+        let attaching = attaching.take();
+        activities.push_reserved(Activity {
+            pass,
+            user,
+            attaching,
+        });
+    }
+    Ok(activities)
+}
+
+/// All workers work, each in a thread of its own. Where a thread can't be had, the caller does its work.
+pub fn run_all<D: SharedDir + Sync, G: Gate + Sync, R: Threads + Wait + Sync>(
+    rt: &R,
+    dir: &D,
+    registry: &Registry,
+    gate: &G,
+    calls: &[TraceCall],
+    activities: &mut [Activity<D::Pass>],
+)
+    requires calls { (workers : ℕ) × (policies : ℕ)
+        × AllByRecursion (IsCallOf workers (D.room dir.now) policies) calls.now }
+    requires ready { All (IsAt (D.is_pass dir.now) D.worker D.made D.left registry.now
+        [] calls.now) activities.old }
+    ensures done { All (IsAt (D.is_pass dir.now) D.worker D.made D.left registry.now
+        calls.now []) activities.new }
+    ensures len { length activities.new ≡ length activities.old }
+    ensures workers { (k : ℕ) (d : Activity _) → k < length activities.old
+        → D.worker (slice_index_or activities.new k d).pass
+        ≡ D.worker (slice_index_or activities.old k d).pass }
+{
+    let job = |_place: usize, activity: &mut Activity<D::Pass>|
+        requires { ((workers : ℕ) × (policies : ℕ)
+            × AllByRecursion (IsCallOf workers (D.room dir.now) policies) calls.now)
+            × IsAt (D.is_pass dir.now) D.worker D.made D.left registry.now [] calls.now activity.now }
+        ensures { IsAt (D.is_pass dir.entry.now) D.worker D.made D.left registry.entry.now
+            calls.entry.now [] activity.exit.now
+            × (D.worker activity.exit.now.pass ≡ D.worker activity.entry.now.pass) }
+    {
+        let Activity {
+            pass,
+            user,
+            attaching,
+        } = activity;
+        work(rt, dir, registry, gate, pass, user, attaching, calls);
+    };
+    thread::for_each_mut(rt, activities, 16, &job);
+}
+
+// One worker's parts go to the others' ones.
+fn part<P: Drop>(
+    activity: Activity<P>,
+    passes: &mut Vec<P>,
+    users: &mut Vec<VersionPass>,
+) -> Option<Attaching>
+    requires passes { vec_len passes.old + 1 ≤ vec_capacity passes.old }
+    requires users { vec_len users.old + 1 ≤ vec_capacity users.old }
+    ensures passes { passes.new.items ≡ passes.old.items ++ activity.pass ∷ [] }
+    ensures users { users.new.items ≡ users.old.items ++ activity.user ∷ [] }
+    ensures room { (vec_capacity passes.new ≡ vec_capacity passes.old)
+        × (vec_capacity users.new ≡ vec_capacity users.old) }
+    ensures attaching { result ≡ activity.attaching }
+{
+    let Activity {
+        pass,
+        user,
+        attaching,
+    } = activity;
+    passes.push_reserved(pass);
+    users.push_reserved(user);
+    attaching
+}
+
+// The parts of all of them go behind those that are there.
+fn part_all<P: Drop>(
+    activities: Vec<Activity<P>>,
+    passes: &mut Vec<P>,
+    users: &mut Vec<VersionPass>,
+)
+    requires passes { vec_len passes.old + vec_len activities ≤ vec_capacity passes.old }
+    requires users { vec_len users.old + vec_len activities ≤ vec_capacity users.old }
+    ensures passes { passes.new.items ≡ passes.old.items ++ map (λ a. a.pass) activities.items }
+    ensures users { users.new.items ≡ users.old.items ++ map (λ a. a.user) activities.items }
+{
+    for activity in activities {
+        drop(part(activity, passes, users));
+    }
+}
+
+/// The passes, the users and the publisher again, in the lists that have room for them.
+pub fn take_apart<P: Drop>(
+    mut activities: Vec<Activity<P>>,
+    passes: &mut Vec<P>,
+    users: &mut Vec<VersionPass>,
+) -> Publisher
+    requires first { (a : Activity _) × (rest : List _) × (activities.items ≡ a ∷ rest)
+        × IsSome a.attaching }
+    requires passes { (passes.old.items ≡ []) × (vec_len activities ≤ vec_capacity passes.old) }
+    requires users { (users.old.items ≡ []) × (vec_len activities ≤ vec_capacity users.old) }
+    ensures passes { passes.new.items ≡ map (λ a. a.pass) activities.items }
+    ensures users { users.new.items ≡ map (λ a. a.user) activities.items }
+    ensures publisher { (a : Activity _) (rest : List _) → activities.items ≡ a ∷ rest
+        → IsSomeAnd a.attaching (λ x. result ≡ x.publisher) }
+{
+    let first = activities.remove(0);
+    let Some(attaching) = part(first, passes, users) else {
+        unreachable!()
+    };
+    part_all(activities, passes, users);
+    let Attaching { publisher, copies } = attaching;
+    drop(copies);
+    publisher
+}
