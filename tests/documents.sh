@@ -8,9 +8,10 @@ cd "$top" || exit 1
 [ "$#" -gt 0 ] || set -- README.md docs/*.md
 failed=0 count=0
 
-# the program is built before, so that it says nothing of that below; without words it only refuses them
+# the programs are built before, so that they say nothing of that below; without words the first only refuses them
 bin/syncord </dev/null >/dev/null 2> >(grep -v '^syncord: words$' >&2)
 [ "$?" = 2 ] || exit 1
+bin/accounts >/dev/null || exit 1
 
 judge() {
     local got status=0
