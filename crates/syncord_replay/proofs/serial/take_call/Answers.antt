@@ -4,7 +4,7 @@ use Rattle.dir_table.specs.Numbers.{state_numbers}
 use Rattle.trace_text.specs.Report.{Done, done_of}
 use Rattle.syncord_replay.specs.Serial.{Follows}
 use Rattle.syncord_replay.proofs.OneMore.{follows_call}
-use Rattle.syncord_replay.proofs.history.take_call.Goals as goal
+use Rattle.syncord_replay.proofs.serial.take_call.Goals as goal
 
 pub returns-in_ok-push-in-Dir-clause-follows : goal.returns-in_ok-push-in-Dir-clause-follows
 returns-in_ok-push-in-Dir-clause-follows c = λ start before f.

@@ -4,7 +4,7 @@ use Rattle.dir_table.specs.Numbers.{state_numbers}
 use Rattle.trace_text.specs.declared.trace.TraceCall.{TraceCall}
 use Rattle.trace_text.specs.Report.{done_of}
 use Rattle.syncord_replay.specs.Serial.{Follows}
-use Rattle.syncord_replay.proofs.history.take_calls.Goals as goal
+use Rattle.syncord_replay.proofs.serial.take_calls.Goals as goal
 
 pub loop-call-preserved : goal.loop-call-preserved
 loop-call-preserved c = record {

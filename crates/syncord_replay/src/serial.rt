@@ -1,15 +1,20 @@
-//! The calls of a trace on one directory, in the document's order.
-ghost use Rattle.std.specs.Prelude.{◌≡◌, ◌<◌, ◌≤◌, ◌+◌, ◌∷◌, ◌++◌, ℕ, List, [], map, length, OnOk, IfOk};
+//! A runner for tests: the calls of a trace on one directory, in the document's order.
+ghost use Rattle.std.specs.Prelude.{◌≡◌, ◌<◌, ◌≤◌, ◌+◌, ◌∷◌, ◌++◌, ℕ, List, [], false, map, length, OnOk, IfOk};
 ghost use Rattle.std.specs.List.{AllByRecursion};
 ghost use Rattle.dir_table.specs.Numbers.{state_numbers};
 ghost use Rattle.trace_text.specs.declared.trace.TraceCall.{TraceCall};
 ghost use Rattle.trace_text.specs.Report.{done_of};
 ghost use Rattle.trace_text.specs.Traces.{IsWithin};
 ghost use Rattle.trace_text.specs.Histories.{IsHistoryOf};
+ghost use Rattle.trace_text.specs.Attachments.{attached_in};
 ghost use Rattle.syncord_replay.specs.Serial.{MayDo, Follows, directory_for};
 
+use crate::replayer::{Replayer, Run};
+use bpf_isa::Profile;
 use dir_table::Dir;
 use hist_log::{Entry, Object};
+use policy_versions::{Published, Registry};
+use shfl_policy::{PolicySource, load};
 use std::alloc::Global;
 use trace_text::{NoMemory, Trace, TraceAct, TraceCall};
 
@@ -67,12 +72,54 @@ fn open_for(alloc: Global, trace: &Trace) -> Result<Dir, NoMemory>
     }
 }
 
-/// A history of the trace, that of its document's order, and the directory that it leaves.
-pub fn history_of(alloc: Global, trace: &Trace) -> Result<(Vec<Entry<Dir>>, Dir), NoMemory>
-    requires { IsWithin trace.now }
-    ensures { IfOk result (λ h. IsHistoryOf trace.now (map done_of h.0.items) h.1) }
+// Whether a policy is attached.
+fn attaches(calls: &[TraceCall]) -> bool
+    ensures { result ≡ false → attached_in calls.now ≡ [] }
 {
-    let mut dir = open_for(alloc, trace)?;
-    let history = take_calls(alloc, &mut dir, trace.calls.as_slice())?;
-    Ok((history, dir))
+    for call in calls {
+        if let TraceAct::Attach(_) = call.act {
+            return true;
+        }
+    }
+    false
+}
+
+// What a registry has that was closed before anything was published.
+fn nothing_published(alloc: Global) -> Result<Published, NoMemory>
+    ensures { IfOk result (λ p. p ≡ []) }
+{
+    let source = PolicySource {
+        should: None,
+        skip: None,
+    };
+    let Ok(policy) = load(alloc, 0, Profile::One, &source) else {
+        return Err(NoMemory);
+    };
+    let mut policies = Vec::new(alloc);
+    policies.push(policy)?;
+    let Ok((registry, publisher, passes)) = Registry::open(alloc, policies, 1) else {
+        return Err(NoMemory);
+    };
+    let (_policies, published) = registry.close(publisher, passes);
+    Ok(published)
+}
+
+/// Runs a trace that attaches nothing, and gives up on each other one.
+#[derive(Drop)]
+pub struct Serial;
+
+impl Replayer for Serial {
+    fn run(&self, alloc: Global, trace: &Trace) -> Result<Run, NoMemory> {
+        let calls = trace.calls.as_slice();
+        if attaches(calls) {
+            return Err(NoMemory);
+        }
+        let mut dir = open_for(alloc, trace)?;
+        let history = take_calls(alloc, &mut dir, calls)?;
+        Ok(Run {
+            history,
+            dir,
+            versions: nothing_published(alloc)?,
+        })
+    }
 }

@@ -2,7 +2,7 @@ use Rattle.std.proofs.Common.{◌≤◌, ◌+◌, map, take, length}
 use Rattle.dir_table.specs.Numbers.{state_numbers}
 use Rattle.trace_text.specs.Report.{done_of}
 use Rattle.syncord_replay.specs.Serial.{Follows}
-use Rattle.syncord_replay.proofs.history.take_calls.Given as goal
+use Rattle.syncord_replay.proofs.serial.take_calls.Given as goal
 
 abbrev pub invariant-loop-call : goal.invariant-loop-call
 invariant-loop-call l = record {
