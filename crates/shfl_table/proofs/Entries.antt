@@ -1,11 +1,11 @@
 -- Entries as actions and as operations, with one more.
-use Rattle.std.proofs.Common.{◌≡◌, ℕ, zero, suc, ◌+◌, ◌<◌, List, [], ◌∷◌, ◌++◌, map, length, slice_get, Option, Some, None, sym, refl, ap, ◌∙◌, subst, arith}
+use Rattle.std.proofs.Common.{◌≡◌, ℕ, zero, suc, ◌+◌, List, [], ◌∷◌, ◌++◌, length, slice_get, Some, sym, refl, ap, ◌∙◌, subst, arith}
 use Rattle.std.proofs.lemmas.List.{map-append}
 use Rattle.hist_log.specs.declared.entry.Entry.{Entry}
 use Rattle.hist_log.specs.History.{Operation, operations, IsLegal, state_left}
 use Rattle.hist_log.proofs.LongerHistories.{state_left-append, legal-append}
 use Rattle.shfl_table.specs.declared.kept.Action.{Action}
-use Rattle.shfl_table.specs.Books.{operation_of, operations_of, action, actions, HavePlaces}
+use Rattle.shfl_table.specs.Books.{operation_of, operations_of, actions, HavePlaces}
 
 module _ {O C R : Type 0} (call : C → List ℕ) (reply : R → List ℕ) where
   -- as an action or as itself, an entry is the same operation

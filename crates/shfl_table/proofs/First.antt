@@ -1,5 +1,5 @@
 -- The table at its opening: one pass has its seat, and every value is at home.
-use Rattle.std.proofs.Common.{◌≡◌, ℕ, List, [], ◌∷◌, length, sym, ap, ◌∙◌, subst, arith, map, Some}
+use Rattle.std.proofs.Common.{◌≡◌, ℕ, List, [], ◌∷◌, length, sym, ap, ◌∙◌, subst, map, Some}
 use Rattle.atomic_table.specs.Table.{opening}
 use Rattle.shfl_line.specs.declared.words.Attr.{Attr}
 use Rattle.shfl_line.specs.Words.{attr_word}

@@ -1,5 +1,5 @@
 -- A chooser is open at most while its pass is in a round.
-use Rattle.std.proofs.Common.{◌≡◌, ℕ, zero, suc, ◌+◌, ◌==◌, Bool, true, false, cond, refl, sym, ap, ◌∙◌, subst}
+use Rattle.std.proofs.Common.{◌≡◌, ℕ, zero, suc, ◌+◌, ◌==◌, Bool, true, false, cond, refl, sym, ap, ◌∙◌}
 use Rattle.std.specs.Prelude.{nat_lt}
 use Rattle.shfl_core.specs.declared.phase.Phase.{Phase}
 use Rattle.shfl_core.specs.declared.phase.Phase.TheVariants.{Begin, Next, Tail, Attr, Decide, After, Pick, Aim, Place, Mark, Give}
@@ -9,10 +9,9 @@ use Rattle.shfl_core.specs.declared.phase.Registers.{Registers}
 use Rattle.shfl_core.specs.declared.phase.PassState.{PassState}
 use Rattle.shfl_core.specs.declared.phase.Rules.{Rules}
 use Rattle.shfl_core.specs.Phases.{is_round}
-use Rattle.shfl_core.specs.Plan.{round_batch, is_resting, is_held}
-use Rattle.shfl_core.specs.Take.{take, take_at, take_by, begun, decided, stops, next_found, after_found, to, done, nap_found}
+use Rattle.shfl_core.specs.Plan.{round_batch, is_resting}
+use Rattle.shfl_core.specs.Take.{take, take_at, take_by, stops, next_found, after_found, to, done}
 use Rattle.shfl_core.specs.Waiting.{ask, ask_at}
-use Rattle.shfl_core.specs.declared.phase.Ask.{Ask}
 use Rattle.shfl_core.specs.declared.phase.Ask.TheVariants.{Nothing, Skip}
 use Rattle.shfl_laws.proofs.MoveLaws.{resting-is}
 use Rattle.shfl_table.specs.Waits.{IsOpenInRounds, is_last_of_round, opens_round}

@@ -1,18 +1,17 @@
 -- Any operation whose world stays lawful keeps the rule, with the values.
-use Rattle.std.proofs.Common.{◌≡◌, ◌≢◌, ℕ, zero, suc, ◌+◌, ◌-◌, min, ◌<◌, ◌≤◌, Bool, true, false, cond, List, [], ◌∷◌, ◌++◌, map, length, set, get_or-set_same, get_or-set_other, Option, Some, None, sym, refl, ap, ◌∙◌, subst, inl, inr, ⊎_elim, arith, length-set}
+use Rattle.std.proofs.Common.{◌≡◌, ℕ, ◌-◌, min, Bool, true, false, cond, List, ◌++◌, map, length, set, Option, Some, None, sym, refl, ap, ◌∙◌, subst, inl, inr, arith}
 use mathlib.Core.Logic.{dite}
-use native.Mathlib.Decide.{ℕ_discrete, dec_lt}
-use mathlib.Core.Option.{some, some-injective, some-ne-none}
+use native.Mathlib.Decide.{dec_lt}
+use mathlib.Core.Option.{some}
 use lib.ListN.{get_elem?}
 use Rattle.atomic_table.specs.Table.{State, Me, Act, keeps, homes_after, carried_after, Valid, stepped}
-use Rattle.atomic_table.proofs.Lists.{at_set, set_here, set_else}
+use Rattle.atomic_table.proofs.Lists.{set_here}
 use Rattle.shfl_line.specs.declared.events.Mode.{Mode}
 use Rattle.shfl_line.specs.declared.events.Mode.TheVariants.{Write, Read}
 use Rattle.shfl_core.specs.declared.phase.PassState.{PassState}
 use Rattle.shfl_core.specs.declared.words.Access.{Access}
 use Rattle.shfl_core.specs.Words.{look, site, told, written, index, put}
-use Rattle.shfl_core.specs.Waiting.{idle}
-use Rattle.shfl_core.specs.Worlds.{World, known, after_access}
+use Rattle.shfl_core.specs.Worlds.{World, after_access}
 use Rattle.shfl_core.specs.Plan.{plan}
 use Rattle.shfl_core.specs.Take.{take}
 use Rattle.shfl_core.specs.Phases.{is_holding}
@@ -20,21 +19,19 @@ use Rattle.shfl_core.specs.Lawful.{Terms, Lawful, Formed, InRange}
 use Rattle.shfl_core.proofs.Blind.{store-blind, told-found}
 use Rattle.shfl_laws.specs.Seen.{SeenAs}
 use Rattle.shfl_laws.proofs.InRange.{in-range-law}
-use Rattle.shfl_core.proofs.Lists.{seen-at}
 use Rattle.shfl_table.specs.Perform.{Permits}
-use Rattle.shfl_table.proofs.Places.{there, take_all, give_all, AtHome, taken, taken_else, taken_length, may_take, may_give, given_all, given_else, given_length, given_here, collected, each_home, values_numbered}
+use Rattle.shfl_table.proofs.Places.{there, take_all, give_all, AtHome, taken, taken_else, taken_length, may_take, may_give, given_all, given_else, given_length, given_here, collected, each_home}
 use Rattle.shfl_laws.proofs.OwnSteps.{own-step}
 use Rattle.shfl_laws.specs.Holds.{hold_of, is_releasing}
-use Rattle.shfl_table.specs.Places.{Every, numbered, values_of}
-use Rattle.shfl_table.specs.Histories.{Continues, HasSeen, IsCurrent, actions_by, common_history}
+use Rattle.shfl_table.specs.Places.{Every, numbered}
+use Rattle.shfl_table.specs.Histories.{Continues, HasSeen, IsCurrent, common_history}
 use Rattle.shfl_table.specs.declared.view.Decision.{Decision}
 use Rattle.shfl_table.specs.declared.kept.Action.{Action}
 use Rattle.shfl_table.specs.declared.view.View.{View}
-use Rattle.shfl_table.specs.Views.{number, IsAmong, IsSpent, pass_at, passes_from, step_decisions, view_after}
-use Rattle.shfl_table.specs.BoardRule.{AreHome, BoardRule, Homes, IsHome, SeatFacts, world_of}
+use Rattle.shfl_table.specs.Views.{number, passes_from, step_decisions, view_after}
+use Rattle.shfl_table.specs.BoardRule.{BoardRule, IsHome, world_of}
 use Rattle.shfl_table.specs.ValueMoves.{GainsHold, MayFree, MovesValues, access_play, step_play}
-use Rattle.shfl_laws.proofs.Holds.{alone, take-mode, hold-seen, frees-only}
-use Rattle.shfl_table.proofs.Histories.{knew_itself, knew_more}
+use Rattle.shfl_laws.proofs.Holds.{take-mode, hold-seen, frees-only}
 use Rattle.shfl_table.proofs.SeatViews.{pass-there, same_carried, none-some}
 use Rattle.shfl_table.proofs.Values.{all-home, freed-ruled, own-home, read-ruled, stays-ruled, unread-ruled, write-ruled}
 use Rattle.std.proofs.lemmas.List.{length-map}

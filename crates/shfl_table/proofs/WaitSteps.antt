@@ -26,7 +26,7 @@ use Rattle.shfl_table.specs.PassModel.{AreIn, BoardId, PassModel}
 use Rattle.shfl_table.specs.PassSteps.{SeesValues, TakesStep}
 use Rattle.shfl_laws.proofs.Holds.{take-mode, frees-only}
 use Rattle.shfl_laws.proofs.Waits.{waits-on}
-use Rattle.shfl_table.specs.Waits.{AsksAll, Tells, WaitsFor, answer_of, answers_of, as_idle}
+use Rattle.shfl_table.specs.Waits.{AsksAll, Tells, TriedInVain, WaitsFor, answer_of, answers_of, as_idle}
 
 -- one ask has one answer
 pub answers-entry : (anchor : Attr) (choice : Bool) (a : Ask) → answers_of anchor (decision_on choice a) ≡ answer_of anchor a choice
@@ -88,6 +88,22 @@ module _ {X : Type 0} (initial_state : X → List ℕ) (history : X → List Act
           no-hold : (m n x : Mode) → cond (is_holding (entry m)) (Some n) None ≡ Some x → ⊥
           no-hold Write n x e = let z : None ≡ Some x = e in cc
           no-hold Read n x e = let z : None ≡ Some x = e in cc
+
+  -- what waits after tries in vain waits from before them
+  pub waits-after : (old tried new : PassModel X) → TriedInVain old tried → WaitsFor initial_state history mode tried new → WaitsFor initial_state history mode old new
+  waits-after old tried new v w = record {
+    board = w.board ∙ v.board;
+    root_is = w.root_is ∙ v.root_is;
+    number = w.number ∙ v.number;
+    mode_is = w.mode_is;
+    goes_on = w.goes_on;
+    out = λ e. let b = w.out e in (b.0, b.1 ∙ v.seen);
+    within = λ m e. earlier m (w.within m e);
+  }
+    where
+      earlier : (m : Mode) → SeesValues initial_state history m tried new → SeesValues initial_state history m old new
+      earlier m g = subst (λ (z : ℕ × List Action × List ℕ × BoardId). HasSeen new.history z.0 z.1 × ((xs : List X) × (new.values ≡ map Some xs) × (length xs ≡ place_count (Some m) z.0 z.3.table.slots) × Every (IsCurrent initial_state history z.2 new.history) xs))
+          (λ j. (v.number j, v.seen j, v.root_is j, v.board j)) g
 
   module _ (old now new : PassModel X) (choice : Bool) (w : WaitsFor initial_state history mode old now) (s : TakesStep initial_state history now choice new) where
     own-is : new.own ≡ take now.board.rules now.own.reg.me now.own s.found choice

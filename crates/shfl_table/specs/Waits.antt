@@ -10,7 +10,7 @@ use Rattle.shfl_core.specs.declared.phase.Phase.{Phase}
 use Rattle.shfl_core.specs.declared.phase.Phase.TheVariants.{Idle, Give}
 use Rattle.shfl_core.specs.declared.phase.Nap.{Nap}
 use Rattle.shfl_core.specs.Phases.{is_round}
-use Rattle.shfl_core.specs.Plan.{is_awake}
+use Rattle.shfl_core.specs.Plan.{is_awake, is_idle}
 use Rattle.shfl_core.specs.declared.phase.Nap.TheVariants.{Awake}
 use Rattle.shfl_core.specs.declared.phase.PassState.{PassState}
 use Rattle.shfl_table.specs.declared.kept.Action.{Action}
@@ -68,3 +68,13 @@ pub record WaitsFor {X : Type 0} (initial_state : X → List ℕ) (history : X �
   pub goes_on : is_ending now.own.phase ≡ false
   pub out : hold_of now.own ≡ None → (now.values ≡ []) × (now.history ≡ old.history)
   pub within : (m : Mode) → hold_of now.own ≡ Some m → SeesValues initial_state history m old now
+
+-- a pass that tried to take the lock without queueing, and is idle as before
+pub record TriedInVain {X : Type 0} (old now : PassModel X) : Type 0 where
+  pub board : now.board ≡ old.board
+  pub root_is : now.initial_state ≡ old.initial_state
+  pub number : now.own.reg.me ≡ old.own.reg.me
+  pub rests : is_idle now.own.phase ≡ true
+  pub asked : now.decisions ≡ old.decisions
+  pub seen : now.history ≡ old.history
+  pub out : now.values ≡ old.values

@@ -13,6 +13,7 @@ mod passes;
 mod performing;
 mod plays;
 mod sleepers;
+mod trying;
 mod view;
 mod waiting;
 

@@ -12,6 +12,7 @@ ghost use Rattle.shfl_table.specs.Waits.{AsksAll, IsOpenInRounds, Tells, WaitsFo
 use crate::board::SharedBoard;
 use crate::kept::Kept;
 use crate::passes::Pass;
+use crate::trying::try_first;
 use shfl_core::{Ask, Nap, Phase};
 use shfl_line::{Attr, Chooser, Mode};
 use std::sync::Wait;
@@ -142,8 +143,8 @@ fn pause(looks: u32, again: bool) -> u32 {
     looks
 }
 
-/// Takes the lock in a mode, and waits until the pass holds it and owes no step. The chooser answers what the steps ask: it is
-/// opened before a round's first question, and closed after the round's last step. `anchor` has the attributes of the pass. The gate
+/// Takes the lock in a mode, and waits until the pass holds it and owes no step. It tries for a while without queueing, in which it
+/// asks nothing, and then queues. The chooser answers what the steps ask: it is opened before a round's first question, and closed after the round's last step. `anchor` has the attributes of the pass. The gate
 /// is told when the pass has joined the queue, and after each round.
 pub fn wait_for<V: Kept + Drop, C: Chooser, G: Gate, Rt: Wait>(
     rt: &Rt,
@@ -167,6 +168,9 @@ pub fn wait_for<V: Kept + Drop, C: Chooser, G: Gate, Rt: Wait>(
     ensures asked { AsksAll anchor.now pass.old.decisions pass.new.decisions
         (C.told chooser.old) (C.told chooser.new) }
 {
+    if try_first(board, pass, mode) {
+        return;
+    }
     let _ = pass.acquire(mode);
     let mut looks = 0;
     for _ in rt.forever() {

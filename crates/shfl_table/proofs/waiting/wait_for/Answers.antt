@@ -1,17 +1,20 @@
-use Rattle.std.proofs.Common.{◌≡◌, true, false, sym, ap, ◌∙◌, subst, refl}
+use Rattle.std.proofs.Common.{◌≡◌, true, false, sym, ap, ◌∙◌, subst, refl, List}
+use Rattle.shfl_table.specs.declared.view.Decision.{Decision}
 use Rattle.shfl_table.specs.PassModel.{PassModel}
 use Rattle.shfl_table.specs.Views.{step_decisions}
 use Rattle.shfl_table.specs.Waits.{AsksAll, WaitsFor}
-use Rattle.shfl_table.proofs.WaitSteps.{waits-first, waits-in, waits-more, rests-now, asks-more, asks-none}
+use Rattle.shfl_table.proofs.WaitSteps.{waits-after, waits-first, waits-in, waits-more, rests-now, asks-more, asks-none}
 use Rattle.shfl_table.proofs.OpenRounds.{rests-closed}
 use Rattle.shfl_table.proofs.waiting.wait_for.Goals as goal
 
 pub loop-init : goal.loop-init
-loop-init g c = let p = c.args.pass.now in let r = c.acquire.ensures.after in let told = g.C.Chooser.told c.args.chooser.now in (
+loop-init g c = let p = c.args.pass.now in let r = c.acquire.ensures.after in let told = g.C.Chooser.told c.args.chooser.now in let q = c.try_first.new.pass in let v = c.try_first.ensures.lost c.if-try_first.false in (
   tt,
   search,
-  subst (λ (z : PassModel _). WaitsFor g.V.Kept.initial_state g.V.Kept.history c.args.mode p z) (sym r) (waits-first g.V.Kept.initial_state g.V.Kept.history c.args.mode p c.requires.idle.0 c.requires.idle.1),
-  subst (λ (z : PassModel _). AsksAll c.args.anchor.now p.decisions z.decisions told told) (sym r) (asks-none c.args.anchor.now p.decisions told),
+  subst (λ (z : PassModel _). WaitsFor g.V.Kept.initial_state g.V.Kept.history c.args.mode p z) (sym r)
+      (waits-after g.V.Kept.initial_state g.V.Kept.history c.args.mode p q _ v (waits-first g.V.Kept.initial_state g.V.Kept.history c.args.mode q v.rests (v.out ∙ c.requires.idle.1))),
+  subst (λ (z : PassModel _). AsksAll c.args.anchor.now p.decisions z.decisions told told) (sym r)
+      (subst (λ (l : List Decision). AsksAll c.args.anchor.now p.decisions l told told) (sym c.try_first.ensures.asked) (asks-none c.args.anchor.now p.decisions told)),
   refl,
   λ closed is. absurd (let x : true ≡ false = sym is ∙ closed in cc),
 )

@@ -1,11 +1,11 @@
-use Rattle.std.proofs.Common.{rules, arith, ◌≡◌, ℕ, ◌<◌, ◌≤◌, ◌+◌, sym, refl, ap, ◌∙◌, subst, List, [], ◌∷◌, ◌++◌, map, length, slice_index, sum, vec_capacity, vec_len, length-append}
+use Rattle.std.proofs.Common.{rules, arith, ◌≡◌, ℕ, ◌<◌, sym, ap, ◌∙◌, subst, List, [], ◌∷◌, ◌++◌, length, slice_index, length-append}
 use Rattle.std.proofs.lemmas.List.{map-append, length-map}
 use Rattle.hist_log.specs.History.{IsLegal, state_left}
 use Rattle.hist_log.specs.declared.entry.Entry.{Entry}
 use Rattle.hist_log.proofs.LongerHistories.{admits-left}
 use Rattle.shfl_table.specs.declared.kept.Action.{Action}
 use Rattle.shfl_table.specs.Histories.{actions_by}
-use Rattle.shfl_table.specs.Books.{BookModel, BookInvariant, HavePlaces, IsWithin, operations_of, action, actions}
+use Rattle.shfl_table.specs.Books.{BookModel, HavePlaces, IsWithin, operations_of, action, actions}
 use Rattle.shfl_table.proofs.CallRoom.{has_room, one_more_is_within}
 use Rattle.shfl_table.proofs.Entries.{have_places-more, state_left-more, legal-more}
 use Rattle.shfl_table.proofs.book.Book.apply.Given as given_here

@@ -1,5 +1,5 @@
-use Rattle.std.proofs.Common.{◌≡◌, List, sym, ap, ◌∙◌, subst}
-use Rattle.hist_log.specs.History.{Operation, IsLegal, operations, state_left}
+use Rattle.std.proofs.Common.{◌∙◌, subst}
+use Rattle.hist_log.specs.History.{IsLegal, operations, state_left}
 use Rattle.shfl_table.specs.Books.{BookModel}
 use Rattle.shfl_table.proofs.Entries.{operations_of-actions}
 use Rattle.shfl_table.proofs.book.Book.into_parts.Goals as goal

@@ -1,5 +1,4 @@
-use Rattle.std.proofs.Common.{◌≡◌, ℕ, List, sym, ap, ◌∙◌, subst}
-use Rattle.hist_log.specs.History.{state_left}
+use Rattle.std.proofs.Common.{ℕ, List, sym, subst}
 use Rattle.hist_log.proofs.LongerHistories.{admits-left}
 use Rattle.shfl_table.specs.Books.{BookModel, operations_of, actions}
 use Rattle.shfl_table.proofs.book.Book.look.Goals as goal
