@@ -10,6 +10,7 @@ mod kept;
 mod opening;
 mod operation;
 mod passes;
+mod pausing;
 mod performing;
 mod plays;
 mod sleepers;

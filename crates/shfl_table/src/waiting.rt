@@ -12,15 +12,12 @@ ghost use Rattle.shfl_table.specs.Waits.{AsksAll, IsOpenInRounds, Tells, WaitsFo
 use crate::board::SharedBoard;
 use crate::kept::Kept;
 use crate::passes::Pass;
+use crate::pausing::pause;
 use crate::trying::try_first;
 use shfl_core::{Ask, Nap, Phase};
 use shfl_line::{Attr, Chooser, Mode};
 use std::sync::Wait;
-use std::{hint, thread};
 use syn_outer::{Gate, Point};
-
-// How often a pass looks at a word that doesn't change before it gives its processor to others.
-const LOOKS: u32 = 50;
 
 // The policy's answer to what the next step asks. The first question of a round opens it.
 fn answer<C: Chooser, Rt: Wait>(rt: &Rt, chooser: &mut C, anchor: &Attr, ask: Ask) -> bool
@@ -130,19 +127,6 @@ fn step_on<V: Kept + Drop, C: Chooser, G: Gate, Rt: Wait>(
     looks_again(before, pass.phase(), nap)
 }
 
-// Lets others go on where the pass looks again, and counts how often it did.
-fn pause(looks: u32, again: bool) -> u32 {
-    if !again {
-        return 0;
-    }
-    if looks < LOOKS {
-        hint::spin_loop();
-        return looks + 1;
-    }
-    thread::yield_now();
-    looks
-}
-
 /// Takes the lock in a mode, and waits until the pass holds it and owes no step. It tries for a while without queueing, in which it
 /// asks nothing, and then queues. The chooser answers what the steps ask: it is opened before a round's first question, and closed after the round's last step. `anchor` has the attributes of the pass. The gate
 /// is told when the pass has joined the queue, and after each round.
@@ -178,7 +162,7 @@ pub fn wait_for<V: Kept + Drop, C: Chooser, G: Gate, Rt: Wait>(
             return;
         }
         let again = step_on(rt, board, pass, anchor, chooser, gate);
-        looks = pause(looks, again);
+        looks = pause(rt, pass, looks, again);
     }
     unreachable!()
 }
