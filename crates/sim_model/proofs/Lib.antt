@@ -1,0 +1,9 @@
+pub mod Calm
+pub mod Kept
+pub mod Mapped
+pub mod Quiet
+pub mod Running
+pub mod Scheduled
+pub mod Settled
+pub mod Still
+pub mod Turned
