@@ -1,0 +1,33 @@
+#!/usr/bin/env bash
+# That a waiter sleeps: in the parking form one pass holds the lock for six seconds and three wait for it. Once all four threads
+# have been asleep at once, the process may use under 0.2 s of processor time in the next 2 s. No part of the gate. Builds in a folder of its own, which
+# it removes; the crates are proved there first.
+set -u
+top="$(cd "$(dirname "$(readlink -f "${BASH_SOURCE[0]}")")/.." && pwd)"
+room="$(mktemp -d)"
+trap 'rm -rf "$room"' EXIT
+. "$top/tests/cell-program.sh"
+program="$(cell_program "$top" "$room" shfl_cell "$top/tests/sleepers.rt.txt")" || exit 1
+
+# the processor time of a process, in hundredths of a second
+used() { awk '{ sub(/^.*\) /, ""); print $12 + $13 }' "/proc/$1/stat"; }
+# how many threads of a process sleep
+asleep() { cat "/proc/$1"/task/*/stat 2>/dev/null | sed 's/^.*) //' | grep -c '^S'; }
+
+"$program" all >"$room/got" &
+process=$!
+most=0
+for ((tenth = 0; tenth < 20; tenth++)); do
+    sleep 0.1
+    threads="$(asleep "$process")"
+    [ "$threads" -gt "$most" ] && most="$threads"
+    [ "$most" -ge 4 ] && break
+done
+sleep 0.3
+before="$(used "$process")"
+sleep 2
+after="$(used "$process")"
+wait "$process"
+status=$?
+echo "$most threads asleep at once, $((after - before)) hundredths of a second used in two seconds, status $status: $(cat "$room/got")"
+[ "$status" = 0 ] && [ "$most" -ge 4 ] && [ $((after - before)) -lt 20 ] && [ "$(cat "$room/got")" = "all calls returned" ]
