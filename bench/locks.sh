@@ -8,7 +8,7 @@ set -eu
 top="$(cd "$(dirname "$(readlink -f "${BASH_SOURCE[0]}")")/.." && pwd)"
 room="$(mktemp -d)"
 trap 'rm -rf "$room"' EXIT
-crates=(shfl_line shfl_core shfl_laws syn_outer hist_log shfl_table)
+crates=(shfl_line shfl_core shfl_laws shfl_rw_core shfl_park syn_outer hist_log shfl_table)
 for crate in "${crates[@]}"; do
     mkdir -p "$room/crates/$crate"
     (cd "$top/crates/$crate" && tar cf - --exclude=./out --exclude=./must-fail .) | tar xf - -C "$room/crates/$crate"
