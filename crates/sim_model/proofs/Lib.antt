@@ -1,4 +1,5 @@
 pub mod Calm
+pub mod Counted
 pub mod Kept
 pub mod Mapped
 pub mod Quiet

@@ -8,5 +8,6 @@ pub mod Places
 pub mod Steps
 pub mod Openings
 pub mod Runs
+pub mod Sums
 pub mod Turns
 pub mod Calls

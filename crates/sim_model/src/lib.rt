@@ -24,7 +24,7 @@ pub use adviser::{Advice, Adviser};
 pub use bench::Bench;
 pub use built_in::BuiltIn;
 pub use counts::{Counts, Order, Reaches, Served};
-pub use laws::{polls_change_nothing, runs_are_schedules, times_never_fall};
+pub use laws::{polls_change_nothing, runs_are_schedules, sums_agree, times_never_fall};
 pub use lines::{Line, Reach};
 pub use run::{Run, simulate};
 pub use setup::{Core, Costs, Layout, Setup, Work, cores_of};
