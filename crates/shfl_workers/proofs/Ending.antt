@@ -1,5 +1,5 @@
 -- The workers behind their last call.
-use Rattle.std.proofs.Common.{◌≡◌, ◌≢◌, ℕ, zero, suc, ◌+◌, ◌<◌, ◌≤◌, List, [], ◌∷◌, map, length, get_or, slice_get, Option, Some, None, IsSome, IsSomeAnd, All, inl, inr, sym, refl, ap, ◌∙◌, subst, arith}
+use Rattle.std.proofs.Common.{◌≡◌, ◌≢◌, ℕ, zero, suc, ◌<◌, ◌≤◌, List, [], ◌∷◌, map, length, get_or, slice_get, Some, All, sym, refl, ap, ◌∙◌, subst, arith}
 use Rattle.std.proofs.lemmas.List.{get_or-map}
 use Rattle.std.specs.List.{AllByRecursion}
 use native.Mathlib.Decide.{dec_lt}
@@ -27,11 +27,9 @@ use Rattle.trace_text.proofs.Answered.{answered, left, operations_of}
 use Rattle.shfl_workers.proofs.Merging.{made_once, nobody, nobody_makes, reads_leave_all}
 use Rattle.trace_text.specs.declared.trace.TraceCall.{TraceCall}
 use Rattle.policy_versions.specs.Places.{RegistryId}
-use Rattle.policy_versions.specs.Models.{PassModel, IsClosed}
 use Rattle.policy_versions.proofs.Indexed.{some_same}
 use Rattle.rw_cell.specs.RwCells.{RwCellModel, RwPassModel, number, IsPassOf, AreAll, AreOnce}
 use Rattle.shfl_workers.specs.declared.activity.Activity.{Activity}
-use Rattle.shfl_workers.specs.declared.attaching.Attaching.{Attaching}
 use Rattle.shfl_workers.specs.Activities.{IsAt}
 use Rattle.shfl_workers.specs.Stages.{AreNumbered}
 use Rattle.shfl_workers.specs.RwDirs.{HasMade}

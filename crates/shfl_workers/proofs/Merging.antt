@@ -1,8 +1,8 @@
 -- What the merged history of a cell says of the directory and of its workers.
-use Rattle.std.proofs.Common.{◌≡◌, ◌≢◌, ℕ, suc, ◌<◌, ◌≤◌, Bool, true, false, cond, eqb, List, [], ◌∷◌, ◌++◌, map, length, sym, refl, ap, ◌∙◌, subst, arith, ne_eqb}
+use Rattle.std.proofs.Common.{◌≡◌, ◌≢◌, ℕ, suc, ◌≤◌, Bool, true, false, cond, eqb, List, [], ◌∷◌, ◌++◌, map, sym, refl, ap, ◌∙◌, arith, ne_eqb}
 use Rattle.std.specs.List.{filter, All, AllByRecursion}
 use Rattle.std.proofs.lemmas.List.{map-append}
-use Rattle.std.proofs.lemmas.List.Elements.{All-head, All-tail, filter-append}
+use Rattle.std.proofs.lemmas.List.Elements.{All-head, All-tail}
 use Rattle.dir_table.specs.declared.calls.DirCall.{DirCall}
 use Rattle.dir_table.specs.declared.calls.DirReply.{DirReply}
 use Rattle.dir_table.specs.Numbers.{call_numbers, reply_numbers}
@@ -17,7 +17,7 @@ use Rattle.shfl_table.specs.Histories.{actions_by}
 use Rattle.shfl_table.proofs.Histories.{said_by-append}
 use Rattle.shfl_table.specs.Books.{action, actions}
 use Rattle.trace_text.specs.declared.trace.TraceCall.{TraceCall}
-use Rattle.trace_text.specs.Report.{Done, done_of}
+use Rattle.trace_text.specs.Report.{done_of}
 use Rattle.trace_text.specs.Histories.{Made, made_of, made_in, of_worker}
 use Rattle.trace_text.specs.Traces.{IsCallOf}
 use Rattle.shfl_workers.proofs.Turns.{of_worker-append, none_of_other}

@@ -1,5 +1,5 @@
 -- What worker 0 has published behind its last call.
-use Rattle.std.proofs.Common.{◌≡◌, ℕ, ◌<◌, List, [], ◌∷◌, length, Option, Some, None, IsSome, IsSomeAnd, All, sym, refl, ap, ◌∙◌, arith}
+use Rattle.std.proofs.Common.{◌≡◌, ℕ, ◌<◌, List, [], ◌∷◌, length, Option, Some, None, IsSome, IsSomeAnd, All, refl, ap, ◌∙◌, arith}
 use Rattle.dir_table.specs.declared.calls.DirCall.{DirCall}
 use Rattle.trace_text.specs.declared.trace.TraceCall.{TraceCall}
 use Rattle.trace_text.specs.Attachments.{attached_in, versions_from}

@@ -1,5 +1,5 @@
 -- The workers before their first call.
-use Rattle.std.proofs.Common.{◌≡◌, ℕ, zero, suc, ◌+◌, ◌<◌, ◌≤◌, List, [], ◌∷◌, length, get_or, slice_get, Option, Some, None, IsSomeAnd, sym, refl, ap, ◌∙◌, subst, arith}
+use Rattle.std.proofs.Common.{◌≡◌, ℕ, zero, suc, ◌<◌, ◌≤◌, List, [], ◌∷◌, length, get_or, slice_get, Option, Some, None, IsSomeAnd, sym, refl, ap, ◌∙◌, subst, arith}
 use Rattle.dir_table.specs.declared.calls.DirCall.{DirCall}
 use Rattle.dir_table.specs.declared.calls.DirReply.{DirReply}
 use Rattle.hist_log.specs.declared.entry.Entry.{Entry}
@@ -7,14 +7,13 @@ use Rattle.shfl_line.specs.declared.words.Attr.{Attr}
 use Rattle.trace_text.specs.declared.trace.TraceCall.{TraceCall}
 use Rattle.trace_text.specs.Attachments.{attached_in}
 use Rattle.policy_versions.specs.Places.{RegistryId}
-use Rattle.policy_versions.specs.Models.{PassModel, IsClosed, fresh as fresh_user, AreFresh}
+use Rattle.policy_versions.specs.Models.{PassModel, IsClosed, AreFresh}
 use Rattle.policy_versions.proofs.Indexed.{some_same}
 use Rattle.rw_cell.specs.RwCells.{RwCellModel, RwPassModel, number, IsPassOf, fresh}
 use Rattle.shfl_workers.specs.declared.activity.Activity.{Activity}
 use Rattle.shfl_workers.specs.declared.attaching.Attaching.{Attaching}
 use Rattle.shfl_workers.specs.Activities.{Joined, IsAt}
 use Rattle.shfl_workers.specs.Attaching.{Attached}
-use Rattle.shfl_workers.specs.Progress.{Progress}
 use Rattle.shfl_workers.specs.RwDirs.{HasMade}
 use Rattle.shfl_workers.specs.Shares.{share_of}
 

@@ -1,4 +1,4 @@
-use Rattle.std.proofs.Common.{◌≡◌, ℕ, ◌<◌, List, Vec, Global, All, map, length, slice_get, Option, Some, IfSome, sym, refl, ap, ◌∙◌, subst, arith}
+use Rattle.std.proofs.Common.{◌≡◌, ◌<◌, List, Vec, Global, All, map, length, slice_get, Option, Some, IfSome, sym, refl, ◌∙◌, subst, arith}
 use Rattle.std.proofs.lemmas.List.Elements.{All-map, All-pop}
 use Rattle.dir_table.specs.declared.dir.Dir.{Dir}
 use Rattle.dir_table.specs.declared.calls.DirCall.{DirCall}

@@ -1,7 +1,5 @@
-use Rattle.std.proofs.Common.{◌≡◌, ℕ, ◌<◌, ◌≤◌, All, List, length, vec_len, sum, slice_index, slice_index_or, Some, sym, ap, ◌∙◌, subst, arith}
-use Rattle.dir_table.specs.Directory.{Directory}
+use Rattle.std.proofs.Common.{◌<◌, ◌≤◌, length, vec_len, sum, slice_index, slice_index_or, Some, sym, ap, ◌∙◌, subst, arith}
 use Rattle.rw_cell.specs.RwCells.{fresh, no_attr}
-use Rattle.shfl_workers.specs.Shares.{share_of}
 use Rattle.shfl_workers.proofs.Opening.{all_alike, first_empty, enough_left}
 use Rattle.shfl_workers.proofs.run.open_cell.Goals as goal
 
