@@ -2,9 +2,8 @@
 #![tactic(auto)]
 
 mod bulk;
-mod nothing;
+mod outcome;
 mod replay;
-mod replayer;
 mod run;
 #[cfg(test)]
 mod serial;
@@ -13,6 +12,6 @@ mod tests;
 mod words;
 
 pub use bulk::run_bulk;
-pub use replayer::{Replayer, Run};
+pub use outcome::Run;
 pub use run::run_replay;
 pub use words::{BulkWords, bulk_words};

@@ -1,20 +1,26 @@
 //! From the bytes of a trace to the report of a replay, or to the first bad line.
 ghost use Rattle.std.specs.Prelude.{◌≡◌, IfOk, IfErr};
 ghost use Rattle.syncord_endings.specs.Endings.{Due};
-ghost use Rattle.syncord_replay.specs.Runnable.{IsRunnable};
+ghost use Rattle.syncord_replay.specs.Runnable.{IsRunnable, TakesEach, LeavesRuns};
 ghost use Rattle.syncord_replay.specs.Replays.{IsReportOf, Reports, Refuses};
 
-use crate::replayer::Replayer;
+use crate::outcome::Run;
 use std::alloc::Global;
 use syncord_endings::Refusal;
 use trace_text::{NoMemory, Trace, TraceError, read_trace, render};
 
 /// The report of what a run of the trace leaves.
-fn report_of<P: Replayer>(replayer: &P, alloc: Global, trace: &Trace) -> Result<Vec<u8>, NoMemory>
-    requires { IsRunnable trace.now }
+fn report_of<F: Fn(Global, &Trace) -> Result<Run, NoMemory>>(
+    runner: &F,
+    alloc: Global,
+    trace: &Trace,
+) -> Result<Vec<u8>, NoMemory>
+    requires trace { IsRunnable trace.now }
+    requires takes { TakesEach (F.pre runner.now) (λ t. t.now) }
+    requires leaves { LeavesRuns (F.post runner.now) (λ t. t.now) }
     ensures { IfOk result (λ text. IsReportOf trace.now text.items) }
 {
-    let outcome = replayer.run(alloc, trace)?;
+    let outcome = runner(alloc, trace)?;
     let attaches = outcome.versions.rows();
     let text = render(
         alloc,
@@ -27,7 +33,13 @@ fn report_of<P: Replayer>(replayer: &P, alloc: Global, trace: &Trace) -> Result<
 }
 
 /// Replays the trace that the bytes are.
-pub fn replay<P: Replayer>(replayer: &P, alloc: Global, bytes: &[u8]) -> Result<Vec<u8>, Refusal>
+pub fn replay<F: Fn(Global, &Trace) -> Result<Run, NoMemory>>(
+    runner: &F,
+    alloc: Global,
+    bytes: &[u8],
+) -> Result<Vec<u8>, Refusal>
+    requires takes { TakesEach (F.pre runner.now) (λ t. t.now) }
+    requires leaves { LeavesRuns (F.post runner.now) (λ t. t.now) }
     ensures report { IfOk result (λ text. Reports bytes.now text.items) }
     ensures refusal { IfErr result (Due (Refuses bytes.now)) }
 {
@@ -36,7 +48,7 @@ pub fn replay<P: Replayer>(replayer: &P, alloc: Global, bytes: &[u8]) -> Result<
         Err(TraceError::Format { line, what }) => return Err(Refusal::Line { line, what }),
         Err(TraceError::NoMemory) => return Err(Refusal::NoMemory),
     };
-    match report_of(replayer, alloc, &trace) {
+    match report_of(runner, alloc, &trace) {
         Ok(text) => Ok(text),
         Err(NoMemory) => Err(Refusal::NoMemory),
     }

@@ -5,11 +5,11 @@ ghost use Rattle.dir_table.specs.Numbers.{state_numbers};
 ghost use Rattle.trace_text.specs.declared.trace.TraceCall.{TraceCall};
 ghost use Rattle.trace_text.specs.Report.{done_of};
 ghost use Rattle.trace_text.specs.Traces.{IsWithin};
-ghost use Rattle.trace_text.specs.Histories.{IsHistoryOf};
 ghost use Rattle.trace_text.specs.Attachments.{attached_in};
+ghost use Rattle.syncord_replay.specs.Runnable.{IsRunnable, IsRunOf};
 ghost use Rattle.syncord_replay.specs.Serial.{MayDo, Follows, directory_for};
 
-use crate::replayer::{Replayer, Run};
+use crate::outcome::Run;
 use bpf_isa::Profile;
 use dir_table::Dir;
 use hist_log::{Entry, Object};
@@ -105,21 +105,19 @@ fn nothing_published(alloc: Global) -> Result<Published, NoMemory>
 }
 
 /// Runs a trace that attaches nothing, and gives up on each other one.
-#[derive(Drop)]
-pub struct Serial;
-
-impl Replayer for Serial {
-    fn run(&self, alloc: Global, trace: &Trace) -> Result<Run, NoMemory> {
-        let calls = trace.calls.as_slice();
-        if attaches(calls) {
-            return Err(NoMemory);
-        }
-        let mut dir = open_for(alloc, trace)?;
-        let history = take_calls(alloc, &mut dir, calls)?;
-        Ok(Run {
-            history,
-            dir,
-            versions: nothing_published(alloc)?,
-        })
+pub fn run_serially(alloc: Global, trace: &Trace) -> Result<Run, NoMemory>
+    requires { IsRunnable trace.now }
+    ensures { IfOk result (IsRunOf trace.now) }
+{
+    let calls = trace.calls.as_slice();
+    if attaches(calls) {
+        return Err(NoMemory);
     }
+    let mut dir = open_for(alloc, trace)?;
+    let history = take_calls(alloc, &mut dir, calls)?;
+    Ok(Run {
+        history,
+        dir,
+        versions: nothing_published(alloc)?,
+    })
 }

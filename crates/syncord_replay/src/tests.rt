@@ -1,5 +1,5 @@
 use super::*;
-use crate::serial::Serial;
+use crate::serial::run_serially;
 use std::alloc::Global;
 use std::test::Fail;
 use syn_outer::{MemSink, SureSink, SureSource};
@@ -20,7 +20,7 @@ fn sink(alloc: Global) -> Result<SureSink, Fail> {
 
 fn replayed(alloc: Global, bytes: Vec<u8>, out: &mut SureSink, err: &mut SureSink) -> u8 {
     let mut src = SureSource::new(bytes);
-    run_replay(&Serial, alloc, &mut src, out, err)
+    run_replay(&run_serially, alloc, &mut src, out, err)
 }
 
 #[test]
@@ -61,12 +61,18 @@ fn a_bad_line_is_named(rt: HostRuntime) -> Result<(), Fail> {
 fn a_seed_is_summed_up(rt: HostRuntime) -> Result<(), Fail> {
     let alloc = rt.alloc();
     let (mut out, mut err) = (sink(alloc)?, sink(alloc)?);
-    assert_eq!(rt; run_bulk(&Serial, alloc, 1, 1, 3, &mut out, &mut err), 0);
+    assert_eq!(rt;
+        run_bulk(&run_serially, alloc, 1, 1, 3, &mut out, &mut err),
+        0
+    );
     let expected =
         b"bulk seed 1 workers 1 calls 3 attaches 0\nino 1 done 0 exists 0 absent 1 number 1 name 0 end 0\nleft 1\n";
     assert_eq!(rt; out.bytes(), expected.as_slice());
     let mut out = sink(alloc)?;
-    assert_eq!(rt; run_bulk(&Serial, alloc, 0, 1, 0, &mut out, &mut err), 0);
+    assert_eq!(rt;
+        run_bulk(&run_serially, alloc, 0, 1, 0, &mut out, &mut err),
+        0
+    );
     let expected =
         b"bulk seed 0 workers 1 calls 0 attaches 0\nino 0 done 0 exists 0 absent 0 number 0 name 0 end 0\nleft 0\n";
     assert_eq!(rt; out.bytes(), expected.as_slice());
@@ -79,7 +85,10 @@ fn a_sink_that_fails_is_told(rt: HostRuntime) -> Result<(), Fail> {
     let fails = Vec::from_slice(alloc, &[2])?;
     let mut out = MemSink::open(alloc, 100, 16, fails).ok().ok_or("memory")?;
     let mut err = sink(alloc)?;
-    assert_eq!(rt; run_bulk(&Serial, alloc, 1, 1, 3, &mut out, &mut err), 4);
+    assert_eq!(rt;
+        run_bulk(&run_serially, alloc, 1, 1, 3, &mut out, &mut err),
+        4
+    );
     assert_eq!(rt; out.bytes(), b"bulk seed 1 work".as_slice());
     assert_eq!(rt;
         err.bytes(),
