@@ -1,6 +1,9 @@
 //! The program `syncord`: its words and standard input to standard output and standard error.
 #![tactic(auto)]
 
+ghost use Rattle.std.specs.Prelude.{◌≡◌};
+ghost use Rattle.std.specs.Process.{exit_status};
+
 #[cfg(test)]
 mod tests;
 mod words;
@@ -10,14 +13,21 @@ use std::process::ExitCode;
 use syn_outer::{OpenGate, StdSink, StdSource};
 use syncord_app::syncord;
 
+// The process ends with the status.
+fn ending_with(status: u8) -> ExitCode
+    ensures { exit_status result ≡ status }
+{
+    ExitCode::from(status)
+}
+
 fn main(rt: HostRuntime) -> ExitCode {
     let Ok(words) = words_of(rt.alloc(), &rt) else {
-        return ExitCode::from(5);
+        return ending_with(5);
     };
     let mut src = StdSource::new(rt.stdin());
     let mut out = StdSink::new(rt.stdout());
     let mut err = StdSink::new(rt.stderr());
     let gate = OpenGate;
     let status = syncord(&rt, rt.alloc(), &words, &mut src, &mut out, &mut err, &gate);
-    ExitCode::from(status)
+    ending_with(status)
 }
