@@ -37,7 +37,10 @@ fn the_programs_name_is_not_looked_at(rt: HostRuntime) -> Result<(), Fail> {
         (&[&long, b"line"], &["line"]),
         (&[b"syncord"], &[]),
         (&[b"syncord", b"\xff", &long], &["", ""]),
-        (&[b"", b"1", b"2", b"3", b"4", b"5", b"6"], &["1", "2", "3", "4", "5"]),
+        (
+            &[b"", b"1", b"2", b"3", b"4", b"5", b"6"],
+            &["1", "2", "3", "4", "5"],
+        ),
     ];
     for (given, wanted) in cases {
         let words = words_of(rt.alloc(), &Words(given))?;
