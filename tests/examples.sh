@@ -94,6 +94,25 @@ compare_forms() {
 
 for document in "$top"/examples/policies/*.asm; do compare_forms "$document"; done
 
+# The program's own name isn't looked at. A word that is no text, or is longer than any command's, is no command's.
+ends_with() {
+    local due="$1" name="$2" status=0
+    shift 2
+    (exec -a "$name" "$top/crates/syncord/out/syncord" "$@" <"$top/examples/fast-path.line" >"$got/out" 2>"$got/err") || status=$?
+    [ "$status" = "$due" ] && return
+    printf 'the name %q with the words %q: status %s\n' "$name" "$*" "$status" >&2
+    failed=1
+}
+long="$(printf 'x%.0s' {1..300})"
+ends_with 0 $'\xff' line
+ends_with 0 "$long" line
+ends_with 0 '' line
+ends_with 2 syncord $'\xff'
+ends_with 2 syncord line $'\xff'
+ends_with 2 syncord "$long"
+ends_with 2 syncord bulk 1 1 1 1 1
+ends_with 2 syncord bulk 1 1 1 1 1 1 1
+
 # what belongs to no example
 for part in "$top"/examples/*.{out,err,status} "$top"/examples/policies/*.{out,err,status}; do
     if [ -e "$part" ] && [ ! -e "${part%.*}" ]; then

@@ -4,8 +4,6 @@
 ghost use Rattle.std.specs.Prelude.{◌≡◌};
 ghost use Rattle.std.specs.Process.{exit_status};
 
-#[cfg(test)]
-mod tests;
 mod words;
 
 use crate::words::words_of;
