@@ -61,6 +61,18 @@ for document in "$top"/examples/*.trace; do
         compare "$document" replay
     fi
 done
+# as many attachments as a trace may have, each before two calls of four workers
+{
+    printf 'syncord-trace 1\nworker 0 0 0 0\nworker 1 0 0 0\nworker 0 0 0 0\nworker 1 0 0 0\n'
+    printf 'policy none - -\npolicy socket %s -\ncalls\n' "$(tr -d '\n' <"$top/examples/policies/socket.hex")"
+    awk 'BEGIN { for (n = 0; n < 4096; n++) {
+        print "0 attach " (n % 2 ? "none" : "socket")
+        print n % 4 " make 1 n" n % 100
+        print (n + 1) % 4 (n % 3 ? " find 1 n" : " drop 1 n") n % 100 } }'
+} >"$got/attachments.trace"
+"$top/bin/syncord" replay <"$got/attachments.trace" >"$got/attachments.out" \
+    && "$top/tests/judge-replay.sh" "$got/attachments.trace" "$got/attachments.out" \
+    && grep -qx 'attaches 4096' "$got/attachments.out" && echo 'a trace of 4,096 attachments: as it may be' || failed=1
 for document in "$top"/examples/*.bulk; do
     # its words stand in the document, which the command doesn't read
     read -r -a words <"$document"
