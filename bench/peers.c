@@ -2,7 +2,8 @@
  * libck-dev), each on a line of its own. Words:
  *   peers free                          nanoseconds of a round trip with nobody else there
  *   peers LOCK THREADS WORK MILLIS      gains a second by so many threads; WORK is the number of multiplications in a hold, and as
- *                                       many stand between two holds; LOCK is mutex, mcs or rwlock (readers alone)
+ *                                       many stand between two holds; LOCK is mutex, mcs, rwlock (readers alone) or directory
+ *                                       (readers alone, who each time look a name of 1,000 up in one sorted table)
  *   peers has-mcs                       status 0 where the MCS lock was built in
  * Build: cc -O2 -pthread -o peers peers.c */
 #define _GNU_SOURCE
@@ -48,11 +49,26 @@ static uint64_t work(uint64_t x) {
     return x;
 }
 
+#define NAMES 1000
+static struct { uint32_t name, number; } rows[NAMES];
+
+/* the number of a name, by binary search */
+static uint32_t look_up(uint32_t name) {
+    size_t low = 0, high = NAMES;
+    while (low < high) {
+        size_t middle = low + (high - low) / 2;
+        if (rows[middle].name < name) low = middle + 1;
+        else high = middle;
+    }
+    return low < NAMES && rows[low].name == name ? rows[low].number : 0;
+}
+
 struct thread { uint64_t gains, left; char pad[2 * LINE]; };
 
 static void *run(void *at) {
     struct thread *me = at;
     uint64_t x = 1, gains = 0;
+    uint32_t draw = (uint32_t)(uintptr_t)at;
 #if HAS_MCS
     _Alignas(LINE) struct ck_spinlock_mcs node;
 #endif
@@ -72,6 +88,12 @@ static void *run(void *at) {
             ck_spinlock_mcs_unlock(&mcs, &node);
             break;
 #endif
+        case 'd':
+            draw = draw * 1664525u + 1013904223u;
+            pthread_rwlock_rdlock(&rwlock.lock);
+            x += look_up(draw / 65536 % NAMES);
+            pthread_rwlock_unlock(&rwlock.lock);
+            break;
         default:
             pthread_rwlock_rdlock(&rwlock.lock);
             x = work(x);
@@ -140,7 +162,8 @@ int main(int n, char **w) {
     if (n == 2 && !strcmp(w[1], "free")) { alone(); return 0; }
     if (n == 2 && !strcmp(w[1], "has-mcs")) return !HAS_MCS;
     if (n != 5 || (!HAS_MCS && !strcmp(w[1], "mcs"))) return 2;
-    which = !strcmp(w[1], "mutex") ? 'u' : !strcmp(w[1], "mcs") ? 'c' : 'r';
+    which = !strcmp(w[1], "mutex") ? 'u' : !strcmp(w[1], "mcs") ? 'c' : !strcmp(w[1], "directory") ? 'd' : 'r';
+    for (uint32_t i = 0; i < NAMES; i++) { rows[i].name = i; rows[i].number = i + 1; }
     multiplications = strtoull(w[3], 0, 10);
     contended(atoi(w[2]), atoi(w[4]));
     return 0;
