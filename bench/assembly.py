@@ -5,6 +5,8 @@ import subprocess
 import sys
 import tempfile
 
+from chosen_names import chosen
+
 LETTERS = "abcdefghijklmnopqrstuvwxyz0123456789_"
 
 
@@ -24,14 +26,15 @@ def texts():
     draw.shuffle(mixed)
     yield "4 MiB, the same out of order", mixed
     yield "4 MiB, in order of numbers", [f"n{n}" for n in range(466000)]
-    every = [short(n) for n in range(2700000)]
-    yield "16 MiB, 2,700,000 names", every
+    every = [short(n) for n in range(2670000)]
+    yield "16 MiB, 2,670,000 names", every
     every = list(every)
     draw.shuffle(every)
     yield "16 MiB, the same out of order", every
     alike = ["x" * 27 + f"{n:05}" for n in range(100000)] + ["y" * 26 + f"{n:06}" for n in range(390000)]
     draw.shuffle(alike)
     yield "16 MiB, names that differ at their ends", alike
+    yield "16 MiB, names chosen to share a number", chosen(490000)
 
 
 def used():

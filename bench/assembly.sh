@@ -8,4 +8,4 @@ room="$(mktemp -d)"
 trap 'rm -rf "$room"' EXIT
 [ -x "$program" ] || "$top/bin/syncord" verify </dev/null >/dev/null 2>&1 || true
 rustc -O -o "$room/peer" "$top/bench/assembly.rs"
-python3 "$top/bench/assembly.py" "$program" "$room/peer"
+PYTHONDONTWRITEBYTECODE=1 python3 "$top/bench/assembly.py" "$program" "$room/peer"

@@ -39,7 +39,7 @@ def calls(kind, count):
         return [make(n) for n in range(half)] + [f"0 next 5 {name(draw.randrange(half))}" for _ in range(half)]
     if kind == "long-names":
         # sixteen MiB of names, which differ at their ends
-        return [f"0 make 5 {'x' * 240}{n * 40503 % count:06}" for n in range(count)]
+        return [f"0 make 5 {'x' * 238}{n * 40503 % count:06}" for n in range(count)]
     raise ValueError(kind)
 
 

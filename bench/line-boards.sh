@@ -6,7 +6,7 @@ set -eu
 top="$(cd "$(dirname "$(readlink -f "${BASH_SOURCE[0]}")")/.." && pwd)"
 room="$(mktemp -d)"
 trap 'rm -rf "$room"' EXIT
-crates=(shfl_line shfl_core shfl_laws shfl_rw_core shfl_park shfl_world syn_outer shfl_table shfl_solo bpf_isa bpf_verifier bpf_run policy_source
+crates=(shfl_line shfl_core shfl_laws shfl_rw_core shfl_park shfl_world syn_outer hist_log shfl_table shfl_solo bpf_isa bpf_verifier bpf_run policy_source
     shfl_policy doc_text policy_text shfl_sched)
 for crate in "${crates[@]}"; do
     mkdir -p "$room/crates/$crate"

@@ -3,23 +3,20 @@
 # mutex of a process with threads, and of one without, which has no atomic operations; and holds a second by 4 and 16 threads,
 # with holds of 0, 40 and 400 multiplications and as many between two. The forms with readers are taken by readers alone. The MCS
 # lock is a peer where libck-dev is installed. Not a part of the gate. Builds in a folder of its own, which it removes; the crates
-# are proved there first.
+# are proved there first. Words: FOLDER PART ..; it builds in that folder, unless it did before, and keeps it, and times only these
+# parts: free, 4 (threads), 16; with no part all three, and with the part none it only builds.
 set -eu
 top="$(cd "$(dirname "$(readlink -f "${BASH_SOURCE[0]}")")/.." && pwd)"
-room="$(mktemp -d)"
-trap 'rm -rf "$room"' EXIT
-crates=(shfl_line shfl_core shfl_laws syn_outer hist_log shfl_table)
-for crate in "${crates[@]}"; do
-    mkdir -p "$room/crates/$crate"
-    (cd "$top/crates/$crate" && tar cf - --exclude=./out --exclude=./must-fail .) | tar xf - -C "$room/crates/$crate"
-    grep "^$crate[: ]" "$top/crates.txt" >>"$room/crates.txt"
-done
-echo 'bench may_wait=1: shfl_line shfl_core shfl_table syn_outer' >>"$room/crates.txt"
-cp "$top/HANDLES" "$room/"
+if [ $# = 0 ]; then
+    room="$(mktemp -d)"
+    trap 'rm -rf "$room"' EXIT
+else
+    mkdir -p "$1"
+    room="$(cd "$1" && pwd)"
+    shift
+fi
+parts=" ${*:-free 4 16} "
 bench="$room/crates/bench"
-mkdir -p "$bench/src" "$bench/proofs"
-cp "$top/bench/locks.rt.txt" "$bench/src/main.rt"
-: >"$bench/proofs/Lib.antt"
 # This loop keeps the pass idle.
 keeps_idle() {
     mkdir -p "$bench/proofs/$1"
@@ -31,10 +28,25 @@ abbrev pub invariant-loop : goal.invariant-loop
 invariant-loop $2 = IsIdleAt l.board.id l.pass
 PROOF
 }
-for loop in often_by_steps often_by_attempt; do keeps_idle "$loop" l; done
-for loop in best_by_steps best_by_attempt hold_often; do keeps_idle "$loop" 'g l'; done
-(cd "$bench" && rt run >"$room/log" 2>&1) || { tail "$room/log" >&2; exit 1; }
-cc -O2 -pthread -o "$room/peers" "$top/bench/peers.c"
+build() {
+    rm -f "$room/crates.txt"
+    crates=(shfl_line shfl_core shfl_laws shfl_rw_core shfl_park syn_outer hist_log shfl_table)
+    for crate in "${crates[@]}"; do
+        mkdir -p "$room/crates/$crate"
+        (cd "$top/crates/$crate" && tar cf - --exclude=./out --exclude=./must-fail .) | tar xf - -C "$room/crates/$crate"
+        grep "^$crate[: ]" "$top/crates.txt" >>"$room/crates.txt"
+    done
+    echo 'bench may_wait=1: shfl_line shfl_core shfl_table syn_outer' >>"$room/crates.txt"
+    cp "$top/HANDLES" "$room/"
+    mkdir -p "$bench/src" "$bench/proofs"
+    cp "$top/bench/locks.rt.txt" "$bench/src/main.rt"
+    : >"$bench/proofs/Lib.antt"
+    for loop in often_by_steps often_by_attempt; do keeps_idle "$loop" l; done
+    for loop in best_by_steps best_by_attempt hold_often; do keeps_idle "$loop" 'g l'; done
+    (cd "$bench" && rt run >"$room/log" 2>&1) || { tail "$room/log" >&2; exit 1; }
+    cc -O2 -pthread -o "$room/peers" "$top/bench/peers.c"
+}
+[ -x "$room/peers" ] || build
 
 # The least and the greatest number of three, each a line.
 least() { sort -g | head -1; }
@@ -42,10 +54,6 @@ greatest() { sort -g | tail -1; }
 row() { printf '%-34s %14s %14s %8s\n' "$@"; }
 over() { awk -v a="$1" -v b="$2" 'BEGIN { printf "%.2f", a / b }'; }
 
-for turn in 1 2 3; do
-    "$bench/out/bench" >>"$room/ours"
-    "$room/peers" free >>"$room/theirs"
-done
 # A round trip of ours beside one of the peer's, in nanoseconds.
 free_row() {
     local ours peer
@@ -53,21 +61,27 @@ free_row() {
     peer="$(sed -n "s/^$3 \([0-9.]*\) ns\$/\1/p" "$room/theirs" | least)"
     row "$1" "$ours" "$peer" "$(over "$ours" "$peer")"
 }
-row 'free lock, ns' ours peer ratio
-free_row 'steps, mutex' steps 'pthread_mutex_t lock and unlock'
-free_row 'attempt, mutex' attempt 'pthread_mutex_t trylock and unlock'
-free_row 'steps, mutex of one thread' steps 'one thread, pthread_mutex_t lock and unlock'
-free_row 'attempt, mutex of one thread' attempt 'one thread, pthread_mutex_t trylock and unlock'
-echo
+free() {
+    rm -f "$room/ours" "$room/theirs"
+    for turn in 1 2 3; do
+        "$bench/out/bench" >>"$room/ours"
+        "$room/peers" free >>"$room/theirs"
+    done
+    row 'free lock, ns' ours peer ratio
+    free_row 'steps, mutex' steps 'pthread_mutex_t lock and unlock'
+    free_row 'attempt, mutex' attempt 'pthread_mutex_t trylock and unlock'
+    free_row 'steps, mutex of one thread' steps 'one thread, pthread_mutex_t lock and unlock'
+    free_row 'attempt, mutex of one thread' attempt 'one thread, pthread_mutex_t trylock and unlock'
+}
 
 # A run of over a minute counts as 0 holds.
 ours_of() { { timeout 60 "$bench/out/bench" "$@" || echo '0 holds a second'; } | sed -n 's/^\([0-9]*\) holds a second.*/\1/p'; }
-peer_of() { "$room/peers" "$@" 1000 | sed -n 's/^\([0-9]*\) gains a second$/\1/p'; }
-# Holds a second of ours beside the peer's. Runs of ours come first, of more and more holds, until one takes a third of a second.
+peer_of() { "$room/peers" "$@" 300 | sed -n 's/^\([0-9]*\) gains a second$/\1/p'; }
+# Holds a second of ours beside the peer's. Runs of ours come first, of more and more holds, until one takes a fifth of a second.
 crowd_row() {
     local form="$1" peer="$2" threads="$3" work="$4" holds=2000 ours theirs
-    while [ "$(ours_of "$form" "$threads" "$work" "$holds")" -gt $((3 * holds)) ] && [ "$holds" -lt 60000000 ]; do
-        holds=$((holds * 4))
+    while [ "$(ours_of "$form" "$threads" "$work" "$holds")" -gt $((5 * holds)) ] && [ "$holds" -lt 60000000 ]; do
+        holds=$((holds * 2))
     done
     for turn in 1 2 3; do
         ours_of "$form" "$threads" "$work" "$holds" >>"$room/ours.now"
@@ -78,13 +92,16 @@ crowd_row() {
     rm "$room/ours.now" "$room/theirs.now"
     row "$form, $peer, $threads threads, work $work" "$ours" "$theirs" "$(over "$ours" "$theirs")"
 }
-row 'held in turn, holds a second' ours peer ratio
-for threads in 4 16; do
+crowd() {
+    row 'held in turn, holds a second' ours peer ratio
     for work in 0 40 400; do
-        crowd_row spin mutex "$threads" "$work"
-        crowd_row park mutex "$threads" "$work"
-        if [ "$threads" = 4 ] && "$room/peers" has-mcs; then crowd_row spin mcs 4 "$work"; fi
-        crowd_row rw rwlock "$threads" "$work"
-        crowd_row rw-park rwlock "$threads" "$work"
+        crowd_row spin mutex "$1" "$work"
+        crowd_row park mutex "$1" "$work"
+        if [ "$1" = 4 ] && "$room/peers" has-mcs; then crowd_row spin mcs 4 "$work"; fi
+        crowd_row rw rwlock "$1" "$work"
+        crowd_row rw-park rwlock "$1" "$work"
     done
-done
+}
+case "$parts" in *' free '*) free; echo ;; esac
+case "$parts" in *' 4 '*) crowd 4; echo ;; esac
+case "$parts" in *' 16 '*) crowd 16 ;; esac

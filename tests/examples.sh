@@ -2,7 +2,8 @@
 # Compares what the built program does with each example: NAME.line with `line`, NAME.hex with `verify`, NAME.hex2 with
 # `verify 2`, NAME.trace with `replay`, NAME.bulk with `bulk` and the words in it. Beside NAME.SUFFIX stand what it writes
 # (.out), what it says on standard error (.err) and its status (.status); where one isn't there, nothing is written, nothing
-# is said, and the status is 0. Then the forms of each policy in examples/policies are compared (the C where a clang for BPF is
+# is said, and the status is 0. What `replay` writes of several workers is judged by tests/judge-replay.sh, as is the report that
+# stands beside such a trace, since two runs may order their calls differently. Then the forms of each policy in examples/policies are compared (the C where a clang for BPF is
 # there), and that each example is in the index and each output belongs to one.
 set -u
 top="$(cd "$(dirname "$(readlink -f "${BASH_SOURCE[0]}")")/.." && pwd)"
@@ -39,7 +40,27 @@ compare() {
 for document in "$top"/examples/*.line; do compare "$document" line; done
 for document in "$top"/examples/*.hex "$top"/examples/policies/*.hex; do compare "$document" verify; done
 for document in "$top"/examples/*.hex2; do compare "$document" verify 2; done
-for document in "$top"/examples/*.trace; do compare "$document" replay; done
+# A trace of several workers that isn't refused: its report, and the one that is stored.
+judge() {
+    local document="$1" name
+    name="$(basename "$document")"
+    if ! "$top/bin/syncord" replay <"$document" >"$got/out" 2>"$got/err" || [ -s "$got/err" ]; then
+        echo "examples/$name: another status, or something was said; to run it again: bin/syncord replay <examples/$name" >&2
+        failed=1
+    elif "$top/tests/judge-replay.sh" "$document" "$got/out" && "$top/tests/judge-replay.sh" "$document" "$document.out"; then
+        echo "examples/$name: as it may be"
+    else
+        failed=1
+    fi
+}
+
+for document in "$top"/examples/*.trace; do
+    if [ "$(grep -c '^worker ' "$document")" -gt 1 ] && [ ! -e "$document.status" ]; then
+        judge "$document"
+    else
+        compare "$document" replay
+    fi
+done
 for document in "$top"/examples/*.bulk; do
     # its words stand in the document, which the command doesn't read
     read -r -a words <"$document"

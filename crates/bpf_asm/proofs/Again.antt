@@ -6,7 +6,8 @@ use Rattle.bpf_isa.specs.declared.insn.Insn.{Insn}
 use Rattle.bpf_asm.specs.declared.names.Mark.{Mark}
 use Rattle.bpf_asm.specs.Assembly.{Line, declares, mark_of, name_at, slots_in}
 use Rattle.bpf_asm.specs.Forms.{or_else}
-use Rattle.bpf_asm.specs.Marks.{first_mark, is_elsewhere, is_again, first_again, is_at, unless_at, marked_in}
+use Rattle.bpf_asm.specs.Names.{is_elsewhere}
+use Rattle.bpf_asm.specs.Marks.{first_mark, is_again, first_again, is_at, unless_at, marked_in}
 use Rattle.bpf_asm.specs.Statements.{Statement}
 use Rattle.doc_text.specs.Words.{same}
 

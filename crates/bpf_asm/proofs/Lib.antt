@@ -1,4 +1,8 @@
 pub mod Behind
+pub mod NameOrder
+pub mod Declarations
+pub mod Settling
+pub mod Noting
 pub mod Surveying
 pub mod Again
 pub mod Resolving

@@ -4,6 +4,7 @@ pub mod Forms
 pub mod Views
 pub mod Statements
 pub mod Assembly
+pub mod Names
 pub mod Marks
 pub mod Disassembly
 pub mod Plain

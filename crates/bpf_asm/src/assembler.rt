@@ -7,17 +7,17 @@ ghost use Rattle.bpf_isa.specs.Flow.{is_half, jump_offset};
 ghost use Rattle.bpf_isa.specs.WellFormed.{IsWellFormed, IsOf};
 ghost use Rattle.bpf_asm.specs.Assembly.{Line, fits_short, fits_long, at_offset, half_at, into_half, first_offset, within, reaching, jump_to, name_at, code_at, slots_in, lines_in, assembly};
 ghost use Rattle.bpf_asm.specs.Marks.{is_again, is_at, unless_at, marked_in, IsSurvey};
+ghost use Rattle.bpf_asm.specs.Names.{AreInOrder};
 ghost use Rattle.bpf_asm.specs.Statements.{with_short};
 ghost use Rattle.bpf_asm.specs.Views.{line_of, slots_held, GivesSlots, Gives};
 
 use crate::error::AsmError;
-use crate::names::{Mark, mark_named};
+use crate::names::{Declared, Mark, mark_named};
 use crate::statement::{Statement, read_line};
 use crate::survey::survey;
 use bpf_isa::{Insn, MAX_SLOTS, Profile};
 use doc_text::piece_at;
 use std::alloc::{AllocError, Global};
-use std::collections::HashMap;
 
 /// A name that was declared before.
 const DECLARED_BEFORE: u8 = 5;
@@ -200,15 +200,16 @@ fn name(line: u32, again: Option<u32>) -> Result<Slots, u8>
 
 /// The slots of a line among all lines, or its lowest fault. No line before it declares a name again.
 fn line_slots(
-    marks: &HashMap<&[u8], Mark>,
+    names: &[Declared<'_>],
     halves: &[bool],
     again: Option<u32>,
     line: u32,
     slot: usize,
     read: Result<Statement<'_>, u8>,
 ) -> Result<Slots, u8>
-    requires { slot ≤ 512 }
-    ensures { (all : List Line) → IsSurvey marks.now halves.now again all
+    requires few { slot ≤ 512 }
+    requires order { AreInOrder names.now }
+    ensures { (all : List Line) → IsSurvey names.now halves.now again all
         → is_again (marked_in all) line (line_of read.entry) ≡ is_at line again
         → GivesSlots result (slots_in all line slot (line_of read.entry)) }
 {
@@ -220,7 +221,7 @@ fn line_slots(
             slot,
             Slots::Two(Insn::Wide { dst, low, high }, Insn::Half),
         ),
-        Ok(Statement::JumpTo(insn, found)) => jump(slot, insn, mark_named(marks, found)),
+        Ok(Statement::JumpTo(insn, found)) => jump(slot, insn, mark_named(names, found)),
         Err(fault) => Err(fault),
     }
 }
@@ -247,12 +248,12 @@ fn resolve(
     alloc: Global,
     profile: Profile,
     text: &[u8],
-    marks: &HashMap<&[u8], Mark>,
+    names: &[Declared<'_>],
     halves: &[bool],
     again: Option<u32>,
 ) -> Result<Vec<Insn>, AsmError>
     requires short { length text.now < 2 ^ 31 }
-    requires survey { IsSurvey marks.now halves.now again (lines_in profile text.now) }
+    requires survey { IsSurvey names.now halves.now again (lines_in profile text.now) }
     ensures { Gives (λ v. v.items) result (assembly profile text.now) }
 {
     let mut insns = Vec::new(alloc);
@@ -261,7 +262,7 @@ fn resolve(
     while !rest.is_empty() {
         let (piece, behind) = piece_at(rest);
         let read = read_line(profile, piece);
-        match line_slots(marks, halves, again, line, insns.len(), read) {
+        match line_slots(names, halves, again, line, insns.len(), read) {
             Ok(slots) => push_slots(&mut insns, slots)?,
             Err(what) => return Err(AsmError::Format { line, what }),
         }
@@ -282,8 +283,8 @@ fn assemble_exactly(alloc: Global, profile: Profile, text: &[u8]) -> Result<Vec<
     requires { length text.now < 2 ^ 31 }
     ensures { Gives (λ v. v.items) result (assembly profile text.now) }
 {
-    let (marks, halves, again) = survey(alloc, profile, text)?;
-    resolve(alloc, profile, text, &marks, &halves, again)
+    let (names, halves, again) = survey(alloc, profile, text)?;
+    resolve(alloc, profile, text, &names, &halves, again)
 }
 
 /// The instructions of a text, one a line, or the first bad line and its lowest fault. They are those that decoding can give.

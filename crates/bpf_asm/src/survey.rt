@@ -1,47 +1,36 @@
 //! The first walk over a text: where its names stand, which of its slots are second halves, and the first name that is declared
 //! again.
-ghost use Rattle.std.specs.Prelude.{◌≡◌, ◌+◌, ◌*◌, ◌^◌, ◌<◌, ◌≤◌, ◌++◌, ℕ, List, length, map, Option, Some, None, IfOk, OnOk, Result, if◌then◌else◌};
+ghost use Rattle.std.specs.Prelude.{◌≡◌, ◌+◌, ◌^◌, ◌<◌, ◌≤◌, ◌++◌, length, map, IfOk, OnOk};
 ghost use Rattle.bpf_isa.specs.Flow.{is_half};
-ghost use Rattle.bpf_asm.specs.Assembly.{slots_of, layout, declares, mark_of, lines_in};
-ghost use Rattle.bpf_asm.specs.Forms.{or_else};
-ghost use Rattle.bpf_asm.specs.Marks.{mark_in, first_mark, is_again, IsSurvey};
+ghost use Rattle.bpf_asm.specs.Assembly.{slots_of, lines_in};
+ghost use Rattle.bpf_asm.specs.Marks.{declared_on, IsCollected, IsSurvey};
 ghost use Rattle.bpf_asm.specs.Views.{line_of};
 
-use crate::names::{Mark, note_name};
+use crate::names::{Declared, key_of, settle};
 use crate::statement::{Statement, read_line};
 use bpf_isa::Profile;
 use doc_text::piece_at;
 use std::alloc::{AllocError, Global};
-use std::collections::HashMap;
 
-/// Notes the name that a line declares, and tells whether another line declared it.
-fn note_mark<'a>(
-    marks: &mut HashMap<&'a [u8], Mark>,
-    mark: Mark,
+/// Notes the name that a line declares.
+fn note_name<'a>(
+    names: &mut Vec<Declared<'a>>,
+    line: u32,
+    slot: u32,
     read: Result<Statement<'a>, u8>,
-) -> Result<bool, AllocError>
-    ensures noted { OnOk result ((name : List ℕ) → mark_in marks.new name
-        ≡ first_mark (mark_in marks.old name) (declares name (line_of read.entry)) mark) }
-    ensures again { IfOk result (λ again. again
-        ≡ is_again (λ name. mark_in marks.new name) mark.line (line_of read.entry)) }
+) -> Result<(), AllocError>
+    ensures { OnOk result (names.new.items ≡ names.old.items ++ declared_on line slot read.entry) }
 {
-    match read {
-        Ok(Statement::Name(name)) => {
-            let found = note_name(marks, name, mark)?;
-            Ok(found.line != mark.line)
-        }
-        _ => Ok(false),
+    if let Ok(Statement::Name(name)) = read {
+        let key = key_of(name);
+        names.push(Declared {
+            key,
+            name,
+            line,
+            slot,
+        })?;
     }
-}
-
-/// The line noted before, or this one where it counts.
-fn first_line(before: Option<u32>, counts: bool, line: u32) -> Option<u32>
-    ensures { result ≡ or_else before (if counts then Some line else None) }
-{
-    match before {
-        Some(before) => Some(before),
-        None => { if counts { Some(line) } else { None } }
-    }
+    Ok(())
 }
 
 /// Notes which slots of a line are second halves.
@@ -69,11 +58,36 @@ fn note_slots(halves: &mut Vec<bool>, read: Result<Statement<'_>, u8>) -> Result
     }
 }
 
-/// How many names the text may well declare. No proof rests on it: the table grows where it must.
+/// How many names the text may well declare. No proof rests on it: the list grows where it must.
 fn names_expected(text: &[u8]) -> usize {
     let colons = text.iter().filter(|byte| **byte == b':').count();
     // where a text has so many names, few of them are shorter than three bytes
     colons.min(text.len() / 5)
+}
+
+/// The declarations of a text, one line after the other, and which of its slots are second halves.
+fn collect<'a>(
+    alloc: Global,
+    profile: Profile,
+    text: &'a [u8],
+) -> Result<(Vec<Declared<'a>>, Vec<bool>), AllocError>
+    requires { length text.now < 2 ^ 31 }
+    ensures { IfOk result (λ found. IsCollected found.0.items found.1.items
+        (lines_in profile text.now)) }
+{
+    let mut names = Vec::with_capacity(alloc, names_expected(text))?;
+    let mut halves = Vec::new(alloc);
+    let mut rest = text;
+    let mut line: u32 = 1;
+    while !rest.is_empty() {
+        let (piece, behind) = piece_at(rest);
+        let read = read_line(profile, piece);
+        note_name(&mut names, line, halves.len() as u32, read)?;
+        note_slots(&mut halves, read)?;
+        line += 1;
+        rest = behind;
+    }
+    Ok((names, halves))
 }
 
 /// Where the names of a text stand, which of its slots are second halves, and the first line that declares a name again.
@@ -81,28 +95,12 @@ pub fn survey<'a>(
     alloc: Global,
     profile: Profile,
     text: &'a [u8],
-) -> Result<(HashMap<&'a [u8], Mark>, Vec<bool>, Option<u32>), AllocError>
+) -> Result<(Vec<Declared<'a>>, Vec<bool>, Option<u32>), AllocError>
     requires { length text.now < 2 ^ 31 }
-    ensures { IfOk result (λ found. IsSurvey found.0 found.1.items found.2
+    ensures { IfOk result (λ found. IsSurvey found.0.items found.1.items found.2
         (lines_in profile text.now)) }
 {
-    let mut marks = HashMap::with_capacity(alloc, names_expected(text))?;
-    let mut halves = Vec::new(alloc);
-    let mut again = None;
-    let mut rest = text;
-    let mut line: u32 = 1;
-    while !rest.is_empty() {
-        let (piece, behind) = piece_at(rest);
-        let read = read_line(profile, piece);
-        let mark = Mark {
-            line,
-            slot: halves.len() as u32,
-        };
-        let counts = note_mark(&mut marks, mark, read)?;
-        again = first_line(again, counts, line);
-        note_slots(&mut halves, read)?;
-        line += 1;
-        rest = behind;
-    }
-    Ok((marks, halves, again))
+    let (mut names, halves) = collect(alloc, profile, text)?;
+    let again = settle(&mut names);
+    Ok((names, halves, again))
 }

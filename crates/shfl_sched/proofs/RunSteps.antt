@@ -1,9 +1,9 @@
 -- One event more of a run: the lock after it, and what its lock still has.
 use Rattle.std.proofs.Common.{◌≡◌, ℕ, zero, suc, ◌+◌, ◌<◌, Bool, true, false, cond, List, [], ◌∷◌, ◌++◌, length, get_or, take, length-set, length-append, refl, sym, ap, ◌∙◌, arith}
-use Rattle.std.proofs.lemmas.List.{take_more}
-use Rattle.shfl_line.specs.Line.{Line}
+use Rattle.std.proofs.lemmas.List.{take_more, length-replicate}
+use Rattle.shfl_line.specs.Line.{Line, empty}
 use Rattle.shfl_core.specs.declared.phase.Rules.{Rules}
-use Rattle.shfl_core.specs.Runner.{Lock, moved}
+use Rattle.shfl_core.specs.Runner.{Lock, moved, opened}
 use Rattle.shfl_core.specs.ShownLine.{each_below, shown_line}
 use Rattle.shfl_core.specs.Worlds.{World, Move, Acquire, Release, Step, admitted, made, after_move, opening, run}
 use Rattle.shfl_core.proofs.Opening.{idle-from-long}
@@ -72,6 +72,13 @@ shown-marks w = each-below-long _ (length w.passes)
 
 pub marks_of : (a : Line) (w : World) → a ≡ shown_line w → length a.mark ≡ length w.passes
 marks_of a w e = ap (λ (x : Line). length x.mark) e ∙ shown-marks w
+
+-- a lock at its opening has a pass for each attribute, and the empty state a batch number for each pass
+pub opening_passes : (s : ScheduleModel) (a : Lock) → a ≡ opened (rules_of s) s.passes → length a.world.passes ≡ length s.passes
+opening_passes s a e = ap (λ (x : Lock). length x.world.passes) e ∙ idle-from-long 0 s.passes
+
+pub opening_marks : (a : Line) (n : ℕ) → a ≡ empty n → length a.mark ≡ n
+opening_marks a n e = ap (λ (x : Line). length x.mark) e ∙ length-replicate n 0
 
 module _ (s : ScheduleModel) (i : ℕ) (a : Lock) (is : a ≡ lock_after s i) where
   pub passes_of : length a.world.passes ≡ length s.passes

@@ -7,6 +7,7 @@ mod events;
 mod front;
 mod laws;
 mod passes;
+mod queue_text;
 mod read;
 mod report;
 mod report_parts;

@@ -4,8 +4,9 @@ ghost use Rattle.shfl_core.specs.ShownLine.{shown_line};
 ghost use Rattle.shfl_sched.specs.ReportParts.{parked_text};
 ghost use Rattle.shfl_sched.specs.Report.{version_text, sizes_text, heading_text, event_text, state_text, asleep_text, row, totals_text};
 
+use crate::queue_text::QueueText;
 use crate::report_parts::{
-    act_name, answer_name, form_name, push_hand, push_hold, push_number, push_queue, push_role,
+    act_name, answer_name, form_name, push_hand, push_hold, push_number, push_role,
 };
 use crate::schedule::{Event, Schedule};
 use bpf_isa::Profile;
@@ -66,7 +67,12 @@ fn push_event(
 }
 
 #[tactic(auto, unfolding(crate::specs::Report::state_text))]
-fn push_state(out: &mut Vec<u8>, word: u64, state: &LineState) -> Result<(), AllocError>
+fn push_state(
+    out: &mut Vec<u8>,
+    word: u64,
+    state: &LineState,
+    queue: &mut QueueText,
+) -> Result<(), AllocError>
     ensures { OnOk result (out.new.items ≡ out.old.items ++ state_text word state.now) }
 {
     out.extend_from_slice(b" word ")?;
@@ -74,7 +80,7 @@ fn push_state(out: &mut Vec<u8>, word: u64, state: &LineState) -> Result<(), All
     out.extend_from_slice(b" hold ")?;
     push_hold(out, state.hold())?;
     out.extend_from_slice(b" line ")?;
-    push_queue(out, state.mark(), state.line())?;
+    queue.push(out, state)?;
     out.extend_from_slice(b" hand ")?;
     push_hand(out, state.hand())?;
     out.extend_from_slice(b" role ")?;
@@ -123,7 +129,7 @@ fn push_asleep<B: Board>(
     }
 }
 
-/// An event with its number, whether it was admitted, and what the lock then is and shows.
+/// An event with its number, whether it was admitted, and what the lock then is and shows. The state is what it shows.
 #[tactic(auto, unfolding(crate::specs::Report::row))]
 pub fn push_row<B: Board>(
     out: &mut Vec<u8>,
@@ -132,18 +138,17 @@ pub fn push_row<B: Board>(
     event: Event,
     admitted: bool,
     board: &mut B,
-    state: &mut LineState,
+    state: &LineState,
+    queue: &mut QueueText,
 ) -> Result<(), AllocError>
     requires few { length (B.meaning board.old).world.passes ≤ 64 }
-    requires room { length state.old.mark ≡ length (B.meaning board.old).world.passes }
+    requires shown { state.now ≡ shown_line (B.meaning board.old).world }
     ensures text { OnOk result (out.new.items ≡ out.old.items
         ++ row form number event admitted (B.meaning board.old).world) }
     ensures unchanged { B.meaning board.new ≡ B.meaning board.old }
-    ensures shown { state.new ≡ shown_line (B.meaning board.old).world }
 {
-    board.show(state);
     push_event(out, number, event, admitted)?;
-    push_state(out, board.word(), state)?;
+    push_state(out, board.word(), state, queue)?;
     push_asleep(out, form, board, state.mark().len() as u32)?;
     out.extend_from_slice(b"\n")
 }

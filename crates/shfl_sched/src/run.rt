@@ -2,12 +2,14 @@
 ghost use Rattle.std.specs.Prelude.{◌≡◌, ℕ, ◌<◌, length, IfOk, OnOk, OnErr};
 ghost use Rattle.shfl_core.specs.Runner as runner;
 ghost use Rattle.shfl_core.specs.Runner.{opened};
+ghost use Rattle.shfl_core.specs.ShownLine.{shown_line};
 ghost use Rattle.shfl_core.specs.Worlds.{admitted};
 ghost use Rattle.shfl_sched.specs.Choices.{answers};
 ghost use Rattle.shfl_sched.specs.Schedules.{IsWithin, IsEventOf};
 ghost use Rattle.shfl_sched.specs.Run.{rules_of, setup_of, choice_at, move_in, lock_after};
 ghost use Rattle.shfl_sched.specs.Report.{line_report};
 
+use crate::queue_text::QueueText;
 use crate::report::{push_heading, push_row, push_totals};
 use crate::schedule::{Act, Event, Rule, Schedule};
 use shfl_core::{Ask, Board};
@@ -61,6 +63,31 @@ fn make<B: Board>(schedule: &Schedule, board: &mut B, event: Event) -> bool
     }
 }
 
+/// Makes an event's move, and shows the lock again where it moved.
+fn make_and_show<B: Board>(
+    schedule: &Schedule,
+    board: &mut B,
+    event: Event,
+    state: &mut LineState,
+) -> bool
+    requires event { IsEventOf schedule.now.form (length schedule.now.passes) event }
+    requires passes { length (B.meaning board.old).world.passes ≡ length schedule.now.passes }
+    requires rules { (B.meaning board.old).rules ≡ rules_of schedule.now }
+    requires shown { state.old ≡ shown_line (B.meaning board.old).world }
+    ensures answer { let w = (B.meaning board.old).world in
+        result ≡ admitted w (move_in (setup_of schedule.now) w event) }
+    ensures after { let w = (B.meaning board.old).world in B.meaning board.new
+        ≡ runner.moved (B.meaning board.old) (move_in (setup_of schedule.now) w event) }
+    ensures passes { length (B.meaning board.new).world.passes ≡ length schedule.now.passes }
+    ensures shown { state.new ≡ shown_line (B.meaning board.new).world }
+{
+    let admitted = make(schedule, board, event);
+    if admitted {
+        board.show(state);
+    }
+    admitted
+}
+
 /// Runs the events on a lock at its opening, and gives the bytes of the line report. It waits for nobody.
 pub fn run_schedule<B: Board>(
     alloc: Global,
@@ -78,10 +105,12 @@ pub fn run_schedule<B: Board>(
     let mut text = Vec::new(alloc);
     push_heading(&mut text, schedule)?;
     let mut state = LineState::open(alloc, schedule.passes.len() as u32)?;
+    board.show(&mut state);
+    let mut queue = QueueText::nothing(alloc);
     let mut yes: u32 = 0;
     let mut no: u32 = 0;
     for event in &schedule.events {
-        let admitted = make(schedule, board, *event);
+        let admitted = make_and_show(schedule, board, *event, &mut state);
         push_row(
             &mut text,
             schedule.form,
@@ -89,7 +118,8 @@ pub fn run_schedule<B: Board>(
             *event,
             admitted,
             board,
-            &mut state,
+            &state,
+            &mut queue,
         )?;
         if admitted {
             yes += 1;

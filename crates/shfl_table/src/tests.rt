@@ -1,4 +1,8 @@
-//! Worked runs of a lock without values on one thread, and threads that take a lock in turn.
+//! Worked and random runs of a lock without values on one thread, and threads that take a lock in turn.
+mod alike;
+mod boards;
+mod crowd;
+mod draws;
 mod driven;
 mod threads;
 

@@ -3,3 +3,9 @@ pub mod Turns
 pub mod Counting
 pub mod Joining
 pub mod Loading
+pub mod Merging
+pub mod Starting
+pub mod Ending
+pub mod Publishing
+pub mod Opening
+pub mod Runnable

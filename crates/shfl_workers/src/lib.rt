@@ -5,6 +5,10 @@ mod activity;
 mod attaching;
 mod chooser;
 mod policies;
+mod run;
+#[cfg(test)]
+mod run_tests;
+mod rw_dir;
 mod shared_dir;
 mod shares;
 #[cfg(test)]
@@ -15,6 +19,7 @@ pub use activity::{Activity, join, run_all, take_apart};
 pub use attaching::{Attaching, copies_of};
 pub use chooser::UsingChooser;
 pub use policies::load_all;
+pub use run::{Outcome, run_trace};
 pub use shared_dir::SharedDir;
 pub use shares::shares_of;
 pub use worker::work;

@@ -1,37 +1,33 @@
 //! The program `syncord`: its words and standard input to standard output and standard error.
 #![tactic(auto)]
 
-use std::alloc::Global;
-use std::env;
-use std::io::{Error, ErrorKind};
+ghost use Rattle.std.specs.Prelude.{◌≡◌};
+ghost use Rattle.std.specs.Process.{exit_status};
+
+#[cfg(test)]
+mod tests;
+mod words;
+
+use crate::words::words_of;
 use std::process::ExitCode;
 use syn_outer::{OpenGate, StdSink, StdSource};
 use syncord_app::syncord;
 
-/// The words behind the program's name, or none where memory is wanting.
-fn words_of(alloc: Global, args: Result<env::Args, Error>) -> Option<Vec<String>> {
-    let mut words = Vec::new(alloc);
-    match args {
-        Ok(args) => {
-            for word in args.skip(1) {
-                words.push(word).ok()?;
-            }
-            Some(words)
-        }
-        // A word that is no text is no command's, and neither is an empty list.
-        Err(error) if error.kind() == ErrorKind::InvalidData => Some(words),
-        Err(_) => None,
-    }
+// The process ends with the status.
+fn ending_with(status: u8) -> ExitCode
+    ensures { exit_status result ≡ status }
+{
+    ExitCode::from(status)
 }
 
 fn main(rt: HostRuntime) -> ExitCode {
-    let Some(words) = words_of(rt.alloc(), env::args(&rt)) else {
-        return ExitCode::from(5);
+    let Ok(words) = words_of(rt.alloc(), &rt) else {
+        return ending_with(5);
     };
     let mut src = StdSource::new(rt.stdin());
     let mut out = StdSink::new(rt.stdout());
     let mut err = StdSink::new(rt.stderr());
     let gate = OpenGate;
     let status = syncord(&rt, rt.alloc(), &words, &mut src, &mut out, &mut err, &gate);
-    ExitCode::from(status)
+    ending_with(status)
 }

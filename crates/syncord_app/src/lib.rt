@@ -4,6 +4,7 @@
 mod commands;
 #[cfg(test)]
 mod tests;
+mod threads;
 mod top;
 
 pub use bpf_isa::Profile;
@@ -11,4 +12,5 @@ pub use syncord_asm::{run_asm, run_disasm};
 pub use syncord_line::run_line;
 pub use syncord_replay::{run_bulk, run_replay};
 pub use syncord_verify::run_verify;
+pub use threads::run_by_threads;
 pub use top::syncord;

@@ -1,5 +1,5 @@
 //! The top call: words and bytes in, a status, a report and an error line out.
-ghost use Rattle.std.specs.Prelude.{◌≡◌, ◌≢◌, [], map, string_bytes, codes, Some, None};
+ghost use Rattle.std.specs.Prelude.{◌≡◌, ◌≢◌, [], map, string_bytes, codes, Some, None, IfOk};
 ghost use Rattle.syncord_app.specs.declared.commands.Command.TheVariants.{Line, Verify, Replay, Bulk, Assemble, Disassemble};
 ghost use Rattle.bpf_isa.specs.declared.insn.Profile.{Profile as ProfileValue};
 ghost use Rattle.syncord_endings.specs.Traffic.{traffic, Takes, Told};
@@ -9,10 +9,12 @@ ghost use Rattle.syncord_asm.specs.Assemblies.{Assembles};
 ghost use Rattle.syncord_asm.specs.Listings.{Disassembles};
 ghost use Rattle.syncord_replay.specs.declared.words.BulkWords.{BulkWords as Numbers};
 ghost use Rattle.syncord_replay.specs.Replays as replay;
+ghost use Rattle.syncord_replay.specs.Runnable.{IsRunnable, IsRunOf};
 ghost use Rattle.syncord_app.specs.Outcomes.{Performs, SumsUp};
 ghost use Rattle.syncord_app.specs.Commands.{command_in};
 
 use crate::commands::Command;
+use crate::threads::run_by_threads;
 use std::alloc::Global;
 use std::sync::Wait;
 use std::thread::Threads;
@@ -20,18 +22,20 @@ use syn_outer::{Gate, Sink, Source};
 use syncord_asm::{run_asm, run_disasm};
 use syncord_endings::tell;
 use syncord_line::run_line;
-use syncord_replay::{BulkWords, run_bulk, run_replay};
+use syncord_replay::{BulkWords, Run, run_bulk, run_replay};
 use syncord_verify::run_verify;
+use trace_text::{NoMemory, Trace};
 
-/// Does what the words behind the program's name say, and answers the status.
+/// Does what the words behind the program's name say, and answers the status. `replay` and `bulk` run a thread for each worker of
+/// their trace and wait for them all: what is said of them here is said if the call returns. `gate` is where a test can hold a worker.
 pub fn syncord<Rt: Threads + Wait + Sync, R: Source, W: Sink, E: Sink, G: Gate + Sync>(
-    _rt: &Rt,
+    rt: &Rt,
     alloc: Global,
     words: &[String],
     src: &mut R,
     out: &mut W,
     err: &mut E,
-    _gate: &G,
+    gate: &G,
 ) -> u8
     // Other words than a command's are refused, and nothing is read or written.
     ensures refused { command_in (map string_bytes words.now) ≡ None → result ≡ 2 }
@@ -59,14 +63,14 @@ pub fn syncord<Rt: Threads + Wait + Sync, R: Source, W: Sink, E: Sink, G: Gate +
         (traffic (W.held out.old) (W.held out.new) (W.faults out.old) (W.faults out.new))
         (traffic (E.held err.old) (E.held err.new) (E.faults err.old) (E.faults err.new)) result }
 
-    // `replay` reports a trace, or ends otherwise with its cause.
+    // `replay` runs a trace by threads and reports a history of it, or ends otherwise with its cause.
     ensures replay { command_in (map string_bytes words.now) ≡ Some Replay →
         Performs replay.Reports replay.Refuses
         (traffic (R.left src.old) (R.left src.new) (R.faults src.old) (R.faults src.new))
         (traffic (W.held out.old) (W.held out.new) (W.faults out.old) (W.faults out.new))
         (traffic (E.held err.old) (E.held err.new) (E.faults err.old) (E.faults err.new)) result }
 
-    // `bulk` sums up the trace that its numbers make, and reads nothing.
+    // `bulk` runs the trace that its numbers make and sums it up, and reads nothing.
     ensures bulk { (numbers : Numbers) →
         command_in (map string_bytes words.now) ≡ Some (Bulk numbers) → SumsUp numbers
         (traffic (W.held out.old) (W.held out.new) (W.faults out.old) (W.faults out.new))
@@ -88,17 +92,21 @@ pub fn syncord<Rt: Threads + Wait + Sync, R: Source, W: Sink, E: Sink, G: Gate +
         (traffic (W.held out.old) (W.held out.new) (W.faults out.old) (W.faults out.new))
         (traffic (E.held err.old) (E.held err.new) (E.faults err.old) (E.faults err.new)) result }
 {
+    let runner = |alloc: Global, trace: &Trace| -> Result<Run, NoMemory>
+        requires { IsRunnable trace.now }
+        ensures { IfOk result (IsRunOf trace.now) }
+    { run_by_threads(rt, alloc, trace, gate) };
     match Command::of(words) {
         Some(Command::Line) => run_line(alloc, src, out, err),
         Some(Command::Verify { profile }) => run_verify(alloc, profile, src, out, err),
-        Some(Command::Replay) => run_replay(alloc, src, out, err),
+        Some(Command::Replay) => run_replay(&runner, alloc, src, out, err),
         Some(Command::Bulk(numbers)) => {
             let BulkWords {
                 seed,
                 workers,
                 calls,
             } = numbers;
-            run_bulk(alloc, seed, workers, calls, out, err)
+            run_bulk(&runner, alloc, seed, workers, calls, out, err)
         }
         Some(Command::Assemble { profile }) => run_asm(alloc, profile, src, out, err),
         Some(Command::Disassemble { profile }) => run_disasm(alloc, profile, src, out, err),

@@ -8,5 +8,5 @@ mod tests;
 mod work;
 
 pub use ending::{Ending, Refusal};
-pub use telling::tell;
+pub use telling::{tell, tell_ending};
 pub use work::{MOST_BYTES, Work, perform};

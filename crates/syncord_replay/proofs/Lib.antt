@@ -1,3 +1,7 @@
 pub mod OneMore
 pub mod Within
-pub mod Unread
+pub mod SocketAccepted
+pub mod GeneratedRuns
+pub mod Runs
+pub mod Mapped
+pub mod Decided

@@ -1,3 +1,4 @@
+pub mod Runnable
 pub mod Replays
 pub mod Serial
 pub mod Sums

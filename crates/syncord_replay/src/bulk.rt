@@ -1,56 +1,73 @@
-//! The trace that a seed makes, done in order and summed up.
+//! The trace that a seed makes, run and summed up.
 ghost use Rattle.std.specs.Prelude.{◌≡◌, ◌<◌, ◌≤◌, ◌⊎◌, IfOk};
 ghost use Rattle.syncord_endings.specs.Traffic.{traffic, Failed};
-ghost use Rattle.syncord_replay.specs.Sums.{Summarizes, Concludes};
+ghost use Rattle.syncord_replay.specs.Runnable.{TakesEach, LeavesRuns};
+ghost use Rattle.syncord_replay.specs.Sums.{Summarizes, Writes, Concludes};
 
-use crate::history::history_of;
-use crate::nothing::Nothing;
+use crate::outcome::Run;
 use std::alloc::Global;
-use syn_outer::Sink;
-use syncord_endings::{Refusal, Work, perform};
-use trace_text::{NoMemory, generate, summary};
+use syn_outer::{Sink, write_all};
+use syncord_endings::{Ending, Refusal, tell_ending};
+use trace_text::{NoMemory, Trace, generate, summary};
 
-/// The summary of a history of the trace that the seed makes.
-fn summary_of(alloc: Global, seed: u64, workers: u32, calls: u32) -> Result<Vec<u8>, NoMemory>
+/// The summary of what a run of the trace that the seed makes leaves.
+fn summary_of<F: Fn(Global, &Trace) -> Result<Run, NoMemory>>(
+    runner: &F,
+    alloc: Global,
+    seed: u64,
+    workers: u32,
+    calls: u32,
+) -> Result<Vec<u8>, NoMemory>
+    requires takes { TakesEach (F.pre runner.now) (λ t. t.now) }
+    requires leaves { LeavesRuns (F.post runner.now) (λ t. t.now) }
     requires some { 0 < workers }
     requires few_workers { workers ≤ 16 }
     requires few_calls { calls ≤ 65000 }
     ensures { IfOk result (λ text. Summarizes seed workers calls text.items) }
 {
     let trace = generate(alloc, seed, workers, calls)?;
-    let (history, dir) = history_of(alloc, &trace)?;
-    let text = summary(alloc, seed, &trace, history.as_slice(), &dir)?;
+    let outcome = runner(alloc, &trace)?;
+    let text = summary(
+        alloc,
+        seed,
+        &trace,
+        outcome.history.as_slice(),
+        &outcome.dir,
+    )?;
     Ok(text)
 }
 
-/// Sums up what a seed makes.
-#[derive(Drop)]
-struct Bulk {
+/// Sums up, and writes the summary.
+fn ending<F: Fn(Global, &Trace) -> Result<Run, NoMemory>, W: Sink>(
+    runner: &F,
+    alloc: Global,
     seed: u64,
     workers: u32,
     calls: u32,
-    ghost some: { 0 < workers },
-    ghost few_workers: { workers ≤ 16 },
-    ghost few_calls: { calls ≤ 65000 },
-}
-
-impl Work for Bulk {
-    ghost use Rattle.syncord_replay.specs.Sums.{Summarizes};
-
-    ghost reports = { λ bulk _ text. Summarizes bulk.seed bulk.workers bulk.calls text };
-
-    ghost refuses = { λ _ _ _. ⊥ };
-
-    fn report(&self, alloc: Global, _bytes: &[u8]) -> Result<Vec<u8>, Refusal> {
-        match summary_of(alloc, self.seed, self.workers, self.calls) {
-            Ok(text) => Ok(text),
-            Err(NoMemory) => Err(Refusal::NoMemory),
-        }
+    out: &mut W,
+) -> Ending
+    requires takes { TakesEach (F.pre runner.now) (λ t. t.now) }
+    requires leaves { LeavesRuns (F.post runner.now) (λ t. t.now) }
+    requires some { 0 < workers }
+    requires few_workers { workers ≤ 16 }
+    requires few_calls { calls ≤ 65000 }
+    ensures { Writes (Summarizes seed workers calls)
+        (traffic (W.held out.old) (W.held out.new) (W.faults out.old) (W.faults out.new)) result }
+{
+    let text = match summary_of(runner, alloc, seed, workers, calls) {
+        Ok(text) => text,
+        Err(NoMemory) => return Ending::NoReport(Refusal::NoMemory),
+    };
+    match write_all(out, &text) {
+        Ok(()) => Ending::Done,
+        Err(fault) => Ending::WriteFault(fault.written),
     }
 }
 
-/// Does all of the command `bulk` that follows its words, and answers the status: 0, 4 or 5. It reads nothing.
-pub fn run_bulk<W: Sink, E: Sink>(
+/// Does all of the command `bulk` that follows its words, and answers the status: 0, 4 or 5. It reads nothing. The trace is run by
+/// `runner`.
+pub fn run_bulk<F: Fn(Global, &Trace) -> Result<Run, NoMemory>, W: Sink, E: Sink>(
+    runner: &F,
     alloc: Global,
     seed: u64,
     workers: u32,
@@ -58,6 +75,8 @@ pub fn run_bulk<W: Sink, E: Sink>(
     out: &mut W,
     err: &mut E,
 ) -> u8
+    requires takes { TakesEach (F.pre runner.now) (λ t. t.now) }
+    requires leaves { LeavesRuns (F.post runner.now) (λ t. t.now) }
     requires some { 0 < workers }
     requires few_workers { workers ≤ 16 }
     requires few_calls { calls ≤ 65000 }
@@ -67,10 +86,7 @@ pub fn run_bulk<W: Sink, E: Sink>(
     ensures complete { ¬ (Failed (traffic (W.held out.old) (W.held out.new)
         (W.faults out.old) (W.faults out.new))) → (result ≡ 0) ⊎ (result ≡ 5) }
 {
-    let bulk = Bulk {
-        seed,
-        workers,
-        calls,
-    };
-    perform(&bulk, alloc, &mut Nothing, out, err)
+    let ending = ending(runner, alloc, seed, workers, calls, out);
+    tell_ending(err, ending);
+    ending.status()
 }

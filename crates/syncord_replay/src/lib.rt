@@ -1,16 +1,17 @@
-//! The commands `replay` and `bulk`: the calls of a trace on one directory, and what came of them.
+//! The commands `replay` and `bulk`: a run of a trace, and what came of it.
 #![tactic(auto)]
 
-mod attachments;
 mod bulk;
-mod history;
-mod nothing;
+mod outcome;
 mod replay;
 mod run;
+#[cfg(test)]
+mod serial;
 #[cfg(test)]
 mod tests;
 mod words;
 
 pub use bulk::run_bulk;
+pub use outcome::Run;
 pub use run::run_replay;
 pub use words::{BulkWords, bulk_words};

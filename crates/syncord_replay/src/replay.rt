@@ -1,28 +1,45 @@
 //! From the bytes of a trace to the report of a replay, or to the first bad line.
 ghost use Rattle.std.specs.Prelude.{◌≡◌, IfOk, IfErr};
-ghost use Rattle.trace_text.specs.Traces.{IsWithin};
 ghost use Rattle.syncord_endings.specs.Endings.{Due};
+ghost use Rattle.syncord_replay.specs.Runnable.{IsRunnable, TakesEach, LeavesRuns};
 ghost use Rattle.syncord_replay.specs.Replays.{IsReportOf, Reports, Refuses};
 
-use crate::attachments::attaches_in;
-use crate::history::history_of;
+use crate::outcome::Run;
 use std::alloc::Global;
 use syncord_endings::Refusal;
 use trace_text::{NoMemory, Trace, TraceError, read_trace, render};
 
-/// The report of a history of the trace.
-fn report_of(alloc: Global, trace: &Trace) -> Result<Vec<u8>, NoMemory>
-    requires { IsWithin trace.now }
+/// The report of what a run of the trace leaves.
+fn report_of<F: Fn(Global, &Trace) -> Result<Run, NoMemory>>(
+    runner: &F,
+    alloc: Global,
+    trace: &Trace,
+) -> Result<Vec<u8>, NoMemory>
+    requires trace { IsRunnable trace.now }
+    requires takes { TakesEach (F.pre runner.now) (λ t. t.now) }
+    requires leaves { LeavesRuns (F.post runner.now) (λ t. t.now) }
     ensures { IfOk result (λ text. IsReportOf trace.now text.items) }
 {
-    let (history, dir) = history_of(alloc, trace)?;
-    let attaches = attaches_in(alloc, trace.calls.as_slice())?;
-    let text = render(alloc, trace, history.as_slice(), &dir, attaches.as_slice())?;
+    let outcome = runner(alloc, trace)?;
+    let attaches = outcome.versions.rows();
+    let text = render(
+        alloc,
+        trace,
+        outcome.history.as_slice(),
+        &outcome.dir,
+        attaches,
+    )?;
     Ok(text)
 }
 
 /// Replays the trace that the bytes are.
-pub fn replay(alloc: Global, bytes: &[u8]) -> Result<Vec<u8>, Refusal>
+pub fn replay<F: Fn(Global, &Trace) -> Result<Run, NoMemory>>(
+    runner: &F,
+    alloc: Global,
+    bytes: &[u8],
+) -> Result<Vec<u8>, Refusal>
+    requires takes { TakesEach (F.pre runner.now) (λ t. t.now) }
+    requires leaves { LeavesRuns (F.post runner.now) (λ t. t.now) }
     ensures report { IfOk result (λ text. Reports bytes.now text.items) }
     ensures refusal { IfErr result (Due (Refuses bytes.now)) }
 {
@@ -31,7 +48,7 @@ pub fn replay(alloc: Global, bytes: &[u8]) -> Result<Vec<u8>, Refusal>
         Err(TraceError::Format { line, what }) => return Err(Refusal::Line { line, what }),
         Err(TraceError::NoMemory) => return Err(Refusal::NoMemory),
     };
-    match report_of(alloc, &trace) {
+    match report_of(runner, alloc, &trace) {
         Ok(text) => Ok(text),
         Err(NoMemory) => Err(Refusal::NoMemory),
     }

@@ -1,36 +1,56 @@
-//! The commands as calls.
+//! The command `replay` as a call.
 ghost use Rattle.syncord_endings.specs.Traffic.{traffic};
-ghost use Rattle.syncord_endings.specs.Endings.{Answers, Decides};
+ghost use Rattle.syncord_endings.specs.Endings.{Ends, Answers, Decides};
+ghost use Rattle.syncord_replay.specs.Runnable.{TakesEach, LeavesRuns};
 ghost use Rattle.syncord_replay.specs.Replays.{Reports, Refuses};
 
+use crate::outcome::Run;
 use crate::replay::replay;
 use std::alloc::Global;
-use syn_outer::{Sink, Source};
-use syncord_endings::{Refusal, Work, perform};
+use syn_outer::{ReadError, Sink, Source, read_all, write_all};
+use syncord_endings::{Ending, MOST_BYTES, Refusal, tell_ending};
+use trace_text::{NoMemory, Trace};
 
-/// Replays a trace.
-#[derive(Drop)]
-struct Replay;
-
-impl Work for Replay {
-    ghost use Rattle.syncord_replay.specs.Replays.{Reports, Refuses};
-
-    ghost reports = { λ _ bytes text. Reports bytes text };
-
-    ghost refuses = { λ _ bytes refusal. Refuses bytes refusal };
-
-    fn report(&self, alloc: Global, bytes: &[u8]) -> Result<Vec<u8>, Refusal> {
-        replay(alloc, bytes)
+/// Reads, replays, and writes the report.
+fn ending<F: Fn(Global, &Trace) -> Result<Run, NoMemory>, R: Source, W: Sink>(
+    runner: &F,
+    alloc: Global,
+    src: &mut R,
+    out: &mut W,
+) -> Ending
+    requires takes { TakesEach (F.pre runner.now) (λ t. t.now) }
+    requires leaves { LeavesRuns (F.post runner.now) (λ t. t.now) }
+    ensures { Ends Reports Refuses
+        (traffic (R.left src.old) (R.left src.new) (R.faults src.old) (R.faults src.new))
+        (traffic (W.held out.old) (W.held out.new) (W.faults out.old) (W.faults out.new)) result }
+{
+    let bytes = match read_all(alloc, src, MOST_BYTES) {
+        Ok(bytes) => bytes,
+        Err(ReadError::ReadFault) => return Ending::ReadFault,
+        Err(ReadError::TooLarge) => return Ending::TooLarge,
+        Err(ReadError::NoMemory) => return Ending::NoReport(Refusal::NoMemory),
+    };
+    let text = match replay(runner, alloc, &bytes) {
+        Ok(text) => text,
+        Err(refusal) => return Ending::NoReport(refusal),
+    };
+    match write_all(out, &text) {
+        Ok(()) => Ending::Done,
+        Err(fault) => Ending::WriteFault(fault.written),
     }
 }
 
-/// Does all of the command `replay` that follows its words, and answers the status.
-pub fn run_replay<R: Source, W: Sink, E: Sink>(
+/// Does all of the command `replay` that follows its words, and answers the status. The trace is run by `runner`: which of the orders
+/// that keep each worker's own its history has is left open.
+pub fn run_replay<F: Fn(Global, &Trace) -> Result<Run, NoMemory>, R: Source, W: Sink, E: Sink>(
+    runner: &F,
     alloc: Global,
     src: &mut R,
     out: &mut W,
     err: &mut E,
 ) -> u8
+    requires takes { TakesEach (F.pre runner.now) (λ t. t.now) }
+    requires leaves { LeavesRuns (F.post runner.now) (λ t. t.now) }
     ensures answer { Answers Reports Refuses
         (traffic (R.left src.old) (R.left src.new) (R.faults src.old) (R.faults src.new))
         (traffic (W.held out.old) (W.held out.new) (W.faults out.old) (W.faults out.new))
@@ -39,5 +59,7 @@ pub fn run_replay<R: Source, W: Sink, E: Sink>(
         (traffic (R.left src.old) (R.left src.new) (R.faults src.old) (R.faults src.new))
         (traffic (W.held out.old) (W.held out.new) (W.faults out.old) (W.faults out.new)) result }
 {
-    perform(&Replay, alloc, src, out, err)
+    let ending = ending(runner, alloc, src, out);
+    tell_ending(err, ending);
+    ending.status()
 }

@@ -1,4 +1,5 @@
 use super::*;
+use crate::serial::run_serially;
 use std::alloc::Global;
 use std::test::Fail;
 use syn_outer::{MemSink, SureSink, SureSource};
@@ -9,13 +10,9 @@ const SERIAL: &[u8; 172] =
 const SERIAL_REPORT: &[u8; 268] =
     b"syncord-replay 1 workers 1 entries 10\n0 make 0 a = ino 1\n0 make 0 a = exists\n0 rename 0 a 0 a = done\n0 make 1 b = ino 2\n0 rename 0 a 1 b = done\n0 find 1 b = ino 1\n0 find 0 a = absent\n0 count 1 = number 1\n0 next 1 = name b\n0 next 1 b = end\nfinal 1\n1 b 1\nattaches 0\nend\n";
 
-// Four workers on two sockets, with two attachments.
-const FOUR: &[u8; 829] =
-    b"syncord-trace 1\nworker 0 0 0 0\nworker 0 0 0 0\nworker 1 0 0 0\nworker 1 0 0 0\npolicy socket 61120000000000006111040000000000b7000000010000001d21010000000000b7000000000000009500000000000000 -\npolicy none - -\ncalls\n0 make 5 job-0\n0 make 5 shared\n0 find 5 shared\n0 attach none\n0 rename 5 job-0 6 job-0\n0 count 6\n0 find 6 job-0\n0 drop 5 shared\n0 attach socket\n0 next 6\n0 make 7 log-0\n0 count 7\n1 make 5 job-1\n1 make 5 shared\n1 find 5 shared\n1 rename 5 job-1 6 job-1\n1 count 6\n1 find 6 job-1\n1 drop 5 shared\n1 next 6\n1 make 7 log-1\n1 count 7\n2 make 5 job-2\n2 make 5 shared\n2 find 5 shared\n2 rename 5 job-2 6 job-2\n2 count 6\n2 find 6 job-2\n2 drop 5 shared\n2 next 6\n2 make 7 log-2\n2 count 7\n3 make 5 job-3\n3 make 5 shared\n3 find 5 shared\n3 rename 5 job-3 6 job-3\n3 count 6\n3 find 6 job-3\n3 drop 5 shared\n3 next 6\n3 make 7 log-3\n3 count 7\n";
-
-// What the document's order makes of it.
-const FOUR_REPORT: &[u8; 1108] =
-    b"syncord-replay 1 workers 4 entries 40\n0 make 5 job-0 = ino 1\n0 make 5 shared = ino 2\n0 find 5 shared = ino 2\n0 rename 5 job-0 6 job-0 = done\n0 count 6 = number 1\n0 find 6 job-0 = ino 1\n0 drop 5 shared = done\n0 next 6 = name job-0\n0 make 7 log-0 = ino 3\n0 count 7 = number 1\n1 make 5 job-1 = ino 4\n1 make 5 shared = ino 5\n1 find 5 shared = ino 5\n1 rename 5 job-1 6 job-1 = done\n1 count 6 = number 2\n1 find 6 job-1 = ino 4\n1 drop 5 shared = done\n1 next 6 = name job-0\n1 make 7 log-1 = ino 6\n1 count 7 = number 2\n2 make 5 job-2 = ino 7\n2 make 5 shared = ino 8\n2 find 5 shared = ino 8\n2 rename 5 job-2 6 job-2 = done\n2 count 6 = number 3\n2 find 6 job-2 = ino 7\n2 drop 5 shared = done\n2 next 6 = name job-0\n2 make 7 log-2 = ino 9\n2 count 7 = number 3\n3 make 5 job-3 = ino 10\n3 make 5 shared = ino 11\n3 find 5 shared = ino 11\n3 rename 5 job-3 6 job-3 = done\n3 count 6 = number 4\n3 find 6 job-3 = ino 10\n3 drop 5 shared = done\n3 next 6 = name job-0\n3 make 7 log-3 = ino 12\n3 count 7 = number 4\nfinal 8\n6 job-0 1\n6 job-1 4\n6 job-2 7\n6 job-3 10\n7 log-0 3\n7 log-1 6\n7 log-2 9\n7 log-3 12\nattaches 2\n1 none\n2 socket\nend\n";
+// Two workers, of which one attaches.
+const ATTACHING: &[u8; 97] =
+    b"syncord-trace 1\nworker 0 0 0 0\nworker 1 0 0 0\npolicy none - -\ncalls\n0 attach none\n1 make 5 job-1\n";
 
 fn sink(alloc: Global) -> Result<SureSink, Fail> {
     Ok(SureSink::open(alloc, 4096).ok().ok_or("memory")?)
@@ -23,7 +20,7 @@ fn sink(alloc: Global) -> Result<SureSink, Fail> {
 
 fn replayed(alloc: Global, bytes: Vec<u8>, out: &mut SureSink, err: &mut SureSink) -> u8 {
     let mut src = SureSource::new(bytes);
-    run_replay(alloc, &mut src, out, err)
+    run_replay(&run_serially, alloc, &mut src, out, err)
 }
 
 #[test]
@@ -38,12 +35,13 @@ fn a_trace_of_one_worker_is_replayed(rt: HostRuntime) -> Result<(), Fail> {
 }
 
 #[test]
-fn a_trace_of_four_workers_is_replayed(rt: HostRuntime) -> Result<(), Fail> {
+fn a_run_that_gives_up_is_told(rt: HostRuntime) -> Result<(), Fail> {
     let alloc = rt.alloc();
     let (mut out, mut err) = (sink(alloc)?, sink(alloc)?);
-    let bytes = Vec::from_slice(alloc, FOUR)?;
-    assert_eq!(rt; replayed(alloc, bytes, &mut out, &mut err), 0);
-    assert_eq!(rt; out.bytes(), FOUR_REPORT.as_slice());
+    let bytes = Vec::from_slice(alloc, ATTACHING)?;
+    assert_eq!(rt; replayed(alloc, bytes, &mut out, &mut err), 5);
+    assert_eq!(rt; out.bytes(), b"".as_slice());
+    assert_eq!(rt; err.bytes(), b"".as_slice());
     Ok(())
 }
 
@@ -51,11 +49,11 @@ fn a_trace_of_four_workers_is_replayed(rt: HostRuntime) -> Result<(), Fail> {
 fn a_bad_line_is_named(rt: HostRuntime) -> Result<(), Fail> {
     let alloc = rt.alloc();
     let (mut out, mut err) = (sink(alloc)?, sink(alloc)?);
-    let mut bytes = Vec::from_slice(alloc, FOUR)?;
-    bytes.extend_from_slice(b"2 attach none\n")?;
+    let mut bytes = Vec::from_slice(alloc, ATTACHING)?;
+    bytes.extend_from_slice(b"1 attach none\n")?;
     assert_eq!(rt; replayed(alloc, bytes, &mut out, &mut err), 1);
     assert_eq!(rt; out.bytes(), b"".as_slice());
-    assert_eq!(rt; err.bytes(), b"syncord: line 51: fault 13\n".as_slice());
+    assert_eq!(rt; err.bytes(), b"syncord: line 8: fault 13\n".as_slice());
     Ok(())
 }
 
@@ -63,19 +61,20 @@ fn a_bad_line_is_named(rt: HostRuntime) -> Result<(), Fail> {
 fn a_seed_is_summed_up(rt: HostRuntime) -> Result<(), Fail> {
     let alloc = rt.alloc();
     let (mut out, mut err) = (sink(alloc)?, sink(alloc)?);
-    assert_eq!(rt; run_bulk(alloc, 1, 1, 3, &mut out, &mut err), 0);
+    assert_eq!(rt;
+        run_bulk(&run_serially, alloc, 1, 1, 3, &mut out, &mut err),
+        0
+    );
     let expected =
         b"bulk seed 1 workers 1 calls 3 attaches 0\nino 1 done 0 exists 0 absent 1 number 1 name 0 end 0\nleft 1\n";
     assert_eq!(rt; out.bytes(), expected.as_slice());
     let mut out = sink(alloc)?;
-    assert_eq!(rt; run_bulk(alloc, 0, 1, 0, &mut out, &mut err), 0);
+    assert_eq!(rt;
+        run_bulk(&run_serially, alloc, 0, 1, 0, &mut out, &mut err),
+        0
+    );
     let expected =
         b"bulk seed 0 workers 1 calls 0 attaches 0\nino 0 done 0 exists 0 absent 0 number 0 name 0 end 0\nleft 0\n";
-    assert_eq!(rt; out.bytes(), expected.as_slice());
-    let mut out = sink(alloc)?;
-    assert_eq!(rt; run_bulk(alloc, 7, 8, 20000, &mut out, &mut err), 0);
-    let expected =
-        b"bulk seed 7 workers 8 calls 20000 attaches 20\nino 4798 done 2704 exists 4122 absent 3457 number 2442 name 2362 end 115\nleft 1299\n";
     assert_eq!(rt; out.bytes(), expected.as_slice());
     Ok(())
 }
@@ -86,7 +85,10 @@ fn a_sink_that_fails_is_told(rt: HostRuntime) -> Result<(), Fail> {
     let fails = Vec::from_slice(alloc, &[2])?;
     let mut out = MemSink::open(alloc, 100, 16, fails).ok().ok_or("memory")?;
     let mut err = sink(alloc)?;
-    assert_eq!(rt; run_bulk(alloc, 1, 1, 3, &mut out, &mut err), 4);
+    assert_eq!(rt;
+        run_bulk(&run_serially, alloc, 1, 1, 3, &mut out, &mut err),
+        4
+    );
     assert_eq!(rt; out.bytes(), b"bulk seed 1 work".as_slice());
     assert_eq!(rt;
         err.bytes(),

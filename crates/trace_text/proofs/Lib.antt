@@ -13,5 +13,6 @@ pub mod CallTexts
 pub mod Counts
 pub mod Generated
 pub mod Found
+pub mod Once
 pub mod Only
 pub mod Answered

@@ -29,7 +29,7 @@ use Rattle.trace_text.specs.Traces.{document_of}
 use Rattle.trace_text.proofs.Sections.{all-at}
 use Rattle.trace_text.proofs.WorkerLines.{workers_in-only}
 use Rattle.trace_text.proofs.PolicyNames.{apart-at}
-use Rattle.trace_text.proofs.PolicyTexts.{policy_text-plain, policy_text-begins, policies-only}
+use Rattle.trace_text.proofs.PolicyTexts.{policy_text-plain, policy_text-begins, policies-only, policies-read_so}
 use Rattle.trace_text.proofs.CallTexts.{calls_in-only}
 use Rattle.trace_text.proofs.Found.{found}
 
@@ -106,10 +106,22 @@ module _ (d : Document) (fits : Fits d) (texts : List (List ℕ)) (zip : AllZip 
       let calls = calls_in-only (length d.workers) d.policies fits.workers.1 (policies_line front + length d.policies) d.calls fits.calls.0 fits.calls.1 fits.calls.2 in
       is ∙ document_in-parts front policies d.policies (ended (codes "calls") ∷ pieces call_bytes) d.calls got calls
 
+  document-so : (policies : Policies) × ReadsPolicies d.profile [] (policies_line front) (pieces policy_bytes) policies × (◌≡◌ {A = Result Document Fault} (Ok d) (document_in front policies))
+  document-so =
+      let got = policies-read_so d.profile d.policies texts [] (policies_line front) call_bytes zip policies-here fits.policies.0 in
+      let calls = calls_in-only (length d.workers) d.policies fits.workers.1 (policies_line front + length d.policies) d.calls fits.calls.0 fits.calls.1 fits.calls.2 in
+      let whole : Policies = Ok (d.policies, ended (codes "calls") ∷ pieces call_bytes) in
+      (whole, got, sym (document_in-parts front whole d.policies (ended (codes "calls") ∷ pieces call_bytes) d.calls refl calls))
+
 pub only : (bytes : List ℕ) (d : Document) (read : Result Document Fault) → Fits d → IsText bytes d → ReadsTrace bytes read → read ≡ Ok d
 only bytes d read fits text h =
     let k = subst (λ (r : Result Front Fault). Then r (λ f read. (policies : Policies) × ReadsPolicies f.profile [] (policies_line f) f.rest policies × (read ≡ document_in f policies)) read) (front-read d fits text.0 text.1 bytes text.2) h in
     document-read d fits text.0 text.1 k.0 read k.1 k.2
+
+-- a text of a trace within the limits has that reading
+pub text-read : (bytes : List ℕ) (d : Document) → Fits d → IsText bytes d → ReadsTrace bytes (Ok d)
+text-read bytes d fits text =
+    subst (λ (r : Result Front Fault). Then r (λ f read. (policies : Policies) × ReadsPolicies f.profile [] (policies_line f) f.rest policies × (read ≡ document_in f policies)) (Ok d)) (sym (front-read d fits text.0 text.1 bytes text.2)) (document-so d fits text.0 text.1)
 
 -- ---- of what a reader returned
 

@@ -71,6 +71,14 @@ module _ (profile : Profile) (before : List PolicyLine) (line : ℕ) (ps qs : Li
       by_judged (inl (yes_, more)) = more
       by_judged (inr (refused, bad)) = absurd (refused accepted)
 
+  ends-read : read ≡ Ok (before, p ∷ qs) → policy_says before line t ≡ Ok None → ReadsPolicies profile before line ps read
+  unfolding ReadsPolicies
+  ends-read is g = rw (e, f, g) is
+
+  more-read : (policy : PolicyLine) → policy_says before line t ≡ Ok (Some policy) → AcceptsSource profile policy.source → ReadsPolicies profile (before ++ policy ∷ []) (line + 1) qs read → ReadsPolicies profile before line ps read
+  unfolding ReadsPolicies
+  more-read policy g accepted h = rw (e, f, g) (inl (accepted, h))
+
 calls-ends : (before : List PolicyLine) (line : ℕ) → 0 < length before → policy_says before line (codes "calls") ≡ Ok None
 unfolding policy_says
 calls-ends before line some = rw (ne_eqb (length before) 0 (λ e. omega (arith, some, e))) refl
@@ -95,3 +103,28 @@ policies-only profile (x ∷ xs) (t ∷ ts) before line rest read zip each some 
     let split : (before ++ x ∷ []) ++ xs ≡ before ++ x ∷ xs = append_assoc before (x ∷ []) xs in
     let again = policies-only profile xs ts (before ++ x ∷ []) (line + 1) rest read zip.1 (λ done more y e. each done more y (sym split ∙ e)) (subst (λ (l : List PolicyLine). 0 < length l) (sym split) some) more in
     subst (λ (l : List PolicyLine). read ≡ Ok (l, ended (codes "calls") ∷ pieces rest)) split again
+
+-- policies that were read, and the pieces behind them
+abbrev ok_of : List (List ℕ) → List PolicyLine → Policies
+ok_of qs l = Ok (l, qs)
+
+-- the same the other way: that is a reading
+pub policies-read_so : (profile : Profile) (xs : List PolicyLine) (texts : List (List ℕ)) (before : List PolicyLine) (line : ℕ) (rest : List ℕ)
+    → AllZip IsPolicyText xs texts → ((done more : List PolicyLine) (x : PolicyLine) → before ++ xs ≡ done ++ x ∷ more → IsPolicy profile x × (length done < 64) × (is_declared done x.name ≡ false)) → 0 < length (before ++ xs)
+    → ReadsPolicies profile before line (pieces (flat_map ended texts ++ (ended (codes "calls") ++ rest))) (Ok (before ++ xs, ended (codes "calls") ∷ pieces rest))
+policies-read_so profile [] [] before line rest zip each some =
+    let nil = append-nil before in
+    ends-read profile before line (pieces (ended (codes "calls") ++ rest)) (pieces rest) (ended (codes "calls")) (codes "calls") (Ok (before ++ [], ended (codes "calls") ∷ pieces rest)) (pieces-ended (codes "calls") rest refl) (text_in-ended (codes "calls") refl)
+    (ap (ok_of (ended (codes "calls") ∷ pieces rest)) nil) (calls-ends before line (subst (λ (l : List PolicyLine). 0 < length l) nil some))
+policies-read_so profile [] (t ∷ ts) before line rest zip each some = absurd zip
+policies-read_so profile (x ∷ xs) [] before line rest zip each some = absurd zip
+policies-read_so profile (x ∷ xs) (t ∷ ts) before line rest zip each some =
+    let here = each before xs x refl in
+    let tail = ended (codes "calls") ++ rest in
+    let plain = policy_text-plain profile x t here.0 zip.0 in
+    let front : pieces (flat_map ended (t ∷ ts) ++ tail) ≡ ended t ∷ pieces (flat_map ended ts ++ tail) = ap pieces (append_assoc (ended t) (flat_map ended ts) tail) ∙ pieces-ended t (flat_map ended ts ++ tail) plain in
+    let says = policy_says-text profile before line x t here.0 zip.0 here.1 here.2 in
+    let split : (before ++ x ∷ []) ++ xs ≡ before ++ x ∷ xs = append_assoc before (x ∷ []) xs in
+    let again = policies-read_so profile xs ts (before ++ x ∷ []) (line + 1) rest zip.1 (λ done more y e. each done more y (sym split ∙ e)) (subst (λ (l : List PolicyLine). 0 < length l) (sym split) some) in
+    let same = subst (λ (l : List PolicyLine). ReadsPolicies profile (before ++ x ∷ []) (line + 1) (pieces (flat_map ended ts ++ tail)) (Ok (l, ended (codes "calls") ∷ pieces rest))) split again in
+    more-read profile before line (pieces (flat_map ended (t ∷ ts) ++ tail)) (pieces (flat_map ended ts ++ tail)) (ended t) t (Ok (before ++ x ∷ xs, ended (codes "calls") ∷ pieces rest)) front (text_in-ended t plain) x says here.0.accepted same

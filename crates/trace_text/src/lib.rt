@@ -6,6 +6,7 @@ mod error;
 #[cfg(test)]
 mod generated_tests;
 mod generator;
+mod laws;
 mod names;
 mod numbering;
 mod policies;
@@ -22,6 +23,7 @@ mod write;
 
 pub use error::TraceError;
 pub use generator::generate;
+pub use laws::laws_of_traces;
 pub use policy_text::NoMemory;
 pub use read::read_trace;
 pub use reports::{render, summary};

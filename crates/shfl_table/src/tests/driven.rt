@@ -5,7 +5,7 @@ ghost use Rattle.shfl_table.specs.PassModel.{IsIdleAt};
 
 use crate::board::SharedBoard;
 use crate::passes::Pass;
-use shfl_core::{Ask, Nap, Phase, Watch};
+use shfl_core::{Ask, Nap, PassState, Phase, Watch};
 use shfl_line::{Form, Mode, NoMemory};
 use std::alloc::Global;
 use std::marker::Model;
@@ -84,6 +84,17 @@ impl<'a> Driven<'a> {
 
     pub fn nap(&self) -> Nap {
         self.pass.nap()
+    }
+
+    /// Where it stands: phase, registers and park state.
+    pub fn standing(&self) -> PassState {
+        self.pass.own
+    }
+
+    pub fn lock_word(&self) -> u64 {
+        let board = self.board;
+        let table = &board.table;
+        table.shared.peek(0)
     }
 
     pub fn held(&self) -> bool {

@@ -1,116 +1,27 @@
 //! Threads that take a lock in turn. Each writer marks the value behind the lock while it is inside.
-ghost use Rattle.std.specs.Prelude.{◌≡◌, ◌∷◌, [], ℕ, ◌<◌, true, false, All, length, vec_len, IfOk, Some};
+ghost use Rattle.std.specs.Prelude.{◌≡◌, [], ◌<◌, true, All, length, vec_len, IfOk};
 ghost use Rattle.shfl_core.specs.Plan as plan;
 ghost use Rattle.shfl_core.specs.Waiting.{MayUse};
 ghost use Rattle.shfl_line.specs.declared.events.Mode.TheVariants.{Write};
 ghost use Rattle.shfl_table.specs.PassModel.{AreIn, IsIdleAt};
 
 use crate::board::SharedBoard;
-use crate::kept::Kept;
 use crate::opening::open;
 use crate::passes::Pass;
+use crate::tests::crowd::{Alternating, Crowd, Tally, mark};
 use crate::waiting::{free, wait_for};
 use shfl_line::{Always, Attr, BySocket, Chooser, Form, Mode, Never, NoMemory};
 use std::alloc::Global;
 use std::sync::Wait;
-use std::sync::atomic::{AtomicU64, Ordering};
+use std::sync::atomic::Ordering;
 use std::test::Fail;
 use std::thread;
 use std::thread::Threads;
-use syn_outer::OpenGate;
 
-/// How often each of the sixteen threads holds the lock.
-const HOLDS: u32 = 10;
+/// How often each of the sixteen threads holds the lock. One of them lingers in every so many holds, so that others queue.
+const HOLDS: u32 = 400;
 
-/// How often the lock was held by a writer, and how many writers are inside now.
-#[derive(Drop)]
-struct Tally {
-    holds: u64,
-    inside: u64,
-}
-
-impl Kept for Tally {
-    ghost use Rattle.std.specs.Prelude.{[]};
-
-    ghost initial_state = { λ _. [] };
-
-    ghost history = { λ _. [] };
-}
-
-/// Who is inside, and how often somebody met one whom the lock keeps out.
-#[derive(Drop)]
-struct Crowd {
-    readers: AtomicU64,
-    writers: AtomicU64,
-    met: AtomicU64,
-}
-
-impl Crowd {
-    fn new() -> Crowd {
-        Crowd {
-            readers: AtomicU64::new(0),
-            writers: AtomicU64::new(0),
-            met: AtomicU64::new(0),
-        }
-    }
-
-    fn note(&self, is_alone: bool) {
-        if !is_alone {
-            let met = &self.met;
-            let _ = met.fetch_add(1, Ordering::SeqCst);
-        }
-    }
-}
-
-/// Says yes and no in turn.
-#[derive(Drop)]
-struct Alternating {
-    yes: bool,
-}
-
-impl Chooser for Alternating {
-    ghost use Rattle.std.specs.Prelude.{[], false, None};
-
-    ghost home = { λ _. [] };
-
-    ghost in_round = { λ _. false };
-
-    ghost told = { λ _. None };
-
-    fn begin<Rt: Wait>(&mut self, _rt: &Rt) {}
-
-    fn skip(&mut self, _anchor: &Attr, _batch: u16) -> bool {
-        false
-    }
-
-    fn should(&mut self, _anchor: &Attr, _waiter: &Attr, _batch: u16) -> bool {
-        self.yes = !self.yes;
-        self.yes
-    }
-
-    fn end(&mut self) {}
-}
-
-/// Takes the value out, sets the mark in it, and puts it back: whether the mark was as expected, and how often the lock was held.
-fn mark(
-    board: &SharedBoard<Tally>,
-    pass: &mut Pass<Tally>,
-    expected: u64,
-    inside: u64,
-) -> (bool, u64)
-    requires board { pass.old.board ≡ board.now.id }
-    requires holds { (plan.is_held pass.old.own.phase ≡ true) × (pass.old.own.reg.mode ≡ Write) }
-    requires value { (x : _) × (pass.old.values ≡ Some x ∷ []) }
-    ensures { (x : _) × (pass.new ≡ record pass.old { values = Some x ∷ [] }) }
-{
-    let mut tally = pass.take_value(board, 0);
-    let as_expected = tally.inside == expected;
-    tally.inside = inside;
-    tally.holds = tally.holds.wrapping_add(inside);
-    let holds = tally.holds;
-    pass.put_value(board, 0, tally);
-    (as_expected, holds)
-}
+const LINGERS: u32 = 200;
 
 /// What a holder does inside: how often writers held the lock, where it writes.
 fn stay(board: &SharedBoard<Tally>, crowd: &Crowd, pass: &mut Pass<Tally>, mode: Mode) -> u64
@@ -151,13 +62,17 @@ fn hold_once<C: Chooser, R: Wait>(
     mode: Mode,
     attr: &Attr,
     chooser: &mut C,
+    lingers: bool,
 ) -> u64
     requires one { board.now.id.table.slots ≡ 1 }
     requires mode { MayUse board.now.id.rules.form mode }
     requires pass { IsIdleAt board.now.id pass.old }
     ensures { IsIdleAt board.now.id pass.new }
 {
-    wait_for(rt, board, pass, mode, attr, chooser, &OpenGate);
+    wait_for(rt, board, pass, mode, attr, chooser, crowd);
+    if lingers {
+        crowd.linger();
+    }
     let holds = stay(board, crowd, pass, mode);
     free(board, pass);
     holds
@@ -193,8 +108,11 @@ fn hold_often<C: Chooser, R: Wait>(
     ensures { IsIdleAt board.now.id pass.new }
 {
     let attr = attr_of(pass.number());
+    let may_linger = pass.number() == 0;
     for hold in 0..HOLDS {
-        let _ = hold_once(rt, board, crowd, pass, mode_of(form, hold), &attr, chooser);
+        let mode = mode_of(form, hold);
+        let lingers = may_linger && hold % LINGERS == 0;
+        let _ = hold_once(rt, board, crowd, pass, mode, &attr, chooser, lingers);
     }
 }
 
@@ -285,7 +203,16 @@ fn crowded<R: Threads + Wait + Sync>(
     thread::for_each_mut(rt, &mut passes, threads, &job);
     let last = &mut passes[0];
     let attr = attr_of(0);
-    let holds = hold_once(rt, &board, &crowd, last, Mode::Write, &attr, &mut Never);
+    let holds = hold_once(
+        rt,
+        &board,
+        &crowd,
+        last,
+        Mode::Write,
+        &attr,
+        &mut Never,
+        false,
+    );
     let met = &crowd.met;
     Ok((holds, met.load(Ordering::SeqCst)))
 }

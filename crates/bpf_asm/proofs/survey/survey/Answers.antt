@@ -1,50 +1,18 @@
-use Rattle.std.proofs.Common.{◌≡◌, ◌+◌, ◌++◌, [], ◌∷◌, ℕ, List, Bool, length, map, sym, ap, ◌∙◌, arith}
-use Rattle.std.proofs.lemmas.List.{append-nil, nil_from_length}
-use Rattle.std.proofs.lemmas.Bool.{eqb-true}
-use Rattle.bpf_isa.specs.Flow.{is_half}
-use Rattle.bpf_asm.specs.Assembly.{Line, slots_of, layout, mark_of, lines_in}
-use Rattle.bpf_asm.specs.Forms.{or_else}
-use Rattle.bpf_asm.specs.Marks.{mark_in, first_again, marked_in}
-use Rattle.bpf_asm.specs.Statements.{line_in}
-use Rattle.bpf_asm.specs.Views.{line_of}
-use Rattle.bpf_asm.proofs.Again.{again_here, again_goes_on, again_ends}
-use Rattle.bpf_asm.proofs.Surveying.{first_line, marks_go_on, halves_go_on, is_said, marks_end, more_slots}
+use Rattle.std.proofs.Common.{◌≡◌, ℕ, List, Option, ap, ◌∙◌, subst}
+use Rattle.bpf_asm.specs.declared.names.Mark.{Mark}
+use Rattle.bpf_asm.specs.Assembly.{lines_in}
+use Rattle.bpf_asm.specs.Marks.{marked_in}
+use Rattle.bpf_asm.specs.Names.{mark_in, first_repeat, AreMarks}
 use Rattle.bpf_asm.proofs.survey.survey.Goals as goal
-
-pub loop-rest-preserved : goal.loop-rest-preserved
-loop-rest-preserved c =
-    let piece : List ℕ = c.piece_at.result.0.now in
-    let behind : List ℕ = c.piece_at.result.1.now in
-    let read : Line = line_of c.read_line-read.result in
-    let front : List Bool = c.loop-rest.halves.items in
-    let lines : lines_in c.args.profile c.loop-rest.rest.now ≡ read ∷ lines_in c.args.profile behind =
-    first_line c.args.profile c.loop-rest.rest.now piece behind c.piece_at.ensures.first
-    ∙ ap (λ (l : Line). l ∷ lines_in c.args.profile behind) (is_said c.read_line-read.result (line_in c.args.profile piece) c.read_line-read.ensures) in
-    let more : length c.note_slots.new.halves.items ≡ length front + length (slots_of read) = more_slots front c.note_slots.new.halves.items (slots_of read) c.in_ok-note_slots.ensures.slots in
-    let all : List Line = lines_in c.args.profile c.args.text.now in
-    let stands : (name : List ℕ) → or_else (mark_in c.note_mark.new.marks name) (mark_of name (c.loop-rest.line + 1) (length c.note_slots.new.halves.items) (lines_in c.args.profile behind)) ≡ mark_of name 1 0 all =
-    λ name. marks_go_on name (mark_in c.loop-rest.marks name) (mark_in c.note_mark.new.marks name) _ c.loop-rest.line (length front) _ (length c.note_slots.new.halves.items) read (lines_in c.args.profile behind)
-    (omega arith) more (c.in_ok-counts.ensures.noted name)
-    (ap (λ (ls : List Line). or_else (mark_in c.loop-rest.marks name) (mark_of name c.loop-rest.line (length front) ls)) (sym lines) ∙ c.loop-rest.invariant.marks name) in
-    record {
-      marks = stands;
-      again = again_goes_on (marked_in all) c.loop-rest.again c.first_line-again.result _ c.loop-rest.line c.in_ok-counts.counts read (lines_in c.args.profile behind)
-          (c.in_ok-counts.ensures.again ∙ again_here (mark_in c.note_mark.new.marks) (mark_in c.loop-rest.marks) (λ name. mark_of name (c.loop-rest.line + 1) (length c.note_slots.new.halves.items) (lines_in c.args.profile behind)) (marked_in all) c.loop-rest.line _ read c.in_ok-counts.ensures.noted stands)
-          c.first_line-again.ensures
-          (ap (λ (ls : List Line). or_else c.loop-rest.again (first_again (marked_in all) c.loop-rest.line ls)) (sym lines) ∙ c.loop-rest.invariant.again);
-      halves = halves_go_on front c.note_slots.new.halves.items _ read (lines_in c.args.profile behind) c.in_ok-note_slots.ensures.slots
-          (ap (λ (ls : List Line). front ++ map is_half (layout ls)) (sym lines) ∙ c.loop-rest.invariant.halves);
-      lines = omega arith;
-      slots = omega (arith, c.in_ok-note_slots.ensures.few, c.piece_at.ensures.shorter);
-    }
 
 pub returns : goal.returns
 returns c =
-    let none : c.loop-rest.rest.now ≡ [] = nil_from_length c.loop-rest.rest.now (eqb-true (length c.loop-rest.rest.now) 0 (sym c.loop-rest-test.ensures)) in
+    let names = c.in_ok-names.names.items in
+    let all = lines_in c.args.profile c.args.text.now in
+    let same : ◌≡◌ {A = List ℕ → Option Mark} (mark_in names) (marked_in all) = λ i name. c.in_ok-names.ensures.marks_stand name i in
     record {
-      marks_stand = λ name. marks_end name (mark_in c.loop-rest.marks name) _ c.loop-rest.line (length c.loop-rest.halves.items)
-          (ap (λ (rest : List ℕ). or_else (mark_in c.loop-rest.marks name) (mark_of name c.loop-rest.line (length c.loop-rest.halves.items) (lines_in c.args.profile rest))) (sym none) ∙ c.loop-rest.invariant.marks name);
-      halves_stand = sym (append-nil c.loop-rest.halves.items) ∙ ap (λ (rest : List ℕ). c.loop-rest.halves.items ++ map is_half (layout (lines_in c.args.profile rest))) (sym none) ∙ c.loop-rest.invariant.halves;
-      again_stands = again_ends (marked_in (lines_in c.args.profile c.args.text.now)) c.loop-rest.again _ c.loop-rest.line
-          (ap (λ (rest : List ℕ). or_else c.loop-rest.again (first_again (marked_in (lines_in c.args.profile c.args.text.now)) c.loop-rest.line (lines_in c.args.profile rest))) (sym none) ∙ c.loop-rest.invariant.again);
+      order = c.settle-again.ensures.order;
+      marks_stand = subst (λ (marked : List ℕ → Option Mark). AreMarks c.settle-again.new.names.items marked) same c.settle-again.ensures.marks;
+      halves_stand = c.in_ok-names.ensures.halves_stand;
+      again_stands = c.settle-again.ensures.repeat ∙ ap (λ (marked : List ℕ → Option Mark). first_repeat marked names) same ∙ c.in_ok-names.ensures.repeats_stand;
     }

@@ -4,10 +4,10 @@ use Rattle.shfl_sched.proofs.report.push_row.Goals as goal
 
 pub overflow_cast-mark : goal.overflow_cast-mark
 overflow_cast-mark g c =
-    let shown = marks_of c.show.new.out (g.B.Board.meaning c.args.board.now).world c.show.ensures.shown in
+    let shown = marks_of c.args.state.now (g.B.Board.meaning c.args.board.now).world c.requires.shown in
     rw c.mark.ensures (omega (arith, shown))
 
 pub push_asleep-requires : goal.push_asleep-requires
 push_asleep-requires g c =
-    let shown = marks_of c.show.new.out (g.B.Board.meaning c.args.board.now).world c.show.ensures.shown in
-    rw (c.mark.ensures, c.word.ensures.unchanged, c.show.ensures.unchanged) (sym shown)
+    let shown = marks_of c.args.state.now (g.B.Board.meaning c.args.board.now).world c.requires.shown in
+    rw (c.mark.ensures, c.word.ensures.unchanged) (sym shown)

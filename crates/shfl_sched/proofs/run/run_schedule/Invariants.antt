@@ -1,4 +1,5 @@
-use Rattle.std.proofs.Common.{◌≡◌, ◌+◌, ◌++◌, drop, length}
+use Rattle.std.proofs.Common.{◌≡◌, ◌+◌, ◌++◌, drop}
+use Rattle.shfl_core.specs.ShownLine.{shown_line}
 use Rattle.shfl_sched.specs.Report.{heading_text, rows_from, count_admitted, count_refused}
 use Rattle.shfl_sched.specs.Run.{setup_of, moments, moments_of, lock_after}
 use Rattle.shfl_sched.proofs.run.run_schedule.Given as goal
@@ -13,5 +14,5 @@ invariant-loop-event g l =
       refused : l.no + count_refused rest ≡ count_refused all;
       count : l.yes + l.no ≡ l.event-index;
       lock : g.B.Board.meaning l.board ≡ lock_after s l.event-index;
-      marks : length l.state.mark ≡ length s.passes;
+      shown : l.state ≡ shown_line (g.B.Board.meaning l.board).world;
     }

@@ -3,9 +3,11 @@ use Rattle.trace_text.specs.Report.{done_of}
 use Rattle.syncord_replay.proofs.replay.report_of.Goals as goal
 
 pub returns : goal.returns
-returns c = record {
-  history = map done_of c.in_ok-history.history.items;
-  final = c.in_ok-history.dir;
-  is_history = c.in_ok-history.ensures;
-  told = rw (c.as_slice-2.ensures.value, c.as_slice-3.ensures.value, c.in_ok-attaches.ensures, c.as_slice.ensures.value) at c.in_ok-text.ensures;
-}
+returns g c =
+    let run = c.requires.leaves _ _ _ c.in_ok-outcome.ensures in
+    record {
+      history = map done_of c.in_ok-outcome.outcome.history.items;
+      final = c.in_ok-outcome.outcome.dir;
+      is_history = run.history;
+      told = rw (c.as_slice.ensures.value, c.rows-attaches.ensures, run.versions) at c.in_ok-text.ensures;
+    }

@@ -1,5 +1,5 @@
 use Rattle.std.proofs.Common.{◌≡◌, ◌∷◌, [], refl, ap, ◌∙◌, sym, List, Option, Some, length, map, arith}
-use Rattle.shfl_table.specs.declared.tests.threads.Tally.{Tally}
+use Rattle.shfl_table.specs.declared.tests.crowd.Tally.{Tally}
 use Rattle.shfl_table.specs.PassModel.{PassModel}
 use Rattle.shfl_table.proofs.tests.threads.stay.Goals as goal
 

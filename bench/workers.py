@@ -1,0 +1,60 @@
+"""Makes the traces of workers.sh, compares what the programs write, and times them. Words: FOLDER PROGRAM."""
+import os
+import resource
+import subprocess
+import sys
+import time
+
+
+def run(words, text=None):
+    before = resource.getrusage(resource.RUSAGE_CHILDREN)
+    begun = time.perf_counter()
+    source = open(text, "rb") if text else subprocess.DEVNULL
+    done = subprocess.Popen(words, stdin=source, stdout=subprocess.PIPE)
+    said = done.stdout.read()
+    _, status, used = os.wait4(done.pid, 0)
+    done.returncode = os.waitstatus_to_exitcode(status)
+    wall = time.perf_counter() - begun
+    assert done.returncode == 0, (words, done.returncode)
+    del before
+    return wall, used.ru_utime + used.ru_stime, used.ru_maxrss / 1024, said
+
+
+def best(words, text=None, times=7):
+    runs = [run(words, text) for _ in range(times)]
+    return min(r[0] for r in runs), min(r[1] for r in runs), max(r[2] for r in runs), runs[0][3]
+
+
+def row(what, ours, peer):
+    print(f"{what:<34} {ours[1] * 1e3:8.1f} {peer[1] * 1e3:8.1f} {ours[1] / peer[1]:6.2f}   {ours[0] * 1e3:8.1f} {peer[0] * 1e3:8.1f} "
+          f"{ours[0] / peer[0]:6.2f}   {ours[2]:6.1f} {peer[2]:6.1f}")
+
+
+def head(workers):
+    return "syncord-trace 1\n" + "".join(f"worker {w % 2} 0 0 0\n" for w in range(workers)) + "policy none - -\ncalls\n"
+
+
+def main(folder, program):
+    print(f"{'':<34} {'cpu ms':>8} {'peer':>8} {'ratio':>6}   {'wall ms':>8} {'peer':>8} {'ratio':>6}   {'MB':>6} {'peer':>6}")
+    for workers in (16, 4):
+        words = ["7", str(workers), "65000"]
+        ours = best([program, "bulk"] + words)
+        for name, peer in (("Mutex<BTreeMap>", [f"{folder}/rust", "bulk"]), ("mutex, tsearch", [f"{folder}/c"])):
+            theirs = best(peer + words)
+            assert ours[3] == theirs[3], name
+            row(f"bulk {' '.join(words)}, {name}", ours, theirs)
+    long = f"{folder}/long.trace"
+    with open(long, "w") as out:
+        out.write(head(1) + "".join(f"0 make 5 {'x' * 240}{n * 40503 % 65536:06}\n" for n in range(65536)))
+    ours, theirs = best([program, "replay"], long), best([f"{folder}/serial"], long)
+    assert ours[3] == theirs[3]
+    row("65,536 long names, serial", ours, theirs)
+    finds = f"{folder}/finds.trace"
+    with open(finds, "w") as out:
+        out.write(head(4) + "".join(f"0 make 5 f{n:05}\n" for n in range(500)))
+        out.write("".join(f"{n % 4} find 5 f{n * 7 % 1000:05}\n" for n in range(65000)))
+    ours, theirs = best([program, "replay"], finds), best([f"{folder}/rust", "reads"], finds)
+    row("65,000 finds, RwLock<BTreeMap>", ours, theirs)
+
+
+main(*sys.argv[1:])

@@ -1,0 +1,9 @@
+use Rattle.std.proofs.Common.{◌≡◌, All, vec_len}
+use Rattle.shfl_workers.specs.Stages.{directory_for}
+use Rattle.shfl_workers.proofs.run.directories_for.Given as goal
+
+abbrev pub invariant-loop-number : goal.invariant-loop-number
+invariant-loop-number l = record {
+  len : vec_len l.dirs ≡ l.number;
+  all : All (λ d. d ≡ directory_for l.trace) l.dirs.items;
+}

@@ -1,0 +1,10 @@
+pub mod Calm
+pub mod Counted
+pub mod Kept
+pub mod Mapped
+pub mod Quiet
+pub mod Running
+pub mod Scheduled
+pub mod Settled
+pub mod Still
+pub mod Turned

@@ -1,0 +1,13 @@
+pub mod Advices
+pub mod Clock
+pub mod Counts
+pub mod Draws
+pub mod Laws
+pub mod Lines
+pub mod Places
+pub mod Steps
+pub mod Openings
+pub mod Runs
+pub mod Sums
+pub mod Turns
+pub mod Calls

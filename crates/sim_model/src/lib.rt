@@ -1,0 +1,31 @@
+//! What a policy buys on a machine with many sockets, foretold: the proved lock under a defined cost of every access.
+#![tactic(auto)]
+
+mod adviser;
+mod bench;
+mod built_in;
+mod calls;
+mod clock;
+mod counts;
+mod draws;
+mod laws;
+mod lines;
+mod locks;
+mod places;
+mod run;
+mod setup;
+mod steps;
+#[cfg(test)]
+mod tests;
+mod turns;
+mod waiter;
+
+pub use adviser::{Advice, Adviser};
+pub use bench::Bench;
+pub use built_in::BuiltIn;
+pub use counts::{Counts, Order, Reaches, Served};
+pub use laws::{polls_change_nothing, runs_are_schedules, sums_agree, times_never_fall};
+pub use lines::{Line, Reach};
+pub use run::{Run, simulate};
+pub use setup::{Core, Costs, Layout, Setup, Work, cores_of};
+pub use turns::{Stand, Turn};

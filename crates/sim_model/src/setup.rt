@@ -1,0 +1,171 @@
+//! What a run is set up with: what an access costs, what the passes do, and on which cores they run.
+ghost use Rattle.std.specs.Prelude.{◌≡◌, ◌<◌, ◌≤◌, ◌^◌, length};
+ghost use Rattle.sim_model.specs.Openings as openings;
+
+use shfl_core::Rules;
+use shfl_line::Attr;
+
+/// The most passes that a lock has.
+pub const PASSES: usize = 64;
+
+/// What each part of a step costs, in ticks; by convention a tick is a nanosecond.
+#[derive(Clone, Copy, Drop)]
+pub struct Costs {
+    /// An access to a line that the core has.
+    pub hit: u32,
+    /// One to a line that another core of the socket has.
+    pub near: u32,
+    /// One to a line that only other sockets have.
+    pub far: u32,
+    /// How long a line that was lent to be read can't be lent again.
+    pub port: u32,
+    /// What an access that isn't a load costs besides.
+    pub atomic: u32,
+    /// What a step costs besides its access.
+    pub local: u32,
+    /// A question to the policy.
+    pub ask: u32,
+    /// One instruction of a policy's program.
+    pub insn: u32,
+    /// From a pass's decision to park until it can be woken.
+    pub park: u32,
+    /// What waking costs the pass that wakes.
+    pub wake: u32,
+    /// From waking until the woken pass runs.
+    pub rise: u32,
+}
+
+/// What each pass does over and over.
+#[derive(Clone, Copy, Drop)]
+pub struct Work {
+    /// For how many ticks it holds the lock, its accesses to the data not counted.
+    pub hold: u32,
+    /// How many lines of data it touches under the lock.
+    pub lines: u32,
+    /// The middle of the ticks between two calls.
+    pub think: u32,
+    /// Of a thousand calls how many read, in a form with readers.
+    pub reads: u32,
+}
+
+/// Which words share a cache line.
+#[derive(Clone, Copy, Drop)]
+pub enum Layout {
+    /// Each has a line of its own.
+    Padded,
+    /// The lock word and the tail word share one.
+    Joined,
+    /// Eight words a line: lock and tail, and then the four words of each pass.
+    Packed,
+}
+
+/// The core on which a pass runs. A set of cores is a number with a bit for each.
+#[derive(Clone, Copy, Drop)]
+pub struct Core {
+    /// The attributes of its pass; the socket is one of them.
+    pub attr: Attr,
+    /// The set of this core.
+    pub own: u64,
+    /// The other cores of its socket.
+    pub peers: u64,
+    /// The cores of other sockets.
+    pub strangers: u64,
+}
+
+/// What a run is set up with.
+#[derive(Clone, Copy, Drop)]
+pub struct Setup {
+    pub rules: Rules,
+    pub layout: Layout,
+    pub costs: Costs,
+    pub work: Work,
+    /// The last tick of the run.
+    pub until: u64,
+    pub seed: u64,
+    /// How many passes there are, 1 to 64.
+    pub passes: u32,
+    pub cores: [Core; PASSES],
+}
+
+const NO_CORE: Core = Core {
+    attr: Attr {
+        socket: 0,
+        prio: 0,
+        class: 0,
+        kind: 0,
+    },
+    own: 0,
+    peers: 0,
+    strangers: 0,
+};
+
+/// The set of one core.
+pub fn core_bit(core: usize) -> u64
+    requires { core < 64 }
+    ensures { result ≡ 2 ^ core }
+{
+    1 << core
+}
+
+fn attr_at(attrs: &[Attr], pass: usize) -> Attr
+    requires { pass < length attrs.now }
+    ensures { result ≡ openings.attr_at attrs.now pass }
+{
+    attrs[pass]
+}
+
+fn is_wanted(same: bool, alike: bool) -> bool
+    ensures { result ≡ openings.is_wanted same alike }
+{
+    if same { alike } else { !alike }
+}
+
+// Whether it is another core, and its socket the pass's or isn't.
+fn is_beside(attrs: &[Attr], pass: usize, same: bool, other: usize) -> bool
+    requires pass { pass < length attrs.now }
+    requires other { other < length attrs.now }
+    ensures { result ≡ openings.is_beside attrs.now pass same other }
+{
+    let alike = attr_at(attrs, other).socket == attr_at(attrs, pass).socket;
+    other != pass && is_wanted(same, alike)
+}
+
+// The set of the other cores whose socket is that of the pass, or isn't.
+fn others(attrs: &[Attr], pass: usize, same: bool) -> u64
+    requires pass { pass < length attrs.now }
+    requires few { length attrs.now ≤ 64 }
+    ensures { result ≡ openings.others attrs.now pass same (length attrs.now) }
+{
+    let mut set = 0u64;
+    for other in 0..attrs.len() {
+        if is_beside(attrs, pass, same, other) {
+            set |= core_bit(other);
+        }
+    }
+    set
+}
+
+fn core_of(attrs: &[Attr], pass: usize) -> Core
+    requires pass { pass < length attrs.now }
+    requires few { length attrs.now ≤ 64 }
+    ensures { result ≡ openings.core_of attrs.now pass }
+{
+    Core {
+        attr: attr_at(attrs, pass),
+        own: core_bit(pass),
+        peers: others(attrs, pass, true),
+        strangers: others(attrs, pass, false),
+    }
+}
+
+/// The cores of passes with these attributes.
+pub fn cores_of(attrs: &[Attr]) -> [Core; PASSES]
+    requires few { length attrs.now ≤ 64 }
+    ensures { result ≡ openings.cores_below attrs.now (length attrs.now) }
+{
+    let mut cores = [NO_CORE; PASSES];
+    for pass in 0..attrs.len() {
+        cores[pass] = core_of(attrs, pass);
+    }
+    cores
+}
