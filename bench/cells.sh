@@ -1,14 +1,12 @@
 #!/usr/bin/env bash
-# Times calls of a counter and of a directory behind the lock beside a pthread_mutex_t, a pthread_rwlock_t and an MCS lock, side by side.
-# Not a part of the gate. It needs a C compiler and Debian's libck-dev. Words: MILLIS (of each contended run of the peers, 1000 as given) and
-# then the parts to run: free, held, counter, many, reads; as given, all. The crates are proved and built before, in a folder that is
-# removed at the end; with CELLS_ROOM set, in that folder, which stays, so that a later run of one part builds nothing. Ours is the best of
-# twenty rounds of 65,536 calls (reads: 64,000), the peers' the mean of one run.
+# Times calls of a counter behind the lock beside a pthread_mutex_t and an MCS lock, side by side.
+# Not a part of the gate. It needs a C compiler and Debian's libck-dev. Words: the parts to run:
+# free, held, counter, many; as given, all. The crates are proved and built before, in a folder that is
+# removed at the end; with CELLS_ROOM set, in that folder, which stays, so that a later run of one part builds nothing. Each
+# figure of several threads is the best of twenty rounds of 65,536 calls, ours and theirs.
 set -u
 top="$(cd "$(dirname "$(readlink -f "${BASH_SOURCE[0]}")")/.." && pwd)"
-millis="${1:-1000}"
-[ "$#" -gt 0 ] && shift
-[ "$#" -gt 0 ] || set -- free held counter many reads
+[ "$#" -gt 0 ] || set -- free held counter many
 room="${CELLS_ROOM:-}"
 if [ -z "$room" ]; then
     room="$(mktemp -d)"
@@ -16,21 +14,19 @@ if [ -z "$room" ]; then
 fi
 mkdir -p "$room"
 . "$top/tests/cell-program.sh"
-peers="$room/peers" cells="$room/cells" reads="$room/reads"
-if ! [ -x "$reads" ]; then
+peers="$room/peers" cells="$room/cells"
+if ! [ -x "$cells" ]; then
     cc -O2 -pthread -o "$peers" "$top/bench/peers.c" || exit 1
     built="$(cell_program "$top" "$room" shfl_cell "$top/bench/cells.rt.txt" work work_by_tries)" || exit 1
     cp "$built" "$cells"
-    built="$(cell_program "$top" "$room" rw_cell "$top/bench/reads.rt.txt" fill read_often)" || exit 1
-    cp "$built" "$reads"
 fi
 
 # about 1 us of dependent multiplications
 if ! [ -s "$room/free" ]; then "$peers" free >"$room/free"; fi
 times="$(awk '/^100 multiplications/ { printf "%d", 100000 / $3 }' "$room/free")"
 
-# nanoseconds a call, from the peers' gains a second
-peer() { echo "$1: $("$peers" "$1" "$2" "$3" "$millis" | awk '{ printf "%.1f ns a call", 1e9 / $1 }')"; }
+# nanoseconds a call, of as many calls by peers and by ours, with the threads' start and end
+peer() { echo "$1: $("$peers" "$1" "$2" "$3" gains 65536 | sed 's/gain/call/')"; }
 ours() { echo "ours, $1: $("$cells" apply "$1" "$2" "$3")"; }
 
 for part; do
@@ -57,11 +53,6 @@ for part; do
             peer mutex 16 "$load"
             ours park 16 "$load"
         done
-        ;;
-    reads)
-        echo '4 threads that read a directory of 1,000 names'
-        peer directory 4 0
-        for form in rw rw-park; do echo "ours, $form: $("$reads" "$form")"; done
         ;;
     esac
 done
