@@ -2,7 +2,10 @@
  * libck-dev), each on a line of its own. Words:
  *   peers free                          nanoseconds of a round trip with nobody else there
  *   peers LOCK THREADS WORK MILLIS      gains a second by so many threads; WORK is the number of multiplications in a hold, and as
- *                                       many stand between two holds; LOCK is mutex, mcs or rwlock (readers alone)
+ *                                       many stand between two holds; LOCK is mutex, mcs, rwlock (readers alone) or directory
+ *                                       (readers alone, who each time look a name of 1,000 up in one sorted table)
+ *   peers LOCK THREADS WORK gains N     nanoseconds a gain, of N gains by so many threads together, the best of twenty rounds, each with
+ *                                       its threads' start and end
  *   peers has-mcs                       status 0 where the MCS lock was built in
  * Build: cc -O2 -pthread -o peers peers.c */
 #define _GNU_SOURCE
@@ -31,6 +34,7 @@ static _Alignas(LINE) ck_spinlock_mcs_t mcs = CK_SPINLOCK_MCS_INITIALIZER;
 static _Alignas(LINE) uint64_t counter;
 static _Alignas(LINE) atomic_int stop;
 static uint64_t multiplications;
+static uint64_t enough = UINT64_MAX; /* gains of a thread */
 static char which;
 
 static double now(void) {
@@ -48,15 +52,30 @@ static uint64_t work(uint64_t x) {
     return x;
 }
 
+#define NAMES 1000
+static struct { uint32_t name, number; } rows[NAMES];
+
+/* the number of a name, by binary search */
+static uint32_t look_up(uint32_t name) {
+    size_t low = 0, high = NAMES;
+    while (low < high) {
+        size_t middle = low + (high - low) / 2;
+        if (rows[middle].name < name) low = middle + 1;
+        else high = middle;
+    }
+    return low < NAMES && rows[low].name == name ? rows[low].number : 0;
+}
+
 struct thread { uint64_t gains, left; char pad[2 * LINE]; };
 
 static void *run(void *at) {
     struct thread *me = at;
     uint64_t x = 1, gains = 0;
+    uint32_t draw = (uint32_t)(uintptr_t)at;
 #if HAS_MCS
     _Alignas(LINE) struct ck_spinlock_mcs node;
 #endif
-    while (!atomic_load_explicit(&stop, memory_order_relaxed)) {
+    while (gains < enough && !atomic_load_explicit(&stop, memory_order_relaxed)) {
         switch (which) {
         case 'u':
             pthread_mutex_lock(&mutex.lock);
@@ -72,6 +91,12 @@ static void *run(void *at) {
             ck_spinlock_mcs_unlock(&mcs, &node);
             break;
 #endif
+        case 'd':
+            draw = draw * 1664525u + 1013904223u;
+            pthread_rwlock_rdlock(&rwlock.lock);
+            x += look_up(draw / 65536 % NAMES);
+            pthread_rwlock_unlock(&rwlock.lock);
+            break;
         default:
             pthread_rwlock_rdlock(&rwlock.lock);
             x = work(x);
@@ -96,6 +121,21 @@ static void contended(int threads, int millis) {
     uint64_t sum = 0;
     for (int i = 0; i < threads; i++) { pthread_join(ids[i], 0); sum += all[i].gains; }
     printf("%.0f gains a second\n", (double)sum * 1e9 / (now() - start));
+}
+
+static void counted(int threads, uint64_t gains) {
+    struct thread all[64];
+    pthread_t ids[64];
+    double best = 1e18;
+    enough = gains / (uint64_t)threads;
+    for (int round = 0; round < 20; round++) {
+        double start = now();
+        for (int i = 0; i < threads; i++) pthread_create(&ids[i], 0, run, &all[i]);
+        for (int i = 0; i < threads; i++) pthread_join(ids[i], 0);
+        double time = now() - start;
+        if (time < best) best = time;
+    }
+    printf("%.1f ns a gain\n", best / (double)gains);
 }
 
 /* the best of several rounds */
@@ -139,9 +179,12 @@ static void alone(void) {
 int main(int n, char **w) {
     if (n == 2 && !strcmp(w[1], "free")) { alone(); return 0; }
     if (n == 2 && !strcmp(w[1], "has-mcs")) return !HAS_MCS;
-    if (n != 5 || (!HAS_MCS && !strcmp(w[1], "mcs"))) return 2;
-    which = !strcmp(w[1], "mutex") ? 'u' : !strcmp(w[1], "mcs") ? 'c' : 'r';
+    int counts = n == 6 && !strcmp(w[4], "gains");
+    if ((n != 5 && !counts) || (!HAS_MCS && !strcmp(w[1], "mcs"))) return 2;
+    which = !strcmp(w[1], "mutex") ? 'u' : !strcmp(w[1], "mcs") ? 'c' : !strcmp(w[1], "directory") ? 'd' : 'r';
+    for (uint32_t i = 0; i < NAMES; i++) { rows[i].name = i; rows[i].number = i + 1; }
     multiplications = strtoull(w[3], 0, 10);
-    contended(atoi(w[2]), atoi(w[4]));
+    if (counts) counted(atoi(w[2]), strtoull(w[5], 0, 10));
+    else contended(atoi(w[2]), atoi(w[4]));
     return 0;
 }

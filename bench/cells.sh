@@ -1,0 +1,58 @@
+#!/usr/bin/env bash
+# Times calls of a counter behind the lock beside a pthread_mutex_t and an MCS lock, side by side.
+# Not a part of the gate. It needs a C compiler and Debian's libck-dev. Words: the parts to run:
+# free, held, counter, many; as given, all. The crates are proved and built before, in a folder that is
+# removed at the end; with CELLS_ROOM set, in that folder, which stays, so that a later run of one part builds nothing. Each
+# figure of several threads is the best of twenty rounds of 65,536 calls, ours and theirs.
+set -u
+top="$(cd "$(dirname "$(readlink -f "${BASH_SOURCE[0]}")")/.." && pwd)"
+[ "$#" -gt 0 ] || set -- free held counter many
+room="${CELLS_ROOM:-}"
+if [ -z "$room" ]; then
+    room="$(mktemp -d)"
+    trap 'rm -rf "$room"' EXIT
+fi
+mkdir -p "$room"
+. "$top/tests/cell-program.sh"
+peers="$room/peers" cells="$room/cells"
+if ! [ -x "$cells" ]; then
+    cc -O2 -pthread -o "$peers" "$top/bench/peers.c" || exit 1
+    built="$(cell_program "$top" "$room" shfl_cell "$top/bench/cells.rt.txt" work work_by_tries)" || exit 1
+    cp "$built" "$cells"
+fi
+
+# about 1 us of dependent multiplications
+if ! [ -s "$room/free" ]; then "$peers" free >"$room/free"; fi
+times="$(awk '/^100 multiplications/ { printf "%d", 100000 / $3 }' "$room/free")"
+
+# nanoseconds a call, of as many calls by peers and by ours, with the threads' start and end
+peer() { echo "$1: $("$peers" "$1" "$2" "$3" gains 65536 | sed 's/gain/call/')"; }
+ours() { echo "ours, $1: $("$cells" apply "$1" "$2" "$3")"; }
+
+for part; do
+    case "$part" in
+    free)
+        echo 'Nobody else there'
+        "$peers" free | tee "$room/free" | grep -v multiplications
+        echo "ours, try_apply: $("$cells" try spin 1 0)"
+        echo "ours, apply: $("$cells" apply spin 1 0)"
+        ;;
+    held)
+        echo "4 threads, about 1 us with the lock held and as much between ($times multiplications)"
+        peer mutex 4 "$times"
+        for form in spin park; do ours "$form" 4 "$times"; done
+        ;;
+    counter)
+        echo '4 threads, a counter'
+        for lock in mutex mcs; do peer "$lock" 4 0; done
+        for form in spin park; do ours "$form" 4 0; done
+        ;;
+    many)
+        for load in 0 "$times"; do
+            echo "16 threads, $load multiplications with the lock held and as many between"
+            peer mutex 16 "$load"
+            ours park 16 "$load"
+        done
+        ;;
+    esac
+done
