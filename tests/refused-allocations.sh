@@ -18,6 +18,8 @@ cc -O1 -shared -fPIC -o "$got/refuse.so" -x c - <<'C' || exit 1
 #include <stdatomic.h>
 #include <stdio.h>
 #include <stdlib.h>
+#include <sys/syscall.h>
+#include <unistd.h>
 void *__libc_malloc(size_t);
 void *__libc_realloc(void *, size_t);
 static atomic_long count;
@@ -31,10 +33,13 @@ static int refused(void) {
 }
 void *malloc(size_t size) { return refused() ? 0 : __libc_malloc(size); }
 void *realloc(void *old, size_t size) { return refused() ? 0 : __libc_realloc(old, size); }
-static void __attribute__((destructor)) tell(void) {
+/* the program ends by this call, which runs no destructor */
+void _exit(int status) {
     char *at = getenv("REFUSE");
     long all = count;
     if (at && !atol(at)) fprintf(stderr, "%ld\n", all);
+    syscall(SYS_exit_group, status);
+    __builtin_unreachable();
 }
 C
 
