@@ -1,13 +1,11 @@
 """Makes the traces of workers.sh, compares what the programs write, and times them. Words: FOLDER PROGRAM."""
 import os
-import resource
 import subprocess
 import sys
 import time
 
 
 def run(words, text=None):
-    before = resource.getrusage(resource.RUSAGE_CHILDREN)
     begun = time.perf_counter()
     source = open(text, "rb") if text else subprocess.DEVNULL
     done = subprocess.Popen(words, stdin=source, stdout=subprocess.PIPE)
@@ -16,7 +14,6 @@ def run(words, text=None):
     done.returncode = os.waitstatus_to_exitcode(status)
     wall = time.perf_counter() - begun
     assert done.returncode == 0, (words, done.returncode)
-    del before
     return wall, used.ru_utime + used.ru_stime, used.ru_maxrss / 1024, said
 
 
@@ -45,7 +42,7 @@ def main(folder, program):
             row(f"bulk {' '.join(words)}, {name}", ours, theirs)
     long = f"{folder}/long.trace"
     with open(long, "w") as out:
-        out.write(head(1) + "".join(f"0 make 5 {'x' * 240}{n * 40503 % 65536:06}\n" for n in range(65536)))
+        out.write(head(1) + "".join(f"0 make 5 {'x' * 236}{n * 40503 % 65536:06}\n" for n in range(65536)))
     ours, theirs = best([program, "replay"], long), best([f"{folder}/serial"], long)
     assert ours[3] == theirs[3]
     row("65,536 long names, serial", ours, theirs)
