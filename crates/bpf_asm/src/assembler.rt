@@ -109,7 +109,8 @@ fn is_half_at(halves: &[bool], place: i64) -> bool
 /// Whether a jump leads into a second half.
 fn leads_into_half(halves: &[bool], slot: usize, offset: Option<i32>) -> bool
     requires { slot ≤ 512 }
-    ensures { (insns : List Insn) → halves.now ≡ map is_half insns → result ≡ into_half insns slot offset }
+    ensures { (insns : List Insn) → halves.now ≡ map is_half insns
+        → result ≡ into_half insns slot offset }
 {
     match offset {
         Some(offset) => is_half_at(halves, slot as i64 + 1 + i64::from(offset)),
@@ -152,7 +153,8 @@ fn fitting(slot: usize, slots: Slots) -> Result<Slots, u8>
 /// Instructions whose jump leads into no second half.
 fn code(halves: &[bool], slot: usize, slots: Slots) -> Result<Slots, u8>
     requires { slot ≤ 512 }
-    ensures { (insns : List Insn) → halves.now ≡ map is_half insns → GivesSlots result (code_at insns slot (slots_held slots)) }
+    ensures { (insns : List Insn) → halves.now ≡ map is_half insns
+        → GivesSlots result (code_at insns slot (slots_held slots)) }
 {
     if leads_into_half(halves, slot, first_jump(slots)) {
         return Err(INTO_HALF);

@@ -119,7 +119,8 @@ fn push_wide(out: &mut Vec<u8>, dst: u8, low: i32, high: i32) -> Result<(), Allo
 }
 
 fn push_goto(out: &mut Vec<u8>, name: &[u8], off: i32) -> Result<(), AllocError>
-    ensures { OnOk result (out.new.items ≡ out.old.items ++ ended (spaced (name.now ∷ signed_decimal off ∷ []))) }
+    ensures { OnOk result (out.new.items
+        ≡ out.old.items ++ ended (spaced (name.now ∷ signed_decimal off ∷ []))) }
 {
     out.extend_from_slice(name)?;
     push_number(out, off)?;
@@ -134,7 +135,8 @@ fn push_jump(
     src: Operand,
     off: i16,
 ) -> Result<(), AllocError>
-    ensures { OnOk result (out.new.items ≡ out.old.items ++ line_text (insn.Jump width cond dst src off)) }
+    ensures { OnOk result (out.new.items
+        ≡ out.old.items ++ line_text (insn.Jump width cond dst src off)) }
 {
     push_sized(out, condition(cond), width)?;
     push_register(out, dst)?;
@@ -157,7 +159,8 @@ fn push_mov_signed(
     dst: u8,
     src: u8,
 ) -> Result<(), AllocError>
-    ensures { OnOk result (out.new.items ≡ out.old.items ++ line_text (insn.MovSigned width bits dst src)) }
+    ensures { OnOk result (out.new.items
+        ≡ out.old.items ++ line_text (insn.MovSigned width bits dst src)) }
 {
     push_sized(out, b"movsx", width)?;
     push_natural(out, u64::from(bits))?;

@@ -49,7 +49,8 @@ fn is_before(declared: &Declared<'_>, key: u64, name: &[u8]) -> bool
 /// The mark of a name among declarations in order.
 pub fn mark_named(names: &[Declared<'_>], name: &[u8]) -> Option<Mark>
     requires { AreInOrder names.now }
-    ensures { (marked : List ℕ → Option Mark) → AreMarks names.now marked → result ≡ marked name.now }
+    ensures { (marked : List ℕ → Option Mark) → AreMarks names.now marked
+        → result ≡ marked name.now }
 {
     let key = key_of(name);
     let mut low = 0;

@@ -1,22 +1,31 @@
 //! A report as an SVG picture: time downwards, and across it the holders, the detached waiter and the queue.
 use crate::changes::{is_same_state, quiet_state};
+use crate::marks::has_readers;
 use crate::masks::{has_pass, passes_of, with_pass, without_pass};
 use crate::pieces::around_colon;
 use crate::report::{Event, Report, Row};
 use crate::shapes::{push_box, push_frame, push_head, push_label};
 use doc_text::{is_same, number};
+use itoa::Buffer;
+use shfl_line::Form;
 use std::alloc::{AllocError, Global};
 
-/// The left ends of the parts of a row, and the width of the whole, in pixels.
+/// The left ends of the parts of a row, and the width of the whole, in pixels. The count of readers is shown in the forms that
+/// have readers.
 #[derive(Clone, Copy)]
 struct Layout {
+    readers: Option<u64>,
+    holders: u64,
     detached: u64,
     queue: u64,
     width: u64,
 }
 
-/// The left end of the holders.
-const HOLDERS: u64 = 236;
+/// The left end of what stands behind the lock word's marks.
+const MARKS_END: u64 = 236;
+
+/// The width of the count of readers.
+const READERS: u64 = 60;
 
 fn behind_boxes(start: u64, boxes: u64) -> u64 {
     start.saturating_add(boxes.saturating_mul(30))
@@ -27,19 +36,26 @@ fn count_parts(column: &[u8]) -> u64 {
     (commas as u64).saturating_add(1)
 }
 
-fn layout_of(rows: &[Row<'_>]) -> Layout {
-    let mut holders = 2;
-    let mut waiters = 1;
+fn layout_of(form: Form, rows: &[Row<'_>]) -> Layout {
+    let mut most_holders = 2;
+    let mut most_waiters = 1;
     for row in rows {
-        holders = count_parts(row.state.holders).max(holders);
-        waiters = count_parts(row.state.queue).max(waiters);
+        most_holders = count_parts(row.state.holders).max(most_holders);
+        most_waiters = count_parts(row.state.queue).max(most_waiters);
     }
-    let detached = behind_boxes(HOLDERS, holders).saturating_add(20);
+    let (readers, holders) = if has_readers(form) {
+        (Some(MARKS_END), MARKS_END + READERS)
+    } else {
+        (None, MARKS_END)
+    };
+    let detached = behind_boxes(holders, most_holders).saturating_add(20);
     let queue = behind_boxes(detached, 2).saturating_add(20);
     Layout {
+        readers,
+        holders,
         detached,
         queue,
-        width: behind_boxes(queue, waiters.saturating_add(1)),
+        width: behind_boxes(queue, most_waiters.saturating_add(1)),
     }
 }
 
@@ -70,8 +86,8 @@ fn colour_of(batch: &[u8]) -> &'static [u8] {
 }
 
 /// The holders, from the left.
-fn push_holders(out: &mut Vec<u8>, column: &[u8], y: u64) -> Result<(), AllocError> {
-    let mut x = HOLDERS;
+fn push_holders(out: &mut Vec<u8>, column: &[u8], start: u64, y: u64) -> Result<(), AllocError> {
+    let mut x = start;
     for part in column.split(|b| *b == b',') {
         if let Some((how, pass)) = part.split_first() {
             if !pass.is_empty() {
@@ -127,7 +143,7 @@ fn push_queue(
 }
 
 /// The event, and what the lock word says.
-fn push_event(out: &mut Vec<u8>, row: &Row<'_>, y: u64) -> Result<(), AllocError> {
+fn push_event(out: &mut Vec<u8>, layout: Layout, row: &Row<'_>, y: u64) -> Result<(), AllocError> {
     push_label(out, b"c", 8, y, row.event.number)?;
     push_label(out, b"e", 56, y, row.event.act)?;
     push_label(out, b"e", 98, y, row.event.pass)?;
@@ -139,6 +155,11 @@ fn push_event(out: &mut Vec<u8>, row: &Row<'_>, y: u64) -> Result<(), AllocError
     }
     if row.state.lock.closed {
         push_label(out, b"c", 180, y, b"closed")?;
+    }
+    if let Some(x) = layout.readers {
+        let mut digits = Buffer::new();
+        let count = digits.format(row.state.lock.readers);
+        push_label(out, b"e", x, y, count.as_bytes())?;
     }
     Ok(())
 }
@@ -155,8 +176,8 @@ fn push_row(
     out.extend_from_slice(b"<g><title>")?;
     out.extend_from_slice(row.line)?;
     out.extend_from_slice(b"</title>")?;
-    push_event(out, row, y)?;
-    push_holders(out, row.state.holders, y)?;
+    push_event(out, layout, row, y)?;
+    push_holders(out, row.state.holders, layout.holders, y)?;
     if !is_same(row.state.detached, b"-") {
         push_waiter(
             out,
@@ -177,7 +198,10 @@ fn push_names(out: &mut Vec<u8>, report: &Report<'_>, layout: Layout) -> Result<
     push_label(out, b"e", 8, 8, report.heading)?;
     push_label(out, b"c", 8, 32, b"event")?;
     push_label(out, b"c", 140, 32, b"lock")?;
-    push_label(out, b"c", HOLDERS, 32, b"holders")?;
+    if let Some(x) = layout.readers {
+        push_label(out, b"c", x, 32, b"readers")?;
+    }
+    push_label(out, b"c", layout.holders, 32, b"holders")?;
     push_label(out, b"c", layout.detached, 32, b"detached")?;
     push_label(out, b"c", layout.queue, 32, b"queue")?;
     out.extend_from_slice(b"\n")
@@ -199,7 +223,7 @@ fn count_shown(rows: &[Row<'_>], all: bool) -> u64 {
 /// A report as an SVG picture, with all of its rows or those at which something changes. A row is a group whose title is the
 /// event's line. A reader's box is round, a batch has a colour, the shuffler a red border, and a sleeper is veiled.
 pub fn svg_picture(alloc: Global, report: &Report<'_>, all: bool) -> Result<Vec<u8>, AllocError> {
-    let layout = layout_of(&report.rows);
+    let layout = layout_of(report.form, &report.rows);
     let count = count_shown(&report.rows, all);
     let mut out = Vec::new(alloc);
     push_head(

@@ -109,7 +109,8 @@ pub fn push_heading(
 /// Writes the version, and in version 2 the profile, each word behind a blank.
 #[tactic(auto, using(crate::proofs::Written::joined_rules))]
 pub fn push_version(out: &mut Vec<u8>, version: u8, profile: Profile) -> Result<(), NoMemory>
-    ensures { OnOk result (out.new.items ≡ out.old.items ++ blanked (version_words version profile)) }
+    ensures { OnOk result (out.new.items
+        ≡ out.old.items ++ blanked (version_words version profile)) }
 {
     if version == 1 {
         return push_word(out, b"1");

@@ -37,11 +37,14 @@ impl Model for Registry {
 
     ghost Value = { RegistryId };
 
-    ghost view = { λ r. registry_at r.table.shared.table_id r.table.shared.key.policies.value.items };
+    ghost view = { λ r. registry_at r.table.shared.table_id
+        r.table.shared.key.policies.value.items };
 
-    ghost invariant = { λ r. (r.table.shared.key.policies.value.items ≡ r.declared.items) × (r.table.shared.table_id.words ≡ 1)
+    ghost invariant = { λ r. (r.table.shared.key.policies.value.items ≡ r.declared.items)
+        × (r.table.shared.table_id.words ≡ 1)
         × (r.table.shared.table_id.slots ≡ 0) × (vec_len r.places ≡ 8)
-        × ArePlaces (registry_at r.table.shared.table_id r.table.shared.key.policies.value.items) r.places.items };
+        × ArePlaces (registry_at r.table.shared.table_id r.table.shared.key.policies.value.items)
+        r.places.items };
 }
 
 /// Who alone may publish.
@@ -58,9 +61,13 @@ impl Model for Publisher {
 
     ghost Value = { PublisherModel };
 
-    ghost view = { λ p. record { registry = registry_at p.seat.table_id p.seat.me.0.declared; rows = p.rows.items } };
+    ghost view = { λ p. record {
+      registry = registry_at p.seat.table_id p.seat.me.0.declared;
+      rows = p.rows.items;
+    } };
 
-    ghost invariant = { λ p. (p.seat.me.0.publisher ≡ true) × (p.seat.me.0.spent ≡ false) × (p.seat.me.1 ≡ [])
+    ghost invariant = { λ p. (p.seat.me.0.publisher ≡ true) × (p.seat.me.0.spent ≡ false)
+        × (p.seat.me.1 ≡ [])
         × (p.seat.me.0.words ≡ words_of p.rows.items) × AreRows p.rows.items
         × (vec_len p.rows ≤ 4096) × (4096 ≤ vec_capacity p.rows) };
 }
@@ -87,7 +94,8 @@ impl Model for VersionPass {
       is_open = p.is_open;
     } };
 
-    ghost invariant = { λ p. (p.seat.me.0.publisher ≡ false) × (p.seat.me.0.spent ≡ false) × (p.seat.me.1 ≡ []) };
+    ghost invariant = { λ p. (p.seat.me.0.publisher ≡ false) × (p.seat.me.0.spent ≡ false)
+        × (p.seat.me.1 ≡ []) };
 }
 
 /// A policy that is held while it is used: its place isn't filled before `leave`. It can't outlive its registry.

@@ -3,6 +3,7 @@
 
 mod asked;
 mod error;
+mod laws;
 mod loading;
 mod policy;
 mod running;
@@ -10,6 +11,7 @@ mod same;
 
 pub use asked::context;
 pub use error::{Hook, LoadError, ProgramFault};
+pub use laws::a_loaded_program_is_its_bytes;
 pub use loading::load;
 pub use policy::Policy;
 pub use policy_source::PolicySource;

@@ -18,7 +18,8 @@ fn load_program(
     source: &Option<Vec<u8>>,
 ) -> Result<Option<Program>, LoadError>
     ensures loaded { IfOk result (Loads profile (option_map (λ v. v.items) source.now)) }
-    ensures bad { IfErr result (IsProgramError profile hook (option_map (λ v. v.items) source.now)) }
+    ensures bad { IfErr result (IsProgramError profile hook
+        (option_map (λ v. v.items) source.now)) }
 {
     let Some(bytes) = source else {
         return Ok(None);

@@ -1,5 +1,6 @@
 //! A policy: a name and two programs.
-ghost use Rattle.std.specs.Prelude.{◌≡◌, ◌↔◌, IsTrue, IfOk};
+ghost use Rattle.std.specs.Prelude.{◌≡◌, ◌↔◌, IsTrue, IfOk, IfSome};
+ghost use Rattle.bpf_verifier.specs.Acceptance.{IsProgram};
 
 use crate::running::Running;
 use crate::same::same_insns;
@@ -34,6 +35,14 @@ fn same_program(a: &Option<Program>, b: &Option<Program>) -> bool
     }
 }
 
+fn program_is_accepted(program: &Option<Program>)
+    ensures { IfSome program.now IsProgram }
+{
+    if let Some(program) = program {
+        let _ = program.insns();
+    }
+}
+
 fn copy_program(alloc: Global, program: &Option<Program>) -> Result<Option<Program>, NoMemory>
     ensures { IfOk result (λ copy. copy ≡ program.now) }
 {
@@ -47,11 +56,21 @@ fn copy_program(alloc: Global, program: &Option<Program>) -> Result<Option<Progr
 }
 
 impl Policy {
+    ghost use Rattle.shfl_policy.specs.Policies.{AreAccepted};
+
     /// A policy of these programs.
     pub fn new(name: u32, should: Option<Program>, skip: Option<Program>) -> Policy
         ensures { result ≡ record { name = name; should = should; skip = skip } }
     {
         Policy { name, should, skip }
+    }
+
+    /// What holds of every policy, however it came to be; the call does nothing when it runs.
+    pub fn is_accepted(&self)
+        ensures { AreAccepted self.now }
+    {
+        program_is_accepted(&self.should);
+        program_is_accepted(&self.skip);
     }
 
     /// The name that it was loaded with.

@@ -80,7 +80,8 @@ fn form_due(bytes: &[u8], line: u32) -> Result<(Form, &[u8]), Fault>
 
 #[tactic(auto, unfolding(doc_text::specs::Faults::one_of))]
 fn limit_due(bytes: &[u8], line: u32) -> Result<(u16, &[u8]), Fault>
-    ensures { Gives (λ x. (x.0, pieces x.1.now)) result (one_of line 4 limit_in (pieces bytes.now)) }
+    ensures { Gives (λ x. (x.0, pieces x.1.now)) result
+        (one_of line 4 limit_in (pieces bytes.now)) }
 {
     let (text, rest) = line_due(bytes, line, 4)?;
     let limit = or_fault(limit_of(text), line, 4)?;

@@ -50,5 +50,13 @@ impl Model for Schedule {
 
     ghost Value = { ScheduleModel };
 
-    ghost view = { λ s. record { version = s.version; profile = s.profile; form = s.form; limit = s.limit; rule = s.rule; passes = s.passes.items; events = s.events.items } };
+    ghost view = { λ s. record {
+      version = s.version;
+      profile = s.profile;
+      form = s.form;
+      limit = s.limit;
+      rule = s.rule;
+      passes = s.passes.items;
+      events = s.events.items;
+    } };
 }

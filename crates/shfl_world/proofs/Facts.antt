@@ -17,6 +17,7 @@ use Rattle.shfl_core.specs.ShownLine.{shown_line}
 use Rattle.shfl_core.specs.Lawful.{count}
 use Rattle.shfl_core.specs.Runner.{Lock}
 use Rattle.shfl_laws.specs.Headline.{Headline}
+use Rattle.shfl_laws.specs.Shows.{ShowsPlainly}
 use Rattle.shfl_laws.proofs.Leasts.{each-long}
 use Rattle.shfl_laws.proofs.Headline.{headline}
 use Rattle.shfl_laws.proofs.Laws.{laws}
@@ -24,6 +25,7 @@ use Rattle.shfl_laws.proofs.MeasureRounds.{rounds-short}
 use Rattle.shfl_laws.proofs.Leave.{link-room}
 use Rattle.shfl_laws.proofs.NextRows.{queued-below}
 use Rattle.shfl_laws.proofs.Order
+use Rattle.shfl_laws.proofs.Plain.{plain-law}
 use Rattle.shfl_laws.proofs.ShownLine.{shown-line-law}
 use Rattle.shfl_laws.proofs.WellFormed.{agrees-well-formed}
 use Rattle.shfl_world.specs.LawfulLock.{terms_of, IsLawfulLock, RoundsAreShort}
@@ -65,6 +67,10 @@ module _ (lock : Lock) (ok : IsLawfulLock lock) where
 
   pub plainly : Headline lock.rules.limit lock.world (shown_line lock.world).line (shown_line lock.world).hand
   plainly = subst (λ (l : Line). Headline lock.rules.limit lock.world l.line l.hand) shown-is (headline (terms_of lock) lock.world ok)
+
+  pub word-for-word : ShowsPlainly (length lock.world.passes) lock.world (shown_line lock.world)
+  word-for-word = subst (λ k. ShowsPlainly k lock.world (shown_line lock.world)) (sym full)
+      (subst (λ (l : Line). ShowsPlainly (count (terms_of lock)) lock.world l) shown-is (plain-law (terms_of lock) lock.world ok).shows)
 
   ordered : Ordered (view lock.world) s ok.giver
   ordered = subst (λ (l : Line). Ordered (view lock.world) l ok.giver) shown-is ok.agrees.order

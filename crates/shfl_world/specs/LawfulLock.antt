@@ -13,6 +13,7 @@ use Rattle.shfl_core.specs.Runner.{Lock, moved}
 use Rattle.shfl_laws.specs.Moves.{MayMove, EachMayMove, move_event}
 use Rattle.shfl_laws.specs.Rounds.{is_own, round_steps}
 use Rattle.shfl_laws.specs.Headline.{Headline}
+use Rattle.shfl_laws.specs.Shows.{ShowsPlainly}
 
 -- what the lock's opening fixed: its rules, and the attribute word of each pass
 abbrev pub terms_of : Lock → Terms
@@ -35,6 +36,11 @@ ShowsWellFormed lock = IsWellFormed lock.rules.limit (shown_by lock)
 -- the plain words hold, with the line and the detached waiter that the lock shows
 abbrev pub ShowsHeadline : Lock → Type 0
 ShowsHeadline lock = Headline lock.rules.limit lock.world (shown_by lock).line (shown_by lock).hand
+
+-- the shown state is the world's, word for word: who holds and in which mode, the count of readers, the line and the
+-- detached waiter, who shuffles, and each pass's batch number
+abbrev pub ShowsItsWorld : Lock → Type 0
+ShowsItsWorld lock = ShowsPlainly (length lock.world.passes) lock.world (shown_by lock)
 
 -- what the line shows of a move: a step's own event, and nothing of any other move
 abbrev pub line_event : Lock → Move → LineEvent

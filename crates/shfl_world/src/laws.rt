@@ -2,7 +2,7 @@
 ghost use Rattle.shfl_core.specs.Runner.{Lock};
 ghost use Rattle.shfl_core.specs.Worlds.{Move};
 ghost use Rattle.shfl_laws.specs.Moves.{MayMove};
-ghost use Rattle.shfl_world.specs.LawfulLock.{IsLawfulLock, ShowsWellFormed, ShowsHeadline};
+ghost use Rattle.shfl_world.specs.LawfulLock.{IsLawfulLock, ShowsWellFormed, ShowsHeadline, ShowsItsWorld};
 ghost use Rattle.shfl_world.specs.LawfulLock.{MovesLawfully, RoundsAreShort};
 
 /// The shown state is well formed, and is what the plain words say: who holds, who waits where, and
@@ -10,6 +10,7 @@ ghost use Rattle.shfl_world.specs.LawfulLock.{MovesLawfully, RoundsAreShort};
 pub fn what_a_world_shows()
     ensures well_formed { (lock : Lock) → IsLawfulLock lock → ShowsWellFormed lock }
     ensures headline { (lock : Lock) → IsLawfulLock lock → ShowsHeadline lock }
+    ensures world { (lock : Lock) → IsLawfulLock lock → ShowsItsWorld lock }
 {}
 
 /// An acquire, a release or a step of any pass, with any answer of the policy, keeps the lock lawful;

@@ -4,7 +4,7 @@ ghost use Rattle.shfl_core.specs.Runner.{opened};
 ghost use Rattle.shfl_core.specs.Waiting.{MakesIdle, rules};
 ghost use Rattle.shfl_line.specs.Line.{empty};
 ghost use Rattle.shfl_line.specs.declared.events.Form.{Form};
-ghost use Rattle.shfl_world.specs.LawfulLock.{IsLawfulLock, ShowsWellFormed, ShowsHeadline};
+ghost use Rattle.shfl_world.specs.LawfulLock.{IsLawfulLock, ShowsWellFormed, ShowsHeadline, ShowsItsWorld};
 ghost use Rattle.shfl_world.specs.LawfulLock.{RoundsAreShort};
 ghost use Rattle.shfl_world.specs.LawfulLock.{shown_by, terms_of};
 ghost use Rattle.shfl_laws.specs.Moves.{terms};
@@ -66,6 +66,7 @@ impl<W: Waiter> World<W> {
         ensures lawful { IsLawfulLock self.now }
         ensures well_formed { ShowsWellFormed self.now }
         ensures headline { ShowsHeadline self.now }
+        ensures world { ShowsItsWorld self.now }
         ensures rounds { RoundsAreShort self.now }
     {
         let _ = &self.plain;

@@ -1,7 +1,7 @@
 //! Sinks over memory.
 ghost use Rattle.std.specs.Prelude.{◌≡◌, ◌<◌, ◌≤◌, ◌+◌, ◌↔◌, ◌⊎◌, ◌++◌, List, [], length, take, min, vec_len, vec_capacity, Some, None, Contains, Ok, false, IfOk, IsErr, IsTrue, if◌then◌else◌};
 ghost use Rattle.std.specs.Io.{WritesAtMost};
-ghost use Rattle.syn_outer.specs.Causes.{HasCause, raised};
+ghost use Rattle.syn_outer.specs.Causes.{HasCause, raised, counted_faults};
 ghost use Rattle.syn_outer.specs.Bytes.{TookFront, KeepsWhatFits};
 
 use crate::NoMemory;
@@ -81,6 +81,11 @@ impl Sink for MemSink {
         ensures fails { IsErr result ↔ (Contains self.old.fails.items (raised self.old.calls)
             ⊎ (self.old.room < vec_len self.old.bytes + min (length bytes.now) self.old.piece)) }
         ensures count { IfOk result (λ n. n ≡ min (length bytes.now) self.old.piece) }
+        // What it leaves: its room, its piece and the chosen calls stay.
+        ensures kept { (self.new.room ≡ self.old.room) × (self.new.piece ≡ self.old.piece)
+            × (self.new.fails ≡ self.old.fails) }
+        ensures calls { self.new.calls ≡ raised self.old.calls }
+        ensures faults { self.new.faults ≡ counted_faults self.old.faults result }
     {
         self.calls = self.calls.saturating_add(1);
         let count = bytes.len().min(self.piece);
@@ -144,6 +149,7 @@ impl Sink for SureSink {
         ensures kept { KeepsWhatFits self.old.bytes.items self.new.bytes.items self.old.room bytes.now }
         ensures lost { IsTrue self.new.lost ↔ (IsTrue self.old.lost
             ⊎ (self.old.room < vec_len self.old.bytes + length bytes.now)) }
+        ensures room { self.new.room ≡ self.old.room }
     {
         let room = self.room - self.bytes.len();
         let count = bytes.len().min(room);

@@ -1,8 +1,8 @@
 //! Sources over memory.
-ghost use Rattle.std.specs.Prelude.{◌≡◌, ◌<◌, ◌≤◌, ◌↔◌, ℕ, [], length, drop, min, vec_len, Some, Contains, IfOk, IsErr, IsTrue};
+ghost use Rattle.std.specs.Prelude.{◌≡◌, ◌<◌, ◌≤◌, ◌+◌, ◌↔◌, ℕ, [], length, drop, min, vec_len, Some, Contains, IfOk, IsErr, IsTrue};
 ghost use Rattle.std.specs.Io.{ReadsAtMost};
 ghost use Rattle.std.specs.Io.KnownBytes.{ReadConsumes};
-ghost use Rattle.syn_outer.specs.Causes.{HasCause, CountsCall, raised};
+ghost use Rattle.syn_outer.specs.Causes.{HasCause, CountsCall, raised, moved, counted_faults};
 
 use crate::streams::{Failed, Source};
 
@@ -54,7 +54,14 @@ impl Source for MemSource {
         // It fails exactly at the calls that were chosen, and else hands out all that it may.
         ensures fails { IsErr result ↔ Contains self.old.fails.items (raised self.old.calls) }
         ensures count { IfOk result (λ n. n
-            ≡ min (min (length (drop self.old.at self.old.bytes.items)) (length buf.old)) self.old.piece) }
+            ≡ min (min (length (drop self.old.at self.old.bytes.items))
+            (length buf.old)) self.old.piece) }
+        // What it leaves: its bytes, its piece and the chosen calls stay.
+        ensures kept { (self.new.bytes ≡ self.old.bytes) × (self.new.piece ≡ self.old.piece)
+            × (self.new.fails ≡ self.old.fails) }
+        ensures at { self.new.at ≡ self.old.at + moved result }
+        ensures calls { self.new.calls ≡ raised self.old.calls }
+        ensures faults { self.new.faults ≡ counted_faults self.old.faults result }
     {
         self.calls = self.calls.saturating_add(1);
         if is_named(&self.fails, self.calls) {

@@ -24,6 +24,25 @@ impl Write for Broken {
     }
 }
 
+/// A writer of std that counts what it is asked, and takes at most five bytes a call.
+#[derive(Drop)]
+struct Counting<'a> {
+    writes: &'a mut usize,
+    flushes: &'a mut usize,
+}
+
+impl Write for Counting<'_> {
+    fn write(&mut self, buf: &[u8]) -> io::Result<usize> {
+        *self.writes = self.writes.saturating_add(1);
+        Ok(buf.len().min(5))
+    }
+
+    fn flush(&mut self) -> io::Result<()> {
+        *self.flushes = self.flushes.saturating_add(1);
+        Ok(())
+    }
+}
+
 fn pass_all<Rt: Wait, G: Gate + Sync>(rt: &Rt, gate: &G) {
     for point in [
         Point::BeforeCall,
@@ -130,6 +149,19 @@ fn readers_and_writers_of_std_count_their_faults(rt: HostRuntime) -> Result<(), 
     let mut out = StdSink::new(&mut kept[..]);
     assert_eq!(rt; write_all(&mut out, text), Ok(()));
     Ok(())
+}
+
+#[test]
+fn a_sink_is_offered_all_that_is_left_and_flushed_after_each_write(rt: HostRuntime) {
+    let (mut writes, mut flushes) = (0, 0);
+    let mut out = StdSink::new(Counting {
+        writes: &mut writes,
+        flushes: &mut flushes,
+    });
+    assert_eq!(rt; write_all(&mut out, b"twelve bytes"), Ok(()));
+    drop(out);
+    assert_eq!(rt; writes, 3);
+    assert_eq!(rt; flushes, 3);
 }
 
 #[test]

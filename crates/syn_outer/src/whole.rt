@@ -41,7 +41,8 @@ pub fn read_all<R: Source>(alloc: Global, src: &mut R, limit: usize) -> Result<V
     ensures small { IfErr result (λ e. e ≢ ReadError.TooLarge
         → ConsumesAtMost limit (R.left src.old) (R.left src.new)) }
 
-    ensures fault { IsErrOf result ReadError.ReadFault → Rose (R.faults src.old) (R.faults src.new) }
+    ensures fault { IsErrOf result ReadError.ReadFault
+        → Rose (R.faults src.old) (R.faults src.new) }
     ensures later { R.faults src.old ≤ R.faults src.new }
     ensures calls { CallsAtMost (limit + 1) (R.calls src.old) (R.calls src.new) }
 {

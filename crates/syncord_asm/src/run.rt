@@ -1,5 +1,5 @@
 //! The commands as calls.
-ghost use Rattle.syncord_endings.specs.Traffic.{traffic};
+ghost use Rattle.syncord_endings.specs.Traffic.{through};
 ghost use Rattle.syncord_endings.specs.Endings.{Answers, Decides};
 ghost use Rattle.syncord_verify.specs.Verdicts.{IsNoProgram};
 ghost use Rattle.syncord_asm.specs.Assemblies as assembly;
@@ -58,12 +58,12 @@ pub fn run_asm<R: Source, W: Sink, E: Sink>(
     err: &mut E,
 ) -> u8
     ensures answer { Answers (assembly.Reports profile) (assembly.Refuses profile)
-        (traffic (R.left src.old) (R.left src.new) (R.faults src.old) (R.faults src.new))
-        (traffic (W.held out.old) (W.held out.new) (W.faults out.old) (W.faults out.new))
-        (traffic (E.held err.old) (E.held err.new) (E.faults err.old) (E.faults err.new)) result }
+        (through R.left R.faults src.old src.new)
+        (through W.held W.faults out.old out.new)
+        (through E.held E.faults err.old err.new) result }
     ensures complete { Decides (assembly.Refuses profile)
-        (traffic (R.left src.old) (R.left src.new) (R.faults src.old) (R.faults src.new))
-        (traffic (W.held out.old) (W.held out.new) (W.faults out.old) (W.faults out.new)) result }
+        (through R.left R.faults src.old src.new)
+        (through W.held W.faults out.old out.new) result }
 {
     perform(&Assemble { profile }, alloc, src, out, err)
 }
@@ -77,12 +77,12 @@ pub fn run_disasm<R: Source, W: Sink, E: Sink>(
     err: &mut E,
 ) -> u8
     ensures answer { Answers (listing.Reports profile) (IsNoProgram profile)
-        (traffic (R.left src.old) (R.left src.new) (R.faults src.old) (R.faults src.new))
-        (traffic (W.held out.old) (W.held out.new) (W.faults out.old) (W.faults out.new))
-        (traffic (E.held err.old) (E.held err.new) (E.faults err.old) (E.faults err.new)) result }
+        (through R.left R.faults src.old src.new)
+        (through W.held W.faults out.old out.new)
+        (through E.held E.faults err.old err.new) result }
     ensures complete { Decides (IsNoProgram profile)
-        (traffic (R.left src.old) (R.left src.new) (R.faults src.old) (R.faults src.new))
-        (traffic (W.held out.old) (W.held out.new) (W.faults out.old) (W.faults out.new)) result }
+        (through R.left R.faults src.old src.new)
+        (through W.held W.faults out.old out.new) result }
 {
     perform(&Disassemble { profile }, alloc, src, out, err)
 }

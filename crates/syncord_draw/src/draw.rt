@@ -1,6 +1,6 @@
 //! The program as one call: words and bytes in, a status, a picture and an error line out.
 ghost use Rattle.std.specs.Prelude.{◌≡◌, map, string_bytes, codes, Some, None};
-ghost use Rattle.syncord_endings.specs.Traffic.{traffic, Told};
+ghost use Rattle.syncord_endings.specs.Traffic.{through, Told};
 ghost use Rattle.syncord_endings.specs.Endings.{Answers, Decides};
 ghost use Rattle.syncord_draw.specs.declared.commands.Command.{Command as Wanted};
 ghost use Rattle.syncord_draw.specs.Commands.{command_in};
@@ -37,21 +37,21 @@ pub fn draw<R: Source, W: Sink, E: Sink>(
     ensures untouched { command_in (map string_bytes words.now) ≡ None →
         (src.new ≡ src.old) × (out.new ≡ out.old) }
     ensures told { command_in (map string_bytes words.now) ≡ None →
-        Told (traffic (E.held err.old) (E.held err.new) (E.faults err.old) (E.faults err.new))
+        Told (through E.held E.faults err.old err.new)
         (codes "syncord: words\n") }
 
     // The status has its cause.
     ensures answer { (command : Wanted) → command_in (map string_bytes words.now) ≡ Some command →
         Answers (Draws command) Refuses
-        (traffic (R.left src.old) (R.left src.new) (R.faults src.old) (R.faults src.new))
-        (traffic (W.held out.old) (W.held out.new) (W.faults out.old) (W.faults out.new))
-        (traffic (E.held err.old) (E.held err.new) (E.faults err.old) (E.faults err.new)) result }
+        (through R.left R.faults src.old src.new)
+        (through W.held W.faults out.old out.new)
+        (through E.held E.faults err.old err.new) result }
 
     // A report is drawn and another document refused, unless something fails or memory runs out.
     ensures complete { (command : Wanted) → command_in (map string_bytes words.now) ≡ Some command →
         Decides Refuses
-        (traffic (R.left src.old) (R.left src.new) (R.faults src.old) (R.faults src.new))
-        (traffic (W.held out.old) (W.held out.new) (W.faults out.old) (W.faults out.new)) result }
+        (through R.left R.faults src.old src.new)
+        (through W.held W.faults out.old out.new) result }
 {
     match command_of(words) {
         Some(command) => perform(&command, alloc, src, out, err),

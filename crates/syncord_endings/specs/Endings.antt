@@ -1,5 +1,5 @@
 -- How a command ends: its status, what it read and wrote, and the line on the error stream.
-use Rattle.std.specs.Prelude.{◌≡◌, ◌≢◌, ◌⊎◌, ◌<◌, ◌≤◌, ℕ, List, [], ◌++◌, length, take, Some, codes}
+use Rattle.std.specs.Prelude.{◌≡◌, ◌⊎◌, ◌<◌, ◌≤◌, ℕ, List, [], ◌++◌, length, take, Some, codes}
 use Rattle.std.specs.Fmt.{decimal}
 use Rattle.syn_outer.specs.Bytes.{ReadsWhole, ConsumesMoreThan}
 use Rattle.syncord_endings.specs.declared.ending.Ending.{Ending}

@@ -18,6 +18,10 @@ traffic before after faults_before faults_after = record {
   faults_after = faults_after;
 }
 
+-- a call found a stream so and left it so, which tells its bytes and its faults by these
+abbrev pub through : {S : Type 0} → (S → Option (List ℕ)) → (S → ℕ) → S → S → Traffic
+through bytes faults before after = traffic (bytes before) (bytes after) (faults before) (faults after)
+
 -- it failed in this call
 abbrev pub Failed : Traffic → Type 0
 Failed t = Rose t.faults_before t.faults_after

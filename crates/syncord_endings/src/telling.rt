@@ -1,7 +1,7 @@
 //! The line on the error stream. It takes no memory.
 ghost use Rattle.std.specs.Prelude.{◌≡◌, ◌++◌, ℕ, List, Option, codes};
 ghost use Rattle.std.specs.Fmt.{decimal};
-ghost use Rattle.syncord_endings.specs.Traffic.{Told, Telling, traffic};
+ghost use Rattle.syncord_endings.specs.Traffic.{Told, Telling, traffic, through};
 ghost use Rattle.syncord_endings.specs.Endings.{message_of, refusal_message, refused, at_slot};
 
 use crate::ending::{Ending, Refusal};
@@ -29,7 +29,7 @@ fn say_number<E: Sink>(err: &mut E, going: bool, number: u64) -> bool
 
 /// Says a text, or a front of it where the sink fails.
 pub fn tell<E: Sink>(err: &mut E, text: &[u8])
-    ensures { Told (traffic (E.held err.old) (E.held err.new) (E.faults err.old) (E.faults err.new))
+    ensures { Told (through E.held E.faults err.old err.new)
         text.now }
 {
     let _all = say(err, true, text);
@@ -37,7 +37,7 @@ pub fn tell<E: Sink>(err: &mut E, text: &[u8])
 
 /// Says a number between two texts.
 fn tell_number<E: Sink>(err: &mut E, front: &[u8], number: u64, back: &[u8])
-    ensures { Told (traffic (E.held err.old) (E.held err.new) (E.faults err.old) (E.faults err.new))
+    ensures { Told (through E.held E.faults err.old err.new)
         (front.now ++ decimal number ++ back.now) }
 {
     let first = say(err, true, front);
@@ -47,7 +47,7 @@ fn tell_number<E: Sink>(err: &mut E, front: &[u8], number: u64, back: &[u8])
 
 /// Says two numbers among three texts.
 fn tell_numbers<E: Sink>(err: &mut E, front: &[u8], one: u64, between: &[u8], two: u64, back: &[u8])
-    ensures { Told (traffic (E.held err.old) (E.held err.new) (E.faults err.old) (E.faults err.new))
+    ensures { Told (through E.held E.faults err.old err.new)
         (front.now ++ decimal one ++ between.now ++ decimal two ++ back.now) }
 {
     let first = say(err, true, front);
@@ -58,7 +58,7 @@ fn tell_numbers<E: Sink>(err: &mut E, front: &[u8], one: u64, between: &[u8], tw
 }
 
 fn tell_register<E: Sink>(err: &mut E, number: u8, slot: u32, register: u8)
-    ensures { Told (traffic (E.held err.old) (E.held err.new) (E.faults err.old) (E.faults err.new))
+    ensures { Told (through E.held E.faults err.old err.new)
         (refusal_message (Refusal.Register number slot register)) }
 {
     let first = say(err, true, b"syncord: refused ");
@@ -72,7 +72,7 @@ fn tell_register<E: Sink>(err: &mut E, number: u8, slot: u32, register: u8)
 
 /// Says why there is no report.
 fn tell_refusal<E: Sink>(err: &mut E, refusal: Refusal)
-    ensures { Told (traffic (E.held err.old) (E.held err.new) (E.faults err.old) (E.faults err.new))
+    ensures { Told (through E.held E.faults err.old err.new)
         (refusal_message refusal) }
 {
     match refusal {
@@ -110,7 +110,7 @@ fn tell_refusal<E: Sink>(err: &mut E, refusal: Refusal)
 
 /// Says how a command ended.
 pub fn tell_ending<E: Sink>(err: &mut E, ending: Ending)
-    ensures { Told (traffic (E.held err.old) (E.held err.new) (E.faults err.old) (E.faults err.new))
+    ensures { Told (through E.held E.faults err.old err.new)
         (message_of ending) }
 {
     match ending {

@@ -1,7 +1,8 @@
 //! A command that reads its input whole, makes a report of it, and writes that whole.
-ghost use Rattle.std.specs.Prelude.{◌≤◌, List, ℕ, length, IfOk, IfErr};
+ghost use Rattle.std.specs.Prelude.{◌≤◌, ◌+◌, List, ℕ, length, IfOk, IfErr};
 ghost use Rattle.syncord_endings.specs.declared.ending.Refusal.{Refusal};
-ghost use Rattle.syncord_endings.specs.Traffic.{traffic};
+ghost use Rattle.syn_outer.specs.Causes.{CallsAtMost};
+ghost use Rattle.syncord_endings.specs.Traffic.{through};
 ghost use Rattle.syncord_endings.specs.Endings.{Due, Ends, Answers, Decides, most_bytes};
 
 use crate::ending::{Ending, Refusal};
@@ -29,9 +30,10 @@ pub trait Work {
 
 /// Reads, makes the report, and writes it.
 fn ending<K: Work, R: Source, W: Sink>(work: &K, alloc: Global, src: &mut R, out: &mut W) -> Ending
-    ensures { Ends (K.reports work.now) (K.refuses work.now)
-        (traffic (R.left src.old) (R.left src.new) (R.faults src.old) (R.faults src.new))
-        (traffic (W.held out.old) (W.held out.new) (W.faults out.old) (W.faults out.new)) result }
+    ensures ends { Ends (K.reports work.now) (K.refuses work.now)
+        (through R.left R.faults src.old src.new)
+        (through W.held W.faults out.old out.new) result }
+    ensures reads { CallsAtMost (most_bytes + 1) (R.calls src.old) (R.calls src.new) }
 {
     let bytes = match read_all(alloc, src, MOST_BYTES) {
         Ok(bytes) => bytes,
@@ -58,12 +60,14 @@ pub fn perform<K: Work, R: Source, W: Sink, E: Sink>(
     err: &mut E,
 ) -> u8
     ensures answer { Answers (K.reports work.now) (K.refuses work.now)
-        (traffic (R.left src.old) (R.left src.new) (R.faults src.old) (R.faults src.new))
-        (traffic (W.held out.old) (W.held out.new) (W.faults out.old) (W.faults out.new))
-        (traffic (E.held err.old) (E.held err.new) (E.faults err.old) (E.faults err.new)) result }
+        (through R.left R.faults src.old src.new)
+        (through W.held W.faults out.old out.new)
+        (through E.held E.faults err.old err.new) result }
     ensures complete { Decides (K.refuses work.now)
-        (traffic (R.left src.old) (R.left src.new) (R.faults src.old) (R.faults src.new))
-        (traffic (W.held out.old) (W.held out.new) (W.faults out.old) (W.faults out.new)) result }
+        (through R.left R.faults src.old src.new)
+        (through W.held W.faults out.old out.new) result }
+    // It reads at most once a byte and once for the end, which a source that counts its calls tells.
+    ensures reads { CallsAtMost (most_bytes + 1) (R.calls src.old) (R.calls src.new) }
 {
     let ending = ending(work, alloc, src, out);
     tell_ending(err, ending);

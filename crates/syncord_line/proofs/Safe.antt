@@ -6,7 +6,7 @@ use Rattle.shfl_core.specs.Runner.{Lock, moved}
 use Rattle.shfl_core.specs.Worlds.{World, Move, opening}
 use Rattle.shfl_laws.specs.Moves.{MayMove}
 use Rattle.shfl_world.specs.LawfulLock.{IsLawfulLock}
-use Rattle.shfl_world.proofs.Facts.{well-formed, plainly}
+use Rattle.shfl_world.proofs.Facts.{well-formed, plainly, word-for-word}
 use Rattle.shfl_world.proofs.Moving.{move-lawful, opened-lawful}
 use Rattle.shfl_sched.specs.declared.schedule.Act.{Act}
 use Rattle.shfl_sched.specs.declared.schedule.Act.TheVariants.{Write, Read, Free, Step}
@@ -16,7 +16,7 @@ use Rattle.shfl_sched.specs.Run.{Setup, rules_of, setup_of, move_of, move_in, af
 use Rattle.syncord_line.specs.Safety.{IsSafe, IsAlwaysSafe}
 
 pub lawful-is-safe : (lock : Lock) → IsLawfulLock lock → IsSafe lock.rules.limit lock.world
-lawful-is-safe lock ok = record { well_formed = well-formed lock ok; headline = plainly lock ok }
+lawful-is-safe lock ok = record { well_formed = well-formed lock ok; shows = word-for-word lock ok; headline = plainly lock ok }
 
 -- the form of the lock allows the move of an act that may stand in the schedule
 allows : (form : Form) (act : Act) (pass : ℕ) (choice : Bool) → IsTrue (is_act_of form act) → MayMove form (move_of act pass choice)

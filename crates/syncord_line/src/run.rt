@@ -1,5 +1,5 @@
 //! The command as a call.
-ghost use Rattle.syncord_endings.specs.Traffic.{traffic};
+ghost use Rattle.syncord_endings.specs.Traffic.{through};
 ghost use Rattle.syncord_endings.specs.Endings.{Answers, Decides};
 ghost use Rattle.syncord_line.specs.Reports.{Reports, Refuses};
 
@@ -32,12 +32,12 @@ pub fn run_line<R: Source, W: Sink, E: Sink>(
     err: &mut E,
 ) -> u8
     ensures answer { Answers Reports Refuses
-        (traffic (R.left src.old) (R.left src.new) (R.faults src.old) (R.faults src.new))
-        (traffic (W.held out.old) (W.held out.new) (W.faults out.old) (W.faults out.new))
-        (traffic (E.held err.old) (E.held err.new) (E.faults err.old) (E.faults err.new)) result }
+        (through R.left R.faults src.old src.new)
+        (through W.held W.faults out.old out.new)
+        (through E.held E.faults err.old err.new) result }
     ensures complete { Decides Refuses
-        (traffic (R.left src.old) (R.left src.new) (R.faults src.old) (R.faults src.new))
-        (traffic (W.held out.old) (W.held out.new) (W.faults out.old) (W.faults out.new)) result }
+        (through R.left R.faults src.old src.new)
+        (through W.held W.faults out.old out.new) result }
 {
     perform(&Line, alloc, src, out, err)
 }

@@ -4,4 +4,3 @@ pub mod SocketAccepted
 pub mod GeneratedRuns
 pub mod Runs
 pub mod Mapped
-pub mod Decided

@@ -6,21 +6,13 @@ use Rattle.dir_table.specs.Directory.{Directory}
 use Rattle.trace_text.specs.declared.trace.Trace.{Trace}
 use Rattle.trace_text.specs.Document.{Document}
 use Rattle.trace_text.specs.Grammar.{ReadsTrace}
-use Rattle.trace_text.specs.Names.{AreRisingBy, SameMembers}
-use Rattle.trace_text.specs.Spelled.{call_names}
-use Rattle.trace_text.specs.Traces.{document_of, names_of, policy_names_of, IsWithin}
+use Rattle.trace_text.specs.InMemory.{IsTraceOf}
+use Rattle.trace_text.specs.Traces.{names_of, policy_names_of}
 use Rattle.trace_text.specs.Report.{Done, Replay, report}
 use Rattle.syncord_endings.specs.declared.ending.Refusal.{Refusal}
 use Rattle.syncord_endings.specs.declared.ending.Refusal.TheVariants.{Line}
 use Rattle.trace_text.specs.Histories.{IsHistoryOf}
 use Rattle.trace_text.specs.Attachments.{attaches_of}
-
--- the trace in memory that a document is: the names of its calls stand in order of their bytes, each once
-pub record IsTraceOf (document : Document) (t : Trace) : Type 0 where
-  pub says : document_of t ≡ document
-  pub within : IsWithin t
-  pub rising : AreRisingBy (λ n. n.items) t.names.items
-  pub named : SameMembers (call_names (document_of t).calls) (names_of t)
 
 -- what is reported of a history of the trace that leaves this directory
 abbrev pub replayed : Trace → List Done → Directory → Replay

@@ -13,7 +13,7 @@ use Rattle.syncord_endings.specs.declared.ending.Refusal.TheVariants.{NoMemory}
 use Rattle.syncord_endings.specs.Endings.{status_of, message_of}
 use Rattle.syncord_endings.specs.Traffic.{Traffic, Failed, Takes, Told}
 use Rattle.trace_text.specs.Histories.{IsHistoryOf}
-use Rattle.syncord_replay.specs.Replays.{IsTraceOf}
+use Rattle.trace_text.specs.InMemory.{IsTraceOf}
 
 -- what is summed up of a history of the trace that leaves this directory
 abbrev pub summed : ℕ → Trace → List Done → Directory → Bulk

@@ -1,6 +1,6 @@
 //! The trace that a seed makes, run and summed up.
 ghost use Rattle.std.specs.Prelude.{◌≡◌, ◌<◌, ◌≤◌, ◌⊎◌, IfOk};
-ghost use Rattle.syncord_endings.specs.Traffic.{traffic, Failed};
+ghost use Rattle.syncord_endings.specs.Traffic.{through, Failed};
 ghost use Rattle.syncord_replay.specs.Runnable.{TakesEach, LeavesRuns};
 ghost use Rattle.syncord_replay.specs.Sums.{Summarizes, Writes, Concludes};
 
@@ -52,7 +52,7 @@ fn ending<F: Fn(Global, &Trace) -> Result<Run, NoMemory>, W: Sink>(
     requires few_workers { workers ≤ 16 }
     requires few_calls { calls ≤ 65000 }
     ensures { Writes (Summarizes seed workers calls)
-        (traffic (W.held out.old) (W.held out.new) (W.faults out.old) (W.faults out.new)) result }
+        (through W.held W.faults out.old out.new) result }
 {
     let text = match summary_of(runner, alloc, seed, workers, calls) {
         Ok(text) => text,
@@ -81,10 +81,10 @@ pub fn run_bulk<F: Fn(Global, &Trace) -> Result<Run, NoMemory>, W: Sink, E: Sink
     requires few_workers { workers ≤ 16 }
     requires few_calls { calls ≤ 65000 }
     ensures answer { Concludes (Summarizes seed workers calls)
-        (traffic (W.held out.old) (W.held out.new) (W.faults out.old) (W.faults out.new))
-        (traffic (E.held err.old) (E.held err.new) (E.faults err.old) (E.faults err.new)) result }
-    ensures complete { ¬ (Failed (traffic (W.held out.old) (W.held out.new)
-        (W.faults out.old) (W.faults out.new))) → (result ≡ 0) ⊎ (result ≡ 5) }
+        (through W.held W.faults out.old out.new)
+        (through E.held E.faults err.old err.new) result }
+    ensures complete { ¬ (Failed (through W.held W.faults out.old out.new))
+        → (result ≡ 0) ⊎ (result ≡ 5) }
 {
     let ending = ending(runner, alloc, seed, workers, calls, out);
     tell_ending(err, ending);

@@ -1,5 +1,5 @@
 //! The command `replay` as a call.
-ghost use Rattle.syncord_endings.specs.Traffic.{traffic};
+ghost use Rattle.syncord_endings.specs.Traffic.{through};
 ghost use Rattle.syncord_endings.specs.Endings.{Ends, Answers, Decides};
 ghost use Rattle.syncord_replay.specs.Runnable.{TakesEach, LeavesRuns};
 ghost use Rattle.syncord_replay.specs.Replays.{Reports, Refuses};
@@ -21,8 +21,8 @@ fn ending<F: Fn(Global, &Trace) -> Result<Run, NoMemory>, R: Source, W: Sink>(
     requires takes { TakesEach (F.pre runner.now) (λ t. t.now) }
     requires leaves { LeavesRuns (F.post runner.now) (λ t. t.now) }
     ensures { Ends Reports Refuses
-        (traffic (R.left src.old) (R.left src.new) (R.faults src.old) (R.faults src.new))
-        (traffic (W.held out.old) (W.held out.new) (W.faults out.old) (W.faults out.new)) result }
+        (through R.left R.faults src.old src.new)
+        (through W.held W.faults out.old out.new) result }
 {
     let bytes = match read_all(alloc, src, MOST_BYTES) {
         Ok(bytes) => bytes,
@@ -52,12 +52,12 @@ pub fn run_replay<F: Fn(Global, &Trace) -> Result<Run, NoMemory>, R: Source, W: 
     requires takes { TakesEach (F.pre runner.now) (λ t. t.now) }
     requires leaves { LeavesRuns (F.post runner.now) (λ t. t.now) }
     ensures answer { Answers Reports Refuses
-        (traffic (R.left src.old) (R.left src.new) (R.faults src.old) (R.faults src.new))
-        (traffic (W.held out.old) (W.held out.new) (W.faults out.old) (W.faults out.new))
-        (traffic (E.held err.old) (E.held err.new) (E.faults err.old) (E.faults err.new)) result }
+        (through R.left R.faults src.old src.new)
+        (through W.held W.faults out.old out.new)
+        (through E.held E.faults err.old err.new) result }
     ensures complete { Decides Refuses
-        (traffic (R.left src.old) (R.left src.new) (R.faults src.old) (R.faults src.new))
-        (traffic (W.held out.old) (W.held out.new) (W.faults out.old) (W.faults out.new)) result }
+        (through R.left R.faults src.old src.new)
+        (through W.held W.faults out.old out.new) result }
 {
     let ending = ending(runner, alloc, src, out);
     tell_ending(err, ending);

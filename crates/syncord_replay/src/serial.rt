@@ -25,7 +25,8 @@ fn take_call(dir: &mut Dir, history: &mut Vec<Entry<Dir>>, call: &TraceCall) -> 
     ensures left { dir.old.spare ≤ dir.new.spare + 1 }
     ensures follows { OnOk result ((start : List ℕ) (before : List TraceCall)
         → Follows start before (map done_of history.old.items) (state_numbers dir.old)
-        → Follows start (before ++ call.now ∷ []) (map done_of history.new.items) (state_numbers dir.new)) }
+        → Follows start (before ++ call.now ∷ []) (map done_of history.new.items)
+        (state_numbers dir.new)) }
 {
     match call.act {
         TraceAct::Dir(dir_call) => {

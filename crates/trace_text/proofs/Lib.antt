@@ -16,3 +16,4 @@ pub mod Found
 pub mod Once
 pub mod Only
 pub mod Answered
+pub mod Runnable

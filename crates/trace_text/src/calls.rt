@@ -115,7 +115,8 @@ pub fn calls_of<'a>(
     first: u32,
 ) -> Result<Vec<SpelledCall<'a>>, TraceError>
     requires { first < 100 }
-    ensures declared { IfOk result (λ v. AllByRecursion (MayBe workers (map policy_of policies.now)) v.items) }
+    ensures declared { IfOk result
+        (λ v. AllByRecursion (MayBe workers (map policy_of policies.now)) v.items) }
     ensures few { IfOk result (λ v. length v.items ≤ 65536) }
     ensures exact { GivesOrWants fault_of (λ v. map call_said v.items) result
         (calls_in workers (map policy_of policies.now) first (pieces bytes.now)) }
@@ -132,7 +133,8 @@ fn call_lines<'a>(
     first: u32,
 ) -> Result<Vec<SpelledCall<'a>>, TraceError>
     requires { first < 101 }
-    ensures declared { IfOk result (λ v. AllByRecursion (MayBe workers (map policy_of policies.now)) v.items) }
+    ensures declared { IfOk result
+        (λ v. AllByRecursion (MayBe workers (map policy_of policies.now)) v.items) }
     ensures few { IfOk result (λ v. length v.items ≤ 65536) }
     ensures exact { GivesOrWants fault_of (λ v. map call_said v.items) result
         (lines_from (call_says workers (map policy_of policies.now)) [] first (pieces bytes.now)) }

@@ -26,6 +26,7 @@ pub use generator::generate;
 pub use laws::laws_of_traces;
 pub use policy_text::NoMemory;
 pub use read::read_trace;
-pub use reports::{render, summary};
+pub use reports::{push_counted, push_rows, render, summary};
 pub use trace::{NamedSource, Trace, TraceAct, TraceCall};
+pub use words::{push_call, push_reply};
 pub use write::write_trace;

@@ -16,7 +16,8 @@ use std::alloc::Global;
 
 fn push_names<'a>(names: &mut Vec<&'a [u8]>, act: &SpelledAct<'a>) -> Result<(), NoMemory>
     ensures names { OnOk result
-        (map (λ n. n.now) names.new.items ≡ map (λ n. n.now) names.old.items ++ act_names (act_said act.now)) }
+        (map (λ n. n.now) names.new.items
+        ≡ map (λ n. n.now) names.old.items ++ act_names (act_said act.now)) }
     ensures few { length names.new.items ≤ length names.old.items + 2 }
 {
     match act {
@@ -40,7 +41,8 @@ fn push_names<'a>(names: &mut Vec<&'a [u8]>, act: &SpelledAct<'a>) -> Result<(),
 
 /// The names of the directory in the calls, in their order.
 pub fn names_in<'a>(alloc: Global, calls: &[SpelledCall<'a>]) -> Result<Vec<&'a [u8]>, NoMemory>
-    ensures names { IfOk result (λ v. map (λ n. n.now) v.items ≡ call_names (map call_said calls.now)) }
+    ensures names { IfOk result (λ v. map (λ n. n.now) v.items
+        ≡ call_names (map call_said calls.now)) }
     ensures few { IfOk result (λ v. length v.items ≤ 2 * length calls.now) }
 {
     let mut names: Vec<&'a [u8]> = Vec::new(alloc);
@@ -82,7 +84,8 @@ fn policy_place(policies: &[NamedSource], name: &[u8]) -> u32
 // A call on the directory, by the places of its names.
 fn dir_call(names: &[Vec<u8>], act: &SpelledAct) -> Option<DirCall>
     requires rising { AreRisingBy (λ n. n.items) names.now }
-    requires known { AllByRecursion (Contains (map (λ n. n.items) names.now)) (act_names (act_said act.now)) }
+    requires known { AllByRecursion (Contains (map (λ n. n.items) names.now))
+        (act_names (act_said act.now)) }
     requires few { length names.now < 2 ^ 32 }
     requires ranged { is_in_range (act_said act.now) ≡ true }
     ensures said { MatchOption result
@@ -138,12 +141,14 @@ fn numbered_act(
     act: &SpelledAct,
 ) -> TraceAct
     requires rising { AreRisingBy (λ n. n.items) names.now }
-    requires known { AllByRecursion (Contains (map (λ n. n.items) names.now)) (act_names (act_said act.now)) }
+    requires known { AllByRecursion (Contains (map (λ n. n.items) names.now))
+        (act_names (act_said act.now)) }
     requires few { length names.now < 2 ^ 32 }
     requires declared { may_do (map policy_of policies.now) worker (act_said act.now) ≡ true }
     requires few_policies { length policies.now ≤ 64 }
     requires ranged { is_in_range (act_said act.now) ≡ true }
-    ensures said { act_of (map (λ n. n.items) names.now) (map (λ p. p.name.items) policies.now) result
+    ensures said { act_of (map (λ n. n.items) names.now)
+        (map (λ p. p.name.items) policies.now) result
         ≡ act_said act.now }
     ensures named { IsActOf (length names.now) (length policies.now) worker result }
 {
@@ -165,7 +170,8 @@ pub fn numbered(
     calls: &[SpelledCall],
 ) -> Result<Vec<TraceCall>, NoMemory>
     requires rising { AreRisingBy (λ n. n.items) names.now }
-    requires known { AllByRecursion (Contains (map (λ n. n.items) names.now)) (call_names (map call_said calls.now)) }
+    requires known { AllByRecursion (Contains (map (λ n. n.items) names.now))
+        (call_names (map call_said calls.now)) }
     requires few { length names.now < 2 ^ 32 }
     requires declared { AllByRecursion (MayBe workers (map policy_of policies.now)) calls.now }
     requires few_policies { length policies.now ≤ 64 }

@@ -25,7 +25,8 @@ use std::alloc::Global;
 
 #[tactic(auto, unfolding(crate::specs::Grammar::trace_heading))]
 fn trace_heading(bytes: &[u8]) -> Result<(u8, Profile, &[u8]), Fault>
-    ensures exact { Gives (λ x. heading x.0 x.1 (pieces x.2.now)) result (trace_heading (pieces bytes.now)) }
+    ensures exact { Gives (λ x. heading x.0 x.1 (pieces x.2.now)) result
+        (trace_heading (pieces bytes.now)) }
     ensures known { IfOk result (λ x. x.0 ≤ 2) }
 {
     heading_of(b"syncord-trace", 15, bytes)

@@ -56,8 +56,9 @@ fn push_attach(
     Ok(())
 }
 
+/// A line of a word and a number.
 #[tactic(auto, using(policy_text::proofs::Written::joined_rules))]
-fn push_counted(out: &mut Vec<u8>, word: &[u8], n: usize) -> Result<(), NoMemory>
+pub fn push_counted(out: &mut Vec<u8>, word: &[u8], n: usize) -> Result<(), NoMemory>
     ensures { OnOk result (out.new.items ≡ out.old.items ++ ended (counted_line word.now n)) }
 {
     out.extend_from_slice(word)?;
@@ -93,7 +94,8 @@ fn push_history(
     history: &[Entry<Dir>],
 ) -> Result<(), NoMemory>
     ensures { OnOk result (out.new.items ≡ out.old.items
-        ++ flat_map ended (map (entry_line (map (λ n. n.items) names.now)) (map done_of history.now))) }
+        ++ flat_map ended (map (entry_line (map (λ n. n.items) names.now))
+        (map done_of history.now))) }
 {
     for entry in history {
         push_entry(out, names, entry)?;
@@ -101,9 +103,11 @@ fn push_history(
     Ok(())
 }
 
-fn push_rows(out: &mut Vec<u8>, names: &[Vec<u8>], rows: Rows<'_>) -> Result<(), NoMemory>
+/// The names at the end, each on a line with its directory and its file's number.
+pub fn push_rows(out: &mut Vec<u8>, names: &[Vec<u8>], rows: Rows<'_>) -> Result<(), NoMemory>
     ensures { OnOk result (out.new.items ≡ out.old.items
-        ++ flat_map ended (map (row_line (map (λ n. n.items) names.now)) (map entry_of rows.entry))) }
+        ++ flat_map ended (map (row_line (map (λ n. n.items) names.now))
+        (map entry_of rows.entry))) }
 {
     for row in rows {
         push_row(out, names, row)?;
@@ -272,7 +276,8 @@ pub fn summary(
     history: &[Entry<Dir>],
     dir: &Dir,
 ) -> Result<Vec<u8>, NoMemory>
-    ensures { IfOk result (λ v. v.items ≡ bulk_report (bulk_of seed trace.now history.now dir.now)) }
+    ensures { IfOk result (λ v. v.items
+        ≡ bulk_report (bulk_of seed trace.now history.now dir.now)) }
 {
     let mut out: Vec<u8> = Vec::new(alloc);
     let attaches = attachments(trace);

@@ -25,7 +25,8 @@ pub fn policy_name(policies: &[NamedSource], k: u32) -> &[u8]
 
 #[tactic(auto, using(policy_text::proofs::Written::joined_rules))]
 fn push_policy(alloc: Global, out: &mut Vec<u8>, policy: &NamedSource) -> Result<(), NoMemory>
-    ensures { OnOk result (out.new.items ≡ out.old.items ++ ended (policy_line (policy_of policy.now))) }
+    ensures { OnOk result (out.new.items
+        ≡ out.old.items ++ ended (policy_line (policy_of policy.now))) }
 {
     out.extend_from_slice(b"policy")?;
     push_word(out, policy.name.as_slice())?;
@@ -58,7 +59,8 @@ fn push_call_line(
 }
 
 fn push_workers(out: &mut Vec<u8>, workers: &[Attr]) -> Result<(), NoMemory>
-    ensures { OnOk result (out.new.items ≡ out.old.items ++ flat_map ended (map worker_line workers.now)) }
+    ensures { OnOk result (out.new.items
+        ≡ out.old.items ++ flat_map ended (map worker_line workers.now)) }
 {
     for attr in workers {
         push_attr(out, b"worker", attr)?;
@@ -83,7 +85,8 @@ fn push_calls(
     calls: &[TraceCall],
 ) -> Result<(), NoMemory>
     ensures { OnOk result (out.new.items ≡ out.old.items ++ flat_map ended (map call_line
-        (map (call_of (map (λ n. n.items) names.now) (map (λ p. p.name.items) policies.now)) calls.now))) }
+        (map (call_of (map (λ n. n.items) names.now)
+        (map (λ p. p.name.items) policies.now)) calls.now))) }
 {
     for call in calls {
         push_call_line(out, names, policies, call)?;

@@ -40,7 +40,8 @@ impl Registry {
     /// The declared policies, and the publications in order. Each word that a pass has loaded is version 0's or a row's.
     pub fn close(self, publisher: Publisher, passes: Vec<VersionPass>) -> (Vec<Policy>, Published)
         requires publisher { publisher.registry ≡ self }
-        requires passes { (i : ℕ) (p : PassModel) → slice_get passes.items i ≡ Some p → IsClosed self p }
+        requires passes { (i : ℕ) (p : PassModel) → slice_get passes.items i ≡ Some p
+            → IsClosed self p }
         ensures declared { result.0.items ≡ self.declared }
         ensures rows { result.1 ≡ publisher.rows }
         ensures loaded { (i : ℕ) (p : PassModel) (k : ℕ) → slice_get passes.items i ≡ Some p

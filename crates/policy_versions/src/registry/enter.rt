@@ -18,7 +18,8 @@ impl VersionPass {
         ensures tries { Tries self.old self.new result }
         ensures none { result ≡ None → self.new.is_open ≡ false }
         ensures open { IfSome result (λ _. self.new.is_open ≡ true) }
-        ensures names { IfSome result (λ u. (u.registry ≡ registry.now) × (u.user ≡ self.old.user)) }
+        ensures names { IfSome result (λ u. (u.registry ≡ registry.now)
+            × (u.user ≡ self.old.user)) }
     {
         let word = registry.table.shared.load::<Load>(&mut self.seat, 0);
         let version = word % WHICH;

@@ -21,7 +21,8 @@ fn places(
     table: &Table<(), View, Declared, CurrentWord, Global>,
 ) -> Result<Vec<Place>, NoMemory>
     ensures { let s = table.now.shared in
-        IfOk result (λ v. (vec_len v ≡ 8) × ArePlaces (registry_at s.table_id s.key.policies.value.items) v.items) }
+        IfOk result (λ v. (vec_len v ≡ 8)
+        × ArePlaces (registry_at s.table_id s.key.policies.value.items) v.items) }
 {
     let mut places = Vec::with_capacity(alloc, PLACES as usize)?;
     for index in 0..PLACES as u32 {
@@ -47,7 +48,8 @@ fn passes(
     ensures same { (seat.new.table_id ≡ seat.old.table_id) × (seat.new.me ≡ seat.old.me) }
     ensures count { IfOk result (λ v. vec_len v ≡ users) }
     ensures fresh { let s = table.now.shared in
-        IfOk result (λ v. AreFresh (registry_at s.table_id s.key.policies.value.items) users v.items) }
+        IfOk result (λ v.
+        AreFresh (registry_at s.table_id s.key.policies.value.items) users v.items) }
 {
     let mut passes = Vec::with_capacity(alloc, users as usize)?;
     for user in 0..users {

@@ -1,6 +1,6 @@
 use Rattle.syncord_endings.specs.Traffic.{Traffic, traffic}
 use Rattle.syncord_replay.specs.Replays.{Reports, Refuses}
-use Rattle.syncord_replay.proofs.Decided.{decides_by_status}
+use Rattle.syncord_endings.proofs.Decided.{decides_by_status}
 use Rattle.syncord_replay.proofs.run.run_replay.Goals as goal
 
 pub returns-clause-complete : goal.returns-clause-complete
