@@ -1,12 +1,12 @@
 #!/usr/bin/env bash
-# Times calls of a counter behind the lock beside a pthread_mutex_t and an MCS lock, side by side.
-# Not a part of the gate. It needs a C compiler and Debian's libck-dev. Words: the parts to run:
-# free, held, counter, many; as given, all. The crates are proved and built before, in a folder that is
+# Times calls of a counter and reads of a directory behind the lock beside a pthread_mutex_t, a pthread_rwlock_t and an MCS lock, side
+# by side. Not a part of the gate. It needs a C compiler and Debian's libck-dev. Words: the parts to run:
+# free, held, counter, many, reads; as given, all. The crates are proved and built before, in a folder that is
 # removed at the end; with CELLS_ROOM set, in that folder, which stays, so that a later run of one part builds nothing. Each
-# figure of several threads is the best of twenty rounds of 65,536 calls, ours and theirs.
+# figure of several threads is the best of twenty rounds of 65,536 calls (reads: ours 64,000), ours and theirs.
 set -u
 top="$(cd "$(dirname "$(readlink -f "${BASH_SOURCE[0]}")")/.." && pwd)"
-[ "$#" -gt 0 ] || set -- free held counter many
+[ "$#" -gt 0 ] || set -- free held counter many reads
 room="${CELLS_ROOM:-}"
 if [ -z "$room" ]; then
     room="$(mktemp -d)"
@@ -14,11 +14,13 @@ if [ -z "$room" ]; then
 fi
 mkdir -p "$room"
 . "$top/tests/cell-program.sh"
-peers="$room/peers" cells="$room/cells"
-if ! [ -x "$cells" ]; then
+peers="$room/peers" cells="$room/cells" reads="$room/reads"
+if ! [ -x "$reads" ]; then
     cc -O2 -pthread -o "$peers" "$top/bench/peers.c" || exit 1
     built="$(cell_program "$top" "$room" shfl_cell "$top/bench/cells.rt.txt" work work_by_tries)" || exit 1
     cp "$built" "$cells"
+    built="$(cell_program "$top" "$room" rw_cell "$top/bench/reads.rt.txt" fill read_often)" || exit 1
+    cp "$built" "$reads"
 fi
 
 # about 1 us of dependent multiplications
@@ -53,6 +55,11 @@ for part; do
             peer mutex 16 "$load"
             ours park 16 "$load"
         done
+        ;;
+    reads)
+        echo '4 threads that look up names in a directory of 1,000'
+        peer directory 4 0
+        for form in rw rw-park; do echo "ours, $form: $("$reads" "$form")"; done
         ;;
     esac
 done

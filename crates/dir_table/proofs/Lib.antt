@@ -13,3 +13,5 @@ pub mod Ranges
 pub mod Reading
 pub mod Spots
 pub mod Stored
+pub mod Nearby
+pub mod Refused

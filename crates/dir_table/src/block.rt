@@ -21,6 +21,13 @@ pub struct Spot {
     pub at: usize,
 }
 
+impl Spot {
+    /// Where the rows begin.
+    pub fn first() -> Spot {
+        Spot { block: 0, at: 0 }
+    }
+}
+
 /// Some rows, and memory for 128 of them.
 #[derive(Drop)]
 pub struct Block {

@@ -8,10 +8,12 @@ ghost use Rattle.dir_table.specs.Answers.{reply_to, after, IsLeastAfter, NoneAft
 ghost use Rattle.dir_table.specs.Meanings.{IsAdmitted};
 
 use crate::NoMemory;
+use crate::block::Spot;
 use crate::buffer::RowBuffer;
 use crate::calls::{DirReply, DirRow};
 use crate::rows::{add_row, count_of, next_of, number_of, put_row, remove_row};
 use crate::view::Rows;
+use hist_log::{Mark, Trail};
 use std::alloc::Global;
 use std::marker::Model;
 
@@ -22,6 +24,9 @@ pub struct Dir {
     next_number: u64,
     room: u32,
     spare: u32,
+    // where the last call that writes found its name, and its new name: no clause speaks of them
+    found: Spot,
+    found_new: Spot,
 }
 
 impl Model for Dir {
@@ -57,6 +62,8 @@ impl Dir {
             next_number: 1,
             room,
             spare: calls,
+            found: Spot::first(),
+            found_new: Spot::first(),
         })
     }
 
@@ -69,6 +76,8 @@ impl Dir {
             next_number: self.next_number,
             room: self.room,
             spare: self.spare,
+            found: self.found,
+            found_new: self.found_new,
         })
     }
 
@@ -85,6 +94,22 @@ impl Dir {
         ensures { self.new ≡ spent self.old }
     {
         self.spare -= 1;
+    }
+
+    /// Where the last call that writes found its names.
+    pub(crate) fn found(&self) -> Trail {
+        Trail {
+            first: mark_of(self.found),
+            second: mark_of(self.found_new),
+        }
+    }
+
+    /// The next call that writes looks for its names here first.
+    pub(crate) fn look_at(&mut self, trail: &Trail)
+        ensures { self.new ≡ self.old }
+    {
+        self.found = spot_of(trail.first);
+        self.found_new = spot_of(trail.second);
     }
 
     /// The rows in order of directory and name.
@@ -106,7 +131,7 @@ impl Dir {
     {
         self.spare -= 1;
         let ino = self.next_number;
-        match add_row(&mut self.rows, DirRow { dir, name, ino }) {
+        match add_row(&mut self.rows, &mut self.found, DirRow { dir, name, ino }) {
             Some(_) => DirReply::Exists,
             None => {
                 self.next_number += 1;
@@ -125,7 +150,7 @@ impl Dir {
         ensures others { OthersStay self.old self.new (dir, name) }
     {
         self.spare -= 1;
-        done_if(remove_row(&mut self.rows, dir, name).is_some())
+        done_if(remove_row(&mut self.rows, &mut self.found, dir, name).is_some())
     }
 
     /// Gives the file another name, in the place of one that has that name. Onto itself it changes
@@ -144,10 +169,11 @@ impl Dir {
         if dir == to_dir && name == to_name {
             return done_if(number_of(&self.rows, dir, name).is_some());
         }
-        match remove_row(&mut self.rows, dir, name) {
+        match remove_row(&mut self.rows, &mut self.found, dir, name) {
             Some(ino) => {
                 put_row(
                     &mut self.rows,
+                    &mut self.found_new,
                     DirRow {
                         dir: to_dir,
                         name: to_name,
@@ -192,6 +218,20 @@ impl Dir {
             Some(name) => DirReply::Name(name),
             None => DirReply::End,
         }
+    }
+}
+
+fn mark_of(spot: Spot) -> Mark {
+    Mark {
+        part: spot.block,
+        at: spot.at,
+    }
+}
+
+fn spot_of(mark: Mark) -> Spot {
+    Spot {
+        block: mark.part,
+        at: mark.at,
     }
 }
 

@@ -7,7 +7,7 @@ ghost use Rattle.std.proofs.Common.{rules};
 
 use crate::calls::{DirCall, DirReply};
 use crate::dir::Dir;
-use hist_log::Object;
+use hist_log::{Object, Trail};
 
 impl Object for Dir {
     type Call = DirCall;
@@ -54,6 +54,21 @@ impl Object for Dir {
             DirCall::Find { .. } | DirCall::Count { .. } | DirCall::Next { .. } => {
                 self.spend();
                 self.look(call)
+            }
+        }
+    }
+
+    fn trail(&self) -> Trail {
+        self.found()
+    }
+
+    // What was refused changes nothing but how many calls are left.
+    fn follow(&mut self, call: &DirCall, reply: &DirReply, trail: &Trail) {
+        match *reply {
+            DirReply::Exists | DirReply::Absent => self.spend(),
+            _ => {
+                self.look_at(trail);
+                let _ = self.apply(call);
             }
         }
     }

@@ -11,10 +11,10 @@ ghost use Rattle.dir_table.specs.Answers.{comes_after};
 use crate::block::{Block, Spot};
 use crate::buffer::RowBuffer;
 use crate::calls::DirRow;
-use crate::search::{cut, row_from, row_number};
+use crate::search::{cut, cut_near, row_from, row_number};
 
-/// Where the row of the name is, or where it would go.
-fn place_of(blocks: &[Block], dir: u8, name: u32) -> Result<Spot, Spot>
+/// Where the row of the name is, or where it would go: at the spot where it was looked for first, or elsewhere.
+fn place_of(blocks: &[Block], near: Spot, dir: u8, name: u32) -> Result<Spot, Spot>
     requires filled { AreFilled blocks.now }
     requires in_order { AreInOrder (joined blocks.now) }
     ensures row { IfOk result (IsRow blocks.now) }
@@ -24,7 +24,7 @@ fn place_of(blocks: &[Block], dir: u8, name: u32) -> Result<Spot, Spot>
     ensures absent { IfErr result (λ spot.
         IsGapFor (entries_of (joined blocks.now)) (dir, name) (rows_before blocks.now spot)) }
 {
-    let end = cut(blocks, dir, u64::from(name) + 1);
+    let end = cut_near(blocks, near, dir, u64::from(name) + 1);
     if end.at == 0 {
         return Err(end);
     }
@@ -40,20 +40,29 @@ fn place_of(blocks: &[Block], dir: u8, name: u32) -> Result<Spot, Spot>
     }
 }
 
+// Behind the row of the spot.
+fn behind(spot: Spot) -> Spot {
+    Spot {
+        block: spot.block,
+        at: spot.at.saturating_add(1),
+    }
+}
+
 /// The number of the name.
 pub fn number_of(rows: &RowBuffer, dir: u8, name: u32) -> Option<u64>
     requires { AreInOrder (joined rows.now.blocks) }
     ensures { result ≡ map_of.find place_cmp (dir, name) (entries_of (joined rows.now.blocks)) }
 {
     let blocks = rows.blocks();
-    match place_of(blocks, dir, name) {
+    match place_of(blocks, Spot::first(), dir, name) {
         Ok(spot) => Some(blocks[spot.block].as_slice()[spot.at].ino),
         Err(_) => None,
     }
 }
 
-/// Puts a row in its place, where there is none of its name, and answers the number of the one that there is.
-pub fn add_row(rows: &mut RowBuffer, row: DirRow) -> Option<u64>
+/// Puts a row in its place, where there is none of its name, and answers the number of the one that there is. It looks at `near` first, and
+/// tells there where the place was.
+pub fn add_row(rows: &mut RowBuffer, near: &mut Spot, row: DirRow) -> Option<u64>
     requires in_order { AreInOrder (joined rows.old.blocks) }
     requires spare { 0 < rows.old.spare }
     ensures number { result
@@ -65,17 +74,21 @@ pub fn add_row(rows: &mut RowBuffer, row: DirRow) -> Option<u64>
     ensures there { OnSome result (rows.new ≡ rows.old) }
 {
     let blocks = rows.blocks();
-    match place_of(blocks, row.dir, row.name) {
-        Ok(spot) => Some(blocks[spot.block].as_slice()[spot.at].ino),
+    match place_of(blocks, *near, row.dir, row.name) {
+        Ok(spot) => {
+            *near = behind(spot);
+            Some(blocks[spot.block].as_slice()[spot.at].ino)
+        }
         Err(spot) => {
+            *near = spot;
             rows.insert(spot, row);
             None
         }
     }
 }
 
-/// Puts a row in its place, or in that of the row that has its name.
-pub fn put_row(rows: &mut RowBuffer, row: DirRow)
+/// Puts a row in its place, or in that of the row that has its name, which it looks for as `add_row` does.
+pub fn put_row(rows: &mut RowBuffer, near: &mut Spot, row: DirRow)
     requires in_order { AreInOrder (joined rows.old.blocks) }
     requires spare { 0 < rows.old.spare }
     ensures put { entries_of (joined rows.new.blocks)
@@ -83,14 +96,20 @@ pub fn put_row(rows: &mut RowBuffer, row: DirRow)
     ensures len { length (joined rows.new.blocks) ≤ length (joined rows.old.blocks) + 1 }
     ensures spare { rows.old.spare ≤ rows.new.spare + 1 }
 {
-    match place_of(rows.blocks(), row.dir, row.name) {
-        Ok(spot) => rows.replace(spot, row),
-        Err(spot) => rows.insert(spot, row),
+    match place_of(rows.blocks(), *near, row.dir, row.name) {
+        Ok(spot) => {
+            *near = behind(spot);
+            rows.replace(spot, row)
+        }
+        Err(spot) => {
+            *near = spot;
+            rows.insert(spot, row)
+        }
     }
 }
 
-/// Removes the row of the name, and answers its number.
-pub fn remove_row(rows: &mut RowBuffer, dir: u8, name: u32) -> Option<u64>
+/// Removes the row of the name, which it looks for as `add_row` does, and answers its number.
+pub fn remove_row(rows: &mut RowBuffer, near: &mut Spot, dir: u8, name: u32) -> Option<u64>
     requires { AreInOrder (joined rows.old.blocks) }
     ensures number { result
         ≡ map_of.find place_cmp (dir, name) (entries_of (joined rows.old.blocks)) }
@@ -102,9 +121,15 @@ pub fn remove_row(rows: &mut RowBuffer, dir: u8, name: u32) -> Option<u64>
     ensures absent { IfNone result (rows.new ≡ rows.old) }
     ensures spare { rows.new.spare ≡ rows.old.spare }
 {
-    match place_of(rows.blocks(), dir, name) {
-        Ok(spot) => Some(rows.remove(spot).ino),
-        Err(_) => None,
+    match place_of(rows.blocks(), *near, dir, name) {
+        Ok(spot) => {
+            *near = behind(spot);
+            Some(rows.remove(spot).ino)
+        }
+        Err(spot) => {
+            *near = spot;
+            None
+        }
     }
 }
 

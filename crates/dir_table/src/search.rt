@@ -1,5 +1,5 @@
 //! Where rows in blocks are, which stand in order of directory and name.
-ghost use Rattle.std.specs.Prelude.{◌≡◌, ◌+◌, ◌<◌, ◌^◌, length, Bool};
+ghost use Rattle.std.specs.Prelude.{◌≡◌, ◌+◌, ◌<◌, ◌^◌, length, Bool, true};
 ghost use Rattle.std.specs.List.{slice_get};
 ghost use Rattle.dir_table.specs.Blocks.{joined, rows_before, is_below, begins_with, AreFilled, IsGap, IsCut};
 ghost use Rattle.dir_table.specs.Rows.{AreInOrder};
@@ -36,6 +36,43 @@ pub fn cut(blocks: &[Block], dir: u8, name: u64) -> Spot
     let rows = blocks[block].as_slice();
     let at = rows.partition_point(|row| is_below(row, dir, name));
     Spot { block, at }
+}
+
+// Whether the rows that are not below begin at the spot, as the rows on both sides of it tell. At the start of a block it isn't looked.
+fn begins_at(blocks: &[Block], spot: Spot, dir: u8, name: u64) -> bool
+    requires filled { AreFilled blocks.now }
+    requires in_order { AreInOrder (joined blocks.now) }
+    ensures gap { result ≡ true → IsGap blocks.now spot }
+    ensures cut { result ≡ true
+        → IsCut (joined blocks.now) (dir, name) (rows_before blocks.now spot) }
+    ensures inside { result ≡ true → 0 < spot.at }
+{
+    if spot.block >= blocks.len() || spot.at == 0 {
+        return false;
+    }
+    let rows = blocks[spot.block].as_slice();
+    if spot.at > rows.len() || !is_below(&rows[spot.at - 1], dir, name) {
+        return false;
+    }
+    match row_from(blocks, spot) {
+        Some(row) => !is_below(&row, dir, name),
+        None => true,
+    }
+}
+
+/// The same as `cut`, which looks at a spot first.
+pub fn cut_near(blocks: &[Block], near: Spot, dir: u8, name: u64) -> Spot
+    requires filled { AreFilled blocks.now }
+    requires in_order { AreInOrder (joined blocks.now) }
+    ensures gap { IsGap blocks.now result }
+    ensures cut { IsCut (joined blocks.now) (dir, name) (rows_before blocks.now result) }
+    ensures start { result.at ≡ 0 → rows_before blocks.now result ≡ 0 }
+{
+    if begins_at(blocks, near, dir, name) {
+        near
+    } else {
+        cut(blocks, dir, name)
+    }
 }
 
 /// How many rows stand before the spot.

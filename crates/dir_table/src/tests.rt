@@ -172,7 +172,7 @@ fn a_write_is_read_back_and_merged(rt: HostRuntime) -> Result<(), Fail> {
     let read = DirCall::Find { dir: 0, name: 0 };
     let made = first.apply(&write);
     assert_eq!(rt; made, DirReply::Ino(1));
-    assert_eq!(rt; second.apply(&write), made);
+    does(&rt, &mut second, write, made);
     let found = second.look(&read);
     assert_eq!(rt; found, DirReply::Ino(1));
     let writes = [Entry {

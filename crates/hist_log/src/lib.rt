@@ -7,6 +7,7 @@ mod merging;
 mod object;
 #[cfg(test)]
 mod tests;
+mod trail;
 
 pub use entry::{Entry, Receipt};
 pub use legality::legal;
@@ -15,6 +16,7 @@ pub use object::Object;
 use std::alloc::{AllocError, AllocFailed};
 use std::error::Error;
 use std::fmt;
+pub use trail::{Mark, Trail};
 
 /// A call could not have the memory that it needs.
 #[derive(Clone, Copy, Debug, PartialEq, Eq)]

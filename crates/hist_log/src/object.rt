@@ -1,6 +1,8 @@
 //! What an object of a history is, seen as lists of numbers.
 ghost use Rattle.std.specs.Prelude.{◌≡◌, ◌<◌, ◌+◌, ◌↔◌, IsTrue};
 
+use crate::trail::Trail;
+
 /// A value behind calls, whose replies and states are functions of its state and the call.
 pub trait Object {
     type Call: Copy;
@@ -47,6 +49,27 @@ pub trait Object {
         ensures state { state_numbers self.new
             ≡ state_after (state_numbers self.old) (call_numbers call.now) }
         ensures spare { spare self.new + 1 ≡ spare self.old };
+
+    /// Where the last call was made, for `follow` of an object that was in the same state.
+    fn trail(&self) -> Trail {
+        Trail::none()
+    }
+
+    /// Does a call that an object in the same state answered so, and then told this trail. Uses up one of those that are left, and takes
+    /// no memory.
+    fn follow(&mut self, call: &Self::Call, reply: &Self::Reply, trail: &Trail)
+        requires left { 0 < spare self.old }
+        requires admitted { admits (state_numbers self.old) (call_numbers call.now) }
+        requires answered { reply_numbers reply.now
+            ≡ reply_at (state_numbers self.old) (call_numbers call.now) }
+        ensures state { state_numbers self.new
+            ≡ state_after (state_numbers self.old) (call_numbers call.now) }
+        ensures spare { spare self.new + 1 ≡ spare self.old }
+    {
+        let _ = reply;
+        let _ = trail;
+        let _ = self.apply(call);
+    }
 
     /// Answers a read. Takes no memory.
     fn look(&self, call: &Self::Call) -> Self::Reply

@@ -1,5 +1,5 @@
 -- Copies of which the first ones have the new write.
-use Rattle.std.proofs.Common.{◌≡◌, ℕ, zero, suc, ◌+◌, ◌<◌, ◌≤◌, List, [], ◌∷◌, ◌++◌, map, set, length, slice_get, sym, refl, ap, ◌∙◌, subst, arith, Option, Some, None}
+use Rattle.std.proofs.Common.{◌≡◌, ℕ, zero, suc, ◌+◌, ◌<◌, List, [], ◌∷◌, ◌++◌, map, set, length, slice_get, sym, refl, ap, ◌∙◌, subst, arith, Option, Some, None}
 use Rattle.std.specs.List.{All}
 use Rattle.std.proofs.lemmas.List.Elements.{All-nil, All-cons}
 use Rattle.shfl_table.specs.declared.kept.Action.{Action}
@@ -17,6 +17,11 @@ set-set : {X : Type 0} (l : List X) (i : ℕ) (a b : X) → set (set l i a) i b 
 set-set [] i a b = refl
 set-set (x ∷ xs) zero a b = refl
 set-set {X} (x ∷ xs) (suc i) a b = ap (λ (l : List X). x ∷ l) (set-set xs i a b)
+
+pub get-set : {X : Type 0} (l : List X) (i : ℕ) (x y : X) → slice_get l i ≡ Some x → slice_get (set l i y) i ≡ Some y
+get-set [] i x y e = absurd (cc)
+get-set (z ∷ zs) zero x y e = refl
+get-set (z ∷ zs) (suc i) x y e = get-set zs i x y e
 
 -- a value taken out and another put back
 pub put_after : {X : Type 0} (old t n : PassModel X) (place : ℕ) (y : X)

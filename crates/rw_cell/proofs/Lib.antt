@@ -10,3 +10,4 @@ pub mod GivenCopies
 pub mod OrderedPasses
 pub mod CallOrder
 pub mod LastCalls
+pub mod PlacedCopies

@@ -61,13 +61,17 @@ impl<V: Kept + Drop, E: Drop, C: Drop> Model for RwCellOf<V, E, C> {
         × (vec_len c.lists ≡ c.board.count) };
 }
 
-/// A caller's right to make so many calls, with the reads that it made.
+/// A caller's right to make so many calls, with the reads that it made. There are unused bytes on each side, so that passes of different
+/// threads that lie side by side share no cache line.
 #[derive(Drop)]
+#[repr(C)]
 pub struct RwPassOf<V: Kept + Drop, E: KeptRead + Drop> {
+    pub(crate) before: [u64; 8],
     pub(crate) pass: Pass<V>,
     pub(crate) left: u32,
     pub(crate) attr: Attr,
     pub(crate) reads: Vec<E>,
+    pub(crate) after: [u64; 8],
 }
 
 /// A caller's right to make so many calls of an object that has a copy for each pass.

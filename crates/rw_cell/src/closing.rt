@@ -26,10 +26,12 @@ fn parted<O: Object + Drop>(pass: RwPass<O>) -> (Pass<Book<O>>, usize, Vec<Entry
         pass.opening (number pass) pass.seen pass.reads }
 {
     let RwPassOf {
+        before: _,
         pass,
         left: _,
         attr: _,
         reads,
+        after: _,
     } = pass;
     let number = pass.number() as usize;
     (pass, number, reads)

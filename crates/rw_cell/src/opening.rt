@@ -74,10 +74,12 @@ fn cell_pass<O: Object + Drop>(
         (slice_index calls.now k) (slice_index_or attrs.now k no_attr) }
 {
     RwPassOf {
+        before: [0; 8],
         pass,
         left: calls[k],
         attr: attrs[k],
         reads,
+        after: [0; 8],
     }
 }
 

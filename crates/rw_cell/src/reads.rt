@@ -12,7 +12,7 @@ ghost use Rattle.rw_cell.specs.RwCells.{MakesRead, number, turned_away};
 use crate::cell::{RwCellOf, RwPass, RwPassOf};
 use hist_log::{Entry, Object, Receipt};
 use shfl_line::{Chooser, Mode};
-use shfl_table::{Book, Busy, Pass, SharedBoard, free, wait_for};
+use shfl_table::{Book, Busy, LookCall, Pass, SharedBoard, free, wait_for};
 use std::sync::Wait;
 use syn_outer::{Gate, Point};
 
@@ -41,10 +41,7 @@ fn read_and_free<O: Object + Drop>(
     } }
 {
     let number = pass.number();
-    let book = pass.take_value(board, number);
-    let place = book.len() as u64;
-    let reply = book.look(call);
-    pass.put_value(board, number, book);
+    let (reply, place) = pass.visit(board, number, LookCall::<O> { call });
     free(board, pass);
     (reply, Receipt { place })
 }
@@ -78,10 +75,12 @@ impl<O: Object + Drop> RwCellOf<Book<O>, Entry<O>, O> {
             pass.new ≡ turned_away Read busy.word pass.old) }
     {
         let RwPassOf {
+            before: _,
             pass,
             left,
             attr: _,
             reads,
+            after: _,
         } = pass;
         if let Err(word) = pass.attempt(&self.board, Mode::Read) {
             return Err(Busy { word });
@@ -133,10 +132,12 @@ impl<O: Object + Drop> RwCellOf<Book<O>, Entry<O>, O> {
         ensures in_round { C.in_round chooser.old ≡ false → C.in_round chooser.new ≡ false }
     {
         let RwPassOf {
+            before: _,
             pass,
             left,
             attr,
             reads,
+            after: _,
         } = pass;
         let worker = pass.number();
         gate.at(rt, worker, Point::BeforeCall);

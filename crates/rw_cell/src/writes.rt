@@ -11,19 +11,19 @@ ghost use Rattle.rw_cell.specs.CallOrder.{calls_of};
 ghost use Rattle.rw_cell.specs.RwCells.{MakesWrite, number, turned_away, write_after};
 
 use crate::cell::{RwCellOf, RwPass, RwPassOf};
-use hist_log::{Entry, Object, Receipt};
+use hist_log::{Entry, Object, Receipt, Trail};
 use shfl_line::{Chooser, Mode};
-use shfl_table::{Book, Busy, Pass, SharedBoard, free, wait_for};
+use shfl_table::{ApplyCall, Book, Busy, FollowCall, Pass, SharedBoard, free, wait_for};
 use std::sync::Wait;
 use syn_outer::{Gate, Point};
 
-// The call on the copy of one place, by a pass that holds the lock for writing.
+// The call on the copy of one place, by a pass that holds the lock for writing: the reply, its place, and where the object made it.
 fn write_copy<O: Object + Drop>(
     board: &SharedBoard<Book<O>>,
     pass: &mut Pass<Book<O>>,
     place: u32,
     call: &O::Call,
-) -> (O::Reply, u64)
+) -> (O::Reply, u64, Trail)
     requires board { pass.old.board ≡ board.now.id }
     requires holds { plan.is_resting pass.old.own ≡ true }
     requires mode { pass.old.own.reg.mode ≡ Write }
@@ -47,11 +47,46 @@ fn write_copy<O: Object + Drop>(
         × (y.history ≡ pass.old.history
         ++ write_after O.reply_at O.state_after pass.old (O.call_numbers call.now) ∷ []) }
 {
-    let mut book = pass.take_value(board, place);
-    let len = book.len() as u64;
-    let reply = book.apply(pass.number(), call);
-    pass.put_value(board, place, book);
-    (reply, len)
+    let worker = pass.number();
+    pass.visit(board, place, ApplyCall::<O> { worker, call })
+}
+
+// The call on the copy of another place, which the first copy answered so.
+fn follow_copy<O: Object + Drop>(
+    board: &SharedBoard<Book<O>>,
+    pass: &mut Pass<Book<O>>,
+    place: u32,
+    call: &O::Call,
+    reply: &O::Reply,
+    trail: &Trail,
+)
+    requires board { pass.old.board ≡ board.now.id }
+    requires holds { plan.is_resting pass.old.own ≡ true }
+    requires mode { pass.old.own.reg.mode ≡ Write }
+    requires within { (x : _) × (slice_get pass.old.values place ≡ Some (Some x))
+        × (pack x.opening x.allowed ≡ pass.old.initial_state)
+        × (x.history ≡ pass.old.history) }
+    requires room { length (actions_by pass.old.own.reg.me pass.old.history)
+        < slice_index (allowed_of pass.old.initial_state) pass.old.own.reg.me }
+    requires admitted { O.admits (opening_of pass.old.initial_state) (O.call_numbers call.now) }
+    requires answered { O.reply_numbers reply.now
+        ≡ O.reply_at (state_left O.state_after (opening_of pass.old.initial_state)
+        (operations_of pass.old.history)) (O.call_numbers call.now) }
+    ensures pass { (y : _) × (pass.new ≡ record pass.old {
+      values = set pass.old.values place (Some y);
+    })
+        × (pack y.opening y.allowed ≡ pass.old.initial_state)
+        × (y.history ≡ pass.old.history
+        ++ write_after O.reply_at O.state_after pass.old (O.call_numbers call.now) ∷ []) }
+{
+    let worker = pass.number();
+    let step = FollowCall::<O> {
+        worker,
+        call,
+        reply,
+        trail,
+    };
+    pass.visit(board, place, step);
 }
 
 // The call on every copy, by a pass that holds the lock for writing; it frees the lock.
@@ -85,9 +120,9 @@ fn write_and_free<O: Object + Drop>(
       } ∷ [];
     } }
 {
-    let (reply, place) = write_copy(board, pass, 0, call);
+    let (reply, place, trail) = write_copy(board, pass, 0, call);
     for k in 1..places {
-        let _ = write_copy(board, pass, k, call);
+        follow_copy(board, pass, k, call, &reply, &trail);
     }
     free(board, pass);
     (reply, Receipt { place })
@@ -121,10 +156,12 @@ impl<O: Object + Drop> RwCellOf<Book<O>, Entry<O>, O> {
             pass.new ≡ turned_away Write busy.word pass.old) }
     {
         let RwPassOf {
+            before: _,
             pass,
             left,
             attr: _,
             reads: _,
+            after: _,
         } = pass;
         if let Err(word) = pass.attempt(&self.board, Mode::Write) {
             return Err(Busy { word });
@@ -164,10 +201,12 @@ impl<O: Object + Drop> RwCellOf<Book<O>, Entry<O>, O> {
         ensures in_round { C.in_round chooser.old ≡ false → C.in_round chooser.new ≡ false }
     {
         let RwPassOf {
+            before: _,
             pass,
             left,
             attr,
             reads: _,
+            after: _,
         } = pass;
         gate.at(rt, pass.number(), Point::BeforeCall);
         wait_for(rt, &self.board, pass, Mode::Write, attr, chooser, gate);

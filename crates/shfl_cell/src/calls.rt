@@ -11,7 +11,7 @@ ghost use Rattle.shfl_cell.specs.Cells.{MakesCall, number, turned_away};
 use crate::cell::{CellPass, CellPassOf, ShflCellOf};
 use hist_log::{Object, Receipt};
 use shfl_line::{Chooser, Mode};
-use shfl_table::{Book, Busy, Pass, SharedBoard, free, wait_for};
+use shfl_table::{ApplyCall, Book, Busy, Pass, SharedBoard, free, wait_for};
 use std::sync::Wait;
 use syn_outer::{Gate, Point};
 
@@ -44,10 +44,8 @@ fn call_and_free<O: Object + Drop>(
       } ∷ [];
     } }
 {
-    let mut book = pass.take_value(board, 0);
-    let place = book.len() as u64;
-    let reply = book.apply(pass.number(), call);
-    pass.put_value(board, 0, book);
+    let worker = pass.number();
+    let (reply, place, _) = pass.visit(board, 0, ApplyCall::<O> { worker, call });
     free(board, pass);
     (reply, Receipt { place })
 }
@@ -74,9 +72,11 @@ impl<O: Object + Drop> ShflCellOf<Book<O>> {
             pass.new ≡ turned_away busy.word pass.old) }
     {
         let CellPassOf {
+            before: _,
             pass,
             left,
             attr: _,
+            after: _,
         } = pass;
         if let Err(word) = pass.attempt(&self.board, Mode::Write) {
             return Err(Busy { word });
@@ -109,7 +109,13 @@ impl<O: Object + Drop> ShflCellOf<Book<O>> {
         ensures home { C.home chooser.new ≡ C.home chooser.old }
         ensures in_round { C.in_round chooser.old ≡ false → C.in_round chooser.new ≡ false }
     {
-        let CellPassOf { pass, left, attr } = pass;
+        let CellPassOf {
+            before: _,
+            pass,
+            left,
+            attr,
+            after: _,
+        } = pass;
         gate.at(rt, pass.number(), Point::BeforeCall);
         wait_for(rt, &self.board, pass, Mode::Write, attr, chooser, gate);
         gate.at(rt, pass.number(), Point::Holding);

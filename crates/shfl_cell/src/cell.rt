@@ -26,12 +26,16 @@ impl<V: Kept + Drop> Model for ShflCellOf<V> {
     ghost invariant = { λ c. (c.board.id.table.slots ≡ 1) × (0 < c.board.count) };
 }
 
-/// A caller's right to make so many calls.
+/// A caller's right to make so many calls. There are unused bytes on each side, so that passes of different threads that lie side by
+/// side share no cache line.
 #[derive(Drop)]
+#[repr(C)]
 pub struct CellPassOf<V: Kept + Drop> {
+    pub(crate) before: [u64; 8],
     pub(crate) pass: Pass<V>,
     pub(crate) left: u32,
     pub(crate) attr: Attr,
+    pub(crate) after: [u64; 8],
 }
 
 /// A caller's right to make so many calls of an object behind the lock.

@@ -18,9 +18,11 @@ fn board_pass<O: Object + Drop>(pass: CellPass<O>) -> Pass<Book<O>>
     ensures given { as_given result ≡ given pass }
 {
     let CellPassOf {
+        before: _,
         pass,
         left: _,
         attr: _,
+        after: _,
     } = pass;
     pass
 }

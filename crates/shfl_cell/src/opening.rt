@@ -34,9 +34,11 @@ fn cell_pass<O: Object + Drop>(
         (slice_index calls.now k) (slice_index_or attrs.now k no_attr) }
 {
     CellPassOf {
+        before: [0; 8],
         pass,
         left: calls[k],
         attr: attrs[k],
+        after: [0; 8],
     }
 }
 

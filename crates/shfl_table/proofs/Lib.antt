@@ -17,3 +17,5 @@ pub mod WaitSteps
 pub mod CallRoom
 pub mod Entries
 pub mod PackedStates
+pub mod LongerBooks
+pub mod BookVisits

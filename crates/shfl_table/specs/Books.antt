@@ -1,5 +1,5 @@
 -- An object with the history of its calls, as clauses see it.
-use Rattle.std.specs.Prelude.{◌≡◌, ℕ, ◌+◌, ◌≤◌, List, [], ◌∷◌, ◌++◌, map, length, take, drop, slice_index, slice_get, sum, Some}
+use Rattle.std.specs.Prelude.{◌≡◌, ℕ, ◌+◌, ◌<◌, ◌≤◌, List, [], ◌∷◌, ◌++◌, map, length, take, drop, slice_index, slice_get, sum, Some}
 use Rattle.hist_log.specs.declared.entry.Entry.{Entry}
 use Rattle.hist_log.specs.History.{Operation, IsLegal, state_left}
 use Rattle.shfl_table.specs.declared.kept.Action.{Action}
@@ -42,6 +42,21 @@ pub record BookInvariant {O C R : Type 0} (call : C → List ℕ) (reply : R →
   pub places : HavePlaces entries
   pub room : sum allowed ≤ capacity
   pub enough : sum allowed ≤ spare + length entries
+
+-- the worker may make this call on the object
+abbrev pub MayCall : (List ℕ → List ℕ → Type 0) → ℕ → List ℕ → BookModel → Type 0
+MayCall admits worker call b = (length (actions_by worker b.history) < slice_index b.allowed worker) × admits b.opening call
+
+-- what the object answers to this call now
+abbrev pub reply_now : (List ℕ → List ℕ → List ℕ) → (List ℕ → List ℕ → List ℕ) → BookModel → List ℕ → List ℕ
+reply_now reply_at state_after b call = reply_at (state_left state_after b.opening (operations_of b.history)) call
+
+-- a call was made on the object: it is the last of its history, at this place, with the object's reply
+pub record MakesEntry (reply_at state_after : List ℕ → List ℕ → List ℕ) (before : BookModel) (made : Action) (place : ℕ) (after : BookModel) : Type 0 where
+  pub goes_on : after ≡ record before { history = before.history ++ made ∷ [] }
+  pub answered : made.reply ≡ reply_now reply_at state_after before made.call
+  pub place_is : place ≡ length before.history
+  pub legal : IsLegal reply_at state_after after.opening (operations_of after.history)
 
 -- the state at the opening and the numbers of calls as one list, and back
 abbrev pub pack : List ℕ → List ℕ → List ℕ

@@ -1,5 +1,5 @@
 -- A board and its passes, as clauses see them.
-use Rattle.std.specs.Prelude.{◌≡◌, ℕ, List, [], map, true, Option, Some, None}
+use Rattle.std.specs.Prelude.{◌≡◌, ℕ, List, [], map, true, slice_get, Option, Some, None}
 use Rattle.atomic_table.specs.Seated.{TableId}
 use Rattle.shfl_line.specs.declared.events.Mode.{Mode}
 use Rattle.shfl_line.specs.declared.events.Mode.TheVariants.{Write, Read}
@@ -11,7 +11,7 @@ use Rattle.shfl_table.specs.declared.view.Decision.{Decision}
 use Rattle.shfl_table.specs.declared.kept.Action.{Action}
 use Rattle.shfl_table.specs.declared.view.Given.{Given}
 use Rattle.shfl_table.specs.Histories.{Continues, common_history}
-use Rattle.shfl_table.specs.Places.{Every}
+use Rattle.shfl_table.specs.Places.{Every, place_index}
 
 -- which board it is, and the rules of its lock
 pub record BoardId : Type 0 where
@@ -60,6 +60,14 @@ abbrev pub GrowsUnder : Option Mode → ℕ → List Action → List Action → 
 GrowsUnder None k seen t = Unit {0}
 GrowsUnder (Some Write) k seen t = Continues k seen t
 GrowsUnder (Some Read) k seen t = t ≡ seen
+
+-- the pass has this value in the place
+abbrev pub HasAt : {X : Type 0} → PassModel X → ℕ → X → Type 0
+HasAt p place x = slice_get p.values (place_index p.own.reg.mode place) ≡ Some (Some x)
+
+-- the value may be in a place of the pass, which holds the lock
+abbrev pub MayHave : {X : Type 0} → (X → List ℕ) → (X → List Action) → PassModel X → X → Type 0
+MayHave initial_state history p x = (initial_state x ≡ p.initial_state) × GrowsUnder (Some p.own.reg.mode) p.own.reg.me p.history (history x)
 
 -- all values are in, with one history
 abbrev pub AreIn : {X : Type 0} → (X → List Action) → List Action → List (Option X) → Type 0

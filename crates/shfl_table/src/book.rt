@@ -1,11 +1,11 @@
 //! An object with the history of its calls, whose room is taken at the opening.
-ghost use Rattle.std.specs.Prelude.{◌≡◌, ◌∷◌, ◌++◌, ◌<◌, ◌≤◌, [], length, slice_index, vec_capacity, sum};
+ghost use Rattle.std.specs.Prelude.{◌≡◌, ◌∷◌, ◌++◌, ◌<◌, ◌≤◌, [], length, slice_index, vec_len, vec_capacity, sum};
 ghost use Rattle.hist_log.specs.History.{operations, IsLegal, state_left};
 ghost use Rattle.shfl_table.specs.Histories.{actions_by};
 ghost use Rattle.shfl_table.specs.Books.{BookModel, operations_of, actions, HavePlaces};
 
 use crate::Kept;
-use hist_log::{Entry, Object};
+use hist_log::{Entry, Object, Trail};
 use std::marker::Model;
 use std::snapshot::Snapshot;
 
@@ -41,6 +41,26 @@ impl<O: Object> Kept for Book<O> {
     ghost initial_state = { λ b. pack b.opening b.allowed };
 
     ghost history = { λ b. b.history };
+}
+
+// Puts a call with its reply behind the others, at its place.
+fn keep<O: Object>(history: &mut Vec<Entry<O>>, worker: u32, call: &O::Call, reply: O::Reply)
+    requires { vec_len history.old < vec_capacity history.old }
+    ensures entry { history.new.items ≡ history.old.items ++ record {
+      worker = worker;
+      call = call.now;
+      reply = reply;
+      receipt = length history.old.items;
+    } ∷ [] }
+    ensures room { vec_capacity history.new ≡ vec_capacity history.old }
+{
+    let receipt = history.len() as u64;
+    history.push_reserved(Entry {
+        worker,
+        call: *call,
+        reply,
+        receipt,
+    });
 }
 
 impl<O: Object> Book<O> {
@@ -91,14 +111,36 @@ impl<O: Object> Book<O> {
             (operations_of self.new.history) }
     {
         let reply = self.object.apply(call);
-        let receipt = self.history.len() as u64;
-        self.history.push_reserved(Entry {
-            worker,
-            call: *call,
-            reply,
-            receipt,
-        });
+        keep(&mut self.history, worker, call, reply);
         reply
+    }
+
+    /// Where the object made its last call, for `follow` of a book that had the same history.
+    pub fn trail(&self) -> Trail {
+        self.object.trail()
+    }
+
+    /// Makes a call for a worker that a book with the same history answered so, and then told this trail, and keeps it with its reply.
+    /// Takes no memory.
+    pub fn follow(&mut self, worker: u32, call: &O::Call, reply: &O::Reply, trail: &Trail)
+        requires left { length (actions_by worker self.old.history)
+            < slice_index self.old.allowed worker }
+        requires admitted { O.admits self.old.opening (O.call_numbers call.now) }
+        requires answered { O.reply_numbers reply.now ≡ O.reply_at
+            (state_left O.state_after self.old.opening (operations_of self.old.history))
+            (O.call_numbers call.now) }
+        ensures done { self.new ≡ record self.old {
+          history = self.old.history ++ record {
+            worker = worker;
+            call = O.call_numbers call.now;
+            reply = O.reply_numbers reply.now;
+          } ∷ [];
+        } }
+        ensures legal { IsLegal O.reply_at O.state_after self.new.opening
+            (operations_of self.new.history) }
+    {
+        self.object.follow(call, reply, trail);
+        keep(&mut self.history, worker, call, *reply);
     }
 
     /// Answers a read, which is not kept.

@@ -111,7 +111,8 @@ impl<V: Kept + Drop> Closing<V> {
             → (g : Given) × IsAmong g self.back × (g.number ≡ k) }
         ensures len { vec_len result ≡ self.board.id.table.slots }
         ensures values { (total : List Action)
-            × Every (IsCurrent V.initial_state V.history self.board.initial_state total) result.items
+            × Every (IsCurrent V.initial_state V.history self.board.initial_state total)
+            result.items
             × ((g : Given) → IsAmong g self.back → HasSeen total g.number g.history)
             × ((k : ℕ) → self.board.count ≤ k → actions_by k total ≡ []) }
     {

@@ -13,7 +13,7 @@ use atomic_table::{Seat, Shared};
 use shfl_line::Mode;
 
 // Turns the places of the seat so often.
-fn turn<V: Kept + Drop>(seat: &mut Seat<Option<V>, View>, times: usize)
+pub(crate) fn turn<V: Kept + Drop>(seat: &mut Seat<Option<V>, View>, times: usize)
     ensures { (seat.new.table_id ≡ seat.old.table_id) × (seat.new.id ≡ seat.old.id)
         × (seat.new.me ≡ (seat.old.me.0, turns times seat.old.me.1)) }
 {
@@ -48,7 +48,7 @@ fn exchanged<V: Kept + Drop>(
 }
 
 // How many places the pass has before this one, and how many from it on.
-fn around(mode: Mode, places: usize, place: usize) -> (usize, usize)
+pub(crate) fn around(mode: Mode, places: usize, place: usize) -> (usize, usize)
     requires { mode ≡ Write → place < places }
     ensures { (result.0 ≡ place_index mode place) × (mode ≡ Write → result.0 + result.1 ≡ places)
         × (mode ≡ Read → result.0 + result.1 ≡ 1) }
@@ -66,7 +66,8 @@ impl<V: Kept + Drop> Pass<V> {
         requires held { plan.is_held self.old.own.phase ≡ true }
         requires own { self.old.own.reg.mode ≡ Read → place ≡ self.old.own.reg.me }
         requires within { (x : V)
-            × (slice_get self.old.values (place_index self.old.own.reg.mode place) ≡ Some (Some x)) }
+            × (slice_get self.old.values (place_index self.old.own.reg.mode place)
+            ≡ Some (Some x)) }
         ensures out { self.new ≡ record self.old {
           values = set self.old.values (place_index self.old.own.reg.mode place) None;
         } }

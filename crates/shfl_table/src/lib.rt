@@ -4,6 +4,7 @@
 mod attempts;
 mod board;
 mod book;
+mod book_visits;
 mod closing;
 mod exchanges;
 mod kept;
@@ -16,17 +17,20 @@ mod plays;
 mod sleepers;
 mod trying;
 mod view;
+mod visits;
 mod waiting;
 
 pub use attempts::Busy;
 pub use board::SharedBoard;
 pub use book::Book;
+pub use book_visits::{ApplyCall, FollowCall, LookCall};
 pub use closing::Closing;
 pub use kept::{Action, Kept};
 pub use opening::open;
 pub use passes::Pass;
 pub use performing::perform;
 pub use view::{Decision, Given};
+pub use visits::Visit;
 pub use waiting::{free, wait_for};
 
 #[cfg(test)]

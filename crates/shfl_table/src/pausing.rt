@@ -18,13 +18,13 @@ const LONGER: u32 = 16;
 
 const LONGEST: u32 = 1000;
 
-// Whether waiters sleep in the lock's form.
-fn sleeps<V: Kept>(pass: &Pass<V>) -> bool {
+/// Whether waiters sleep in the lock's form.
+pub(crate) fn sleeps<V: Kept>(pass: &Pass<V>) -> bool {
     matches!(pass.rules.form, Form::Park | Form::RwPark)
 }
 
-// Sleeps for so many microseconds, on a word that nobody else knows.
-fn nap<Rt: Wait>(rt: &Rt, micros: u32) {
+/// Sleeps for so many microseconds, on a word that nobody else knows.
+pub(crate) fn nap<Rt: Wait>(rt: &Rt, micros: u32) {
     AtomicU64::new(0).park_timeout(rt, 0, Duration::from_micros(u64::from(micros)));
 }
 

@@ -7,31 +7,49 @@ ghost use Rattle.shfl_table.specs.Waits.{TriedInVain, WaitsFor};
 use crate::board::SharedBoard;
 use crate::kept::Kept;
 use crate::passes::Pass;
+use crate::pausing::{nap, sleeps};
 use shfl_line::Mode;
+use std::sync::Wait;
 use std::{hint, thread};
 
-// How often a pass tries with pauses in between, and how often it then gives its processor to others instead.
+// How often a pass tries, how often of these with pauses in between, and how often it then gives its processor to others. In a form
+// whose waiters sleep it naps from then on.
+const TRIES: u32 = 50;
+
 const PAUSES: u32 = 10;
 
-const YIELDS: u32 = 40;
+const AWAKE: u32 = 12;
+
+const NAPPING: u32 = 32;
+
+// How long a nap is, in microseconds.
+const NAP: u32 = 50;
 
 // How long the first pause is; each is twice the one before, up to eight times this.
 const PAUSE: u32 = 20;
 
+// How often a pass tries before it queues.
+fn tries<V: Kept>(pass: &Pass<V>) -> u32 {
+    if sleeps(pass) { NAPPING } else { TRIES }
+}
+
 // Lets others go on after this try.
-fn back_off(tried: u32) {
+fn back_off<V: Kept, Rt: Wait>(rt: &Rt, pass: &Pass<V>, tried: u32) {
     if tried < PAUSES {
         for _ in 0..PAUSE << tried.min(3) {
             hint::spin_loop();
         }
-    } else {
+    } else if tried < AWAKE || !sleeps(pass) {
         thread::yield_now();
+    } else {
+        nap(rt, NAP);
     }
 }
 
 /// Tries for a while to take the lock without queueing: whether the pass holds it. Each try fails while stealing is disabled, as it is
 /// while others queue.
-pub(crate) fn try_first<V: Kept + Drop>(
+pub(crate) fn try_first<V: Kept + Drop, Rt: Wait>(
+    rt: &Rt,
     board: &SharedBoard<V>,
     pass: &mut Pass<V>,
     mode: Mode,
@@ -45,11 +63,11 @@ pub(crate) fn try_first<V: Kept + Drop>(
     ensures lost { result ≡ false → TriedInVain pass.old pass.new }
     ensures asked { pass.new.decisions ≡ pass.old.decisions }
 {
-    for tried in 0..PAUSES + YIELDS {
+    for tried in 0..tries(pass) {
         if pass.attempt(board, mode).is_ok() {
             return true;
         }
-        back_off(tried);
+        back_off(rt, pass, tried);
     }
     false
 }

@@ -152,7 +152,7 @@ pub fn wait_for<V: Kept + Drop, C: Chooser, G: Gate, Rt: Wait>(
     ensures asked { AsksAll anchor.now pass.old.decisions pass.new.decisions
         (C.told chooser.old) (C.told chooser.new) }
 {
-    if try_first(board, pass, mode) {
+    if try_first(rt, board, pass, mode) {
         return;
     }
     let _ = pass.acquire(mode);

@@ -19,7 +19,8 @@ pub struct Boards<W: Waiter + Drop> {
     // what the second and the third lock show
     shown: LineState,
     seen: LineState,
-    ghost forms: { (plain.rules.form ≡ form) × (world.rules.form ≡ form) × (solo.rules.form ≡ form) },
+    ghost forms: { (plain.rules.form ≡ form) × (world.rules.form ≡ form)
+        × (solo.rules.form ≡ form) },
 }
 
 impl<W: Waiter + Drop> Boards<W> {

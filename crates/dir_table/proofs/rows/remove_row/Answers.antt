@@ -44,5 +44,5 @@ returns-in-Err-clause-number c =
 
 pub returns-in-Err-clause-removed : goal.returns-in-Err-clause-removed
 returns-in-Err-clause-removed c =
-    let gap = subst (λ bs. IsGapFor (entries_of (joined bs)) (c.args.dir, c.args.name) (rows_before bs c.in-Err.field-0)) c.blocks-2.ensures.blocks c.in-Err.ensures.absent in
+    let gap = subst (λ bs. IsGapFor (entries_of (joined bs)) (c.args.dir, c.args.name) (rows_before bs c.in-Err.spot)) c.blocks-2.ensures.blocks c.in-Err.ensures.absent in
     sym (kept_gap (entries_of (joined c.args.rows.now.blocks)) (c.args.dir, c.args.name) _ gap)

@@ -1,11 +1,9 @@
-use Rattle.std.proofs.Common.{rules, arith, ◌≡◌, ℕ, ◌+◌, ◌<◌, sym, refl, ap, ◌∙◌, subst, set, map, length, slice_get, length-set, List, [], ◌∷◌, ◌++◌, Option, Some, None}
-use Rattle.shfl_table.specs.declared.kept.Action.{Action}
-use Rattle.shfl_table.specs.Places.{Every}
+use Rattle.std.proofs.Common.{arith, ◌≡◌, ℕ, sym, refl, ap, ◌∙◌, subst, set, slice_get, length-set, List, [], ◌∷◌, ◌++◌, Some}
 use Rattle.shfl_table.specs.PassModel.{PassModel}
-use Rattle.shfl_table.specs.Books.{BookModel, pack}
+use Rattle.hist_log.specs.History.{state_left}
+use Rattle.shfl_table.specs.Books.{BookModel, pack, opening_of, operations_of}
 use Rattle.rw_cell.specs.RwCells.{write_after}
 use Rattle.rw_cell.proofs.Copies.{SplitAt, split-at, split-more, split-all, set-map, get-map, all-common}
-use Rattle.rw_cell.proofs.writes.write_and_free.Given as given_here
 use Rattle.rw_cell.proofs.writes.write_and_free.Goals as goal
 
 -- a copy with the write, and one without
@@ -32,14 +30,20 @@ loop-k-init g c = let O = g.O.Object in let call = O.call_numbers c.args.call.no
       ),
     )
 
-pub write_copy-requires-clause-within : goal.write_copy-requires-clause-within
-write_copy-requires-clause-within g c = let O = g.O.Object in let call = O.call_numbers c.args.call.now in let i = c.loop-k.invariant in let first = c.write_copy-reply.new.pass in let k : ℕ = c.loop-k.k in let test = c.loop-k-test.true in let long = i.1.2 in
+pub follow_copy-requires-clause-within : goal.follow_copy-requires-clause-within
+follow_copy-requires-clause-within g c = let O = g.O.Object in let call = O.call_numbers c.args.call.now in let i = c.loop-k.invariant in let first = c.write_copy-reply.new.pass in let k : ℕ = c.loop-k.k in let test = c.loop-k-test.true in let long = i.1.2 in
     let x = split-at (Written O.reply_at O.state_after call first) (Unwritten first) k i.1.0 (omega arith) i.1.3 in
     let q = subst (λ (t : PassModel BookModel). Unwritten t x.0) (sym i.0) x.2 in (x.0, ap (λ l. slice_get l k) i.1.1 ∙ get-map i.1.0 k x.0 x.1, q.0, q.1)
 
+pub follow_copy-requires-clause-answered : goal.follow_copy-requires-clause-answered
+follow_copy-requires-clause-answered g c = let O = g.O.Object in let call = O.call_numbers c.args.call.now in let i = c.loop-k.invariant in let e = c.write_copy-reply.ensures.pass in
+    let start = sym (ap (λ (z : PassModel BookModel). z.initial_state) e.1) ∙ sym (ap (λ (z : PassModel BookModel). z.initial_state) i.0) in
+    let told = sym (ap (λ (z : PassModel BookModel). z.history) e.1) ∙ sym (ap (λ (z : PassModel BookModel). z.history) i.0) in
+    c.write_copy-reply.ensures.reply ∙ (λ j. O.reply_at (state_left O.state_after (opening_of (start j)) (operations_of (told j))) call)
+
 pub loop-k-preserved : goal.loop-k-preserved
 loop-k-preserved g c = let O = g.O.Object in let call = O.call_numbers c.args.call.now in let i = c.loop-k.invariant in let first = c.write_copy-reply.new.pass in let k : ℕ = c.loop-k.k in let test = c.loop-k-test.true in let long = i.1.2 in let cur = c.loop-k.pass in
-    let e = c.write_copy.ensures.pass in let y = e.0 in (
+    let e = c.follow_copy.ensures.pass in let y = e.0 in (
       e.1 ∙ ((λ j. record (i.0 j) { values = set cur.values k (Some y) }) ∙ (λ j. record first { values = sym (ap (λ (z : PassModel BookModel). z.values) e.1) j })),
       (
         set i.1.0 k y,
