@@ -9,7 +9,7 @@ mod running;
 mod step;
 mod steps;
 
-pub use running::{run, value};
+pub use running::{Ran, counted, run, value};
 pub use steps::Steps;
 
 #[cfg(test)]

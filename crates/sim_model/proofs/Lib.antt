@@ -8,3 +8,4 @@ pub mod Scheduled
 pub mod Settled
 pub mod Still
 pub mod Turned
+pub mod LawfulRuns

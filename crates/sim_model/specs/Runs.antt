@@ -115,6 +115,14 @@ in_time until (Some e) = cond (nat_le e.at until) (Some e) None
 abbrev pub next_turn : Setup → Bench → Option Entry
 next_turn s b = in_time s.until (soonest b.stands s.passes)
 
+abbrev pub is_due : Option Entry → Bool
+is_due None = false
+is_due (Some e) = true
+
+-- turns are left before the end
+abbrev pub is_cut : Setup → Bench → Bool
+is_cut s b = is_due (next_turn s b)
+
 abbrev pub turning : {A : Type 0} → Option Entry → A → (Entry → A) → A
 turning None stops further = stops
 turning (Some e) stops further = further e

@@ -21,11 +21,16 @@ mod turns;
 mod waiter;
 
 pub use adviser::{Advice, Adviser};
-pub use bench::Bench;
+pub use bench::{Bench, opening};
 pub use built_in::BuiltIn;
+pub use calls::mode_of;
 pub use counts::{Counts, Order, Reaches, Served};
-pub use laws::{polls_change_nothing, runs_are_schedules, sums_agree, times_never_fall};
+pub use laws::{
+    polls_change_nothing, runs_are_lawful, runs_are_schedules, sums_agree, times_never_fall,
+};
 pub use lines::{Line, Reach};
-pub use run::{Run, simulate};
+pub use locks::open_lock;
+pub use run::{Run, is_cut, next_entry, simulate, take_turn};
 pub use setup::{Core, Costs, Layout, Setup, Work, cores_of};
-pub use turns::{Stand, Turn};
+pub use turns::{Entry, Stand, Turn};
+pub use waiter::AnyWaiter;

@@ -92,8 +92,8 @@ fn gain(setup: &Setup, bench: &mut Bench, pass: u32, mode: Mode, stolen: bool, a
     wait
 }
 
-// What a pass does at its turn: how long it has waited, where it gains.
-fn take_turn<A: Adviser>(
+/// What a pass does at its turn: how long it has waited, where it gains.
+pub fn take_turn<A: Adviser>(
     setup: &Setup,
     adviser: &A,
     lock: &mut PlainWorld<AnyWaiter>,
@@ -126,8 +126,8 @@ fn take_turn<A: Adviser>(
     None
 }
 
-// The turn that comes next, unless it comes after the end.
-fn next_entry(setup: &Setup, bench: &Bench) -> Option<Entry>
+/// The turn that comes next, unless it comes after the end.
+pub fn next_entry(setup: &Setup, bench: &Bench) -> Option<Entry>
     requires { setup.now.passes ≤ 64 }
     ensures next { result ≡ runs.next_turn setup.now bench.now }
     ensures declared { IfSome result (λ e. e.pass < setup.now.passes) }
@@ -136,6 +136,14 @@ fn next_entry(setup: &Setup, bench: &Bench) -> Option<Entry>
         Some(entry) if entry.at <= setup.until => Some(entry),
         _ => None,
     }
+}
+
+/// Whether a run that stands so has turns left before its end.
+pub fn is_cut(setup: &Setup, bench: &Bench) -> bool
+    requires { setup.now.passes ≤ 64 }
+    ensures { result ≡ runs.is_cut setup.now bench.now }
+{
+    next_entry(setup, bench).is_some()
 }
 
 // One wait more, where there is one.

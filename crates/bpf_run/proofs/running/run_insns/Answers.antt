@@ -27,6 +27,13 @@ returns-in-End-clause-count g c =
     let same : (outcome insns context).count ≡ (running 0 insns context at_start).count = ap (λ (o : Outcome). o.count) (outcome-running insns context c.requires) in
     omega (arith, ends, same, c.tick.ensures, c.loop-at.invariant.count)
 
+pub returns-in-End-clause-counted : goal.returns-in-End-clause-counted
+returns-in-End-clause-counted g c =
+    let insns = c.args.insns.now in let context = c.args.context.now in
+    let ends : (running 0 (drop c.loop-at.at insns) context c.loop-at.regs).count ≡ 1 = ap (λ (o : Outcome). o.count) (running-end insns c.loop-at.at context c.loop-at.regs _ c.in-End.value c.loop-at-test.true c.in-End.ensures.flow) in
+    let same : (outcome insns context).count ≡ (running 0 insns context at_start).count = ap (λ (o : Outcome). o.count) (outcome-running insns context c.requires) in
+    omega (arith, ends, same, c.loop-at.invariant.counted)
+
 pub loop-at-preserved : goal.loop-at-preserved
 loop-at-preserved g c =
     let insns = c.args.insns.now in let context = c.args.context.now in
@@ -36,8 +43,10 @@ loop-at-preserved g c =
     let more : (running 0 (drop c.loop-at.at insns) context c.loop-at.regs).count ≡ (next c.step.new.regs).count + 1 = rw c.in-Past.ensures.regs (ap (λ (o : Outcome). o.count) on) in
     record {
       value = sym same ∙ c.loop-at.invariant.value;
+      counted = omega (arith, more, c.loop-at.invariant.counted);
       count = omega (arith, more, c.tick.ensures, c.loop-at.invariant.count);
       few = omega (arith, c.tick.ensures, c.loop-at.invariant.few, c.loop-at-test.true);
+      small = omega (arith, c.loop-at.invariant.small);
     }
 
 pub returns-clause-value : goal.returns-clause-value
@@ -53,3 +62,10 @@ returns-clause-count g c =
     let out : (running 0 (drop c.loop-at.at insns) context c.loop-at.regs).count ≡ 0 = ap (λ (o : Outcome). o.count) (running-out insns c.loop-at.at context c.loop-at.regs c.loop-at-test.false) in
     let same : (outcome insns context).count ≡ (running 0 insns context at_start).count = ap (λ (o : Outcome). o.count) (outcome-running insns context c.requires) in
     omega (arith, out, same, c.loop-at.invariant.count)
+
+pub returns-clause-counted : goal.returns-clause-counted
+returns-clause-counted g c =
+    let insns = c.args.insns.now in let context = c.args.context.now in
+    let out : (running 0 (drop c.loop-at.at insns) context c.loop-at.regs).count ≡ 0 = ap (λ (o : Outcome). o.count) (running-out insns c.loop-at.at context c.loop-at.regs c.loop-at-test.false) in
+    let same : (outcome insns context).count ≡ (running 0 insns context at_start).count = ap (λ (o : Outcome). o.count) (outcome-running insns context c.requires) in
+    omega (arith, out, same, c.loop-at.invariant.counted)

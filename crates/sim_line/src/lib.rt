@@ -1,0 +1,10 @@
+//! A run of the policy simulator as a schedule: the first events of the run of a policy, which `line` reads.
+#![tactic(auto)]
+
+mod events;
+mod named;
+mod schedule;
+
+pub use events::{Event, first_events};
+pub use named::candidate_named;
+pub use schedule::schedule_of;

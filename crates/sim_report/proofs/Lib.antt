@@ -1,0 +1,4 @@
+pub mod Rising
+pub mod Values
+pub mod Totals
+pub mod Listed

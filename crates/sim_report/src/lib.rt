@@ -1,0 +1,17 @@
+//! The report of the policy simulator: what the run of each policy of a setup comes to, and how that spreads over several seeds.
+#![tactic(auto)]
+
+mod figures;
+mod laws;
+mod report;
+mod report_parts;
+mod spread;
+mod spread_parts;
+mod tallies;
+mod whole;
+
+pub use laws::tallies_add_up;
+pub use report::run_setup;
+pub use report_parts::{form_name, push_figure};
+pub use tallies::{Key, Tally, tally_of, values_of};
+pub use whole::report_of;

@@ -1,0 +1,5 @@
+pub mod Options
+pub mod Loading
+pub mod PolicyLoop
+pub mod Leftover
+pub mod Once

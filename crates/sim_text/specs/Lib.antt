@@ -1,0 +1,7 @@
+pub mod Setups
+pub mod Errors
+pub mod Said
+pub mod Words
+pub mod Lines
+pub mod Grammar
+pub mod Answering

@@ -1,0 +1,19 @@
+//! Setups of the policy simulator: their documents, read line by line, and how each policy answers.
+#![tactic(auto)]
+
+mod answering;
+mod costs;
+mod error;
+mod front;
+mod laws;
+mod lines;
+mod passes;
+mod policies;
+mod read;
+mod setup;
+mod words;
+
+pub use error::SetupError;
+pub use laws::setups_are_read_once;
+pub use read::read_setup;
+pub use setup::{Candidate, Load, Machine, Rule, Seeds, SimSetup};

@@ -1,0 +1,63 @@
+//! The program as one call: words and bytes in, a status, a report and an error line out.
+ghost use Rattle.std.specs.Prelude.{◌≡◌, map, string_bytes, codes, Some, None};
+ghost use Rattle.syncord_endings.specs.Traffic.{traffic, Told};
+ghost use Rattle.syncord_endings.specs.Endings.{Answers, Decides};
+ghost use Rattle.syncord_sim.specs.Commands.{Wanted, command_in};
+ghost use Rattle.syncord_sim.specs.Simulations.{Writes, Refuses};
+
+use crate::commands::{Command, command_of};
+use crate::simulation::simulation;
+use std::alloc::Global;
+use syn_outer::{Sink, Source};
+use syncord_endings::{Refusal, Work, perform, tell};
+
+impl<'a> Work for Command<'a> {
+    ghost use Rattle.syncord_sim.specs.Commands.{said};
+    ghost use Rattle.syncord_sim.specs.Simulations.{Writes, Refuses};
+
+    ghost reports = { λ command bytes text. Writes (said command) bytes text };
+
+    ghost refuses = { λ command bytes refusal. Refuses (said command) bytes refusal };
+
+    fn report(&self, alloc: Global, bytes: &[u8]) -> Result<Vec<u8>, Refusal> {
+        simulation(alloc, *self, bytes)
+    }
+}
+
+/// Simulates as the words behind the program's name say, and answers the status.
+pub fn simulate<R: Source, W: Sink, E: Sink>(
+    alloc: Global,
+    words: &[String],
+    src: &mut R,
+    out: &mut W,
+    err: &mut E,
+) -> u8
+    // Other words are refused, and nothing is read or written.
+    ensures refused { command_in (map string_bytes words.now) ≡ None → result ≡ 2 }
+    ensures untouched { command_in (map string_bytes words.now) ≡ None →
+        (src.new ≡ src.old) × (out.new ≡ out.old) }
+    ensures told { command_in (map string_bytes words.now) ≡ None →
+        Told (traffic (E.held err.old) (E.held err.new) (E.faults err.old) (E.faults err.new))
+        (codes "syncord: words\n") }
+
+    // The status has its cause.
+    ensures answer { (wanted : Wanted) → command_in (map string_bytes words.now) ≡ Some wanted →
+        Answers (Writes wanted) (Refuses wanted)
+        (traffic (R.left src.old) (R.left src.new) (R.faults src.old) (R.faults src.new))
+        (traffic (W.held out.old) (W.held out.new) (W.faults out.old) (W.faults out.new))
+        (traffic (E.held err.old) (E.held err.new) (E.faults err.old) (E.faults err.new)) result }
+
+    // What is wanted of a setup is written, and another document refused, unless something fails or memory runs out.
+    ensures complete { (wanted : Wanted) → command_in (map string_bytes words.now) ≡ Some wanted →
+        Decides (Refuses wanted)
+        (traffic (R.left src.old) (R.left src.new) (R.faults src.old) (R.faults src.new))
+        (traffic (W.held out.old) (W.held out.new) (W.faults out.old) (W.faults out.new)) result }
+{
+    match command_of(words) {
+        Some(command) => perform(&command, alloc, src, out, err),
+        None => {
+            tell(err, b"syncord: words\n");
+            2
+        }
+    }
+}
