@@ -1,0 +1,2 @@
+pub mod EachTicket
+pub mod TicketSteps

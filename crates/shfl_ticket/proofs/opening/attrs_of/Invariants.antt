@@ -1,0 +1,6 @@
+use Rattle.std.proofs.Common.{◌≡◌, ◌≤◌, length, vec_len}
+use Rattle.std.specs.Prelude.{vec_capacity}
+use Rattle.shfl_ticket.proofs.opening.attrs_of.Given as goal
+
+abbrev pub invariant-loop-word : goal.invariant-loop-word
+invariant-loop-word l = (vec_len l.attrs ≡ l.word-index) × (length l.words ≤ vec_capacity l.attrs)

@@ -1,0 +1,78 @@
+#!/usr/bin/env bash
+# The C programs of examples/c: built over the static library, run exact in every form, and once under valgrind's memcheck where it is
+# there. An argument is how often each is run (1 if left out). Where there is no C compiler it says so, and passes.
+set -u
+top="$(cd "$(dirname "$(readlink -f "${BASH_SOURCE[0]}")")/.." && pwd)"
+times="${1:-1}"
+cc="${CC:-cc}"
+command -v "$cc" >/dev/null || { echo "tests/c.sh: no C compiler is there, so no C program was built"; exit 0; }
+room="$(mktemp -d)"
+trap 'rm -rf "$room"' EXIT
+archive="$top/crates/shfl_c/out/libshfl_c.a"
+(cd "$top/crates/shfl_c" && rt lib </dev/null) >"$room/built" 2>&1 || { tail -n 20 "$room/built" >&2; exit 1; }
+
+programs=(counter map policy)
+failed=0
+for name in "${programs[@]}"; do
+    "$cc" -std=gnu11 -O2 -Wall -Wextra -Werror -I "$top/include" "$top/examples/c/$name.c" "$top/include/shfl_heap.c" "$archive" \
+        -o "$room/$name" -lpthread || exit 1
+done
+
+# without any patience the headers compile too
+"$cc" -std=gnu11 -O2 -Wall -Wextra -Werror -DSHFL_PAUSES=0 -DSHFL_YIELDS=0 -DSHFL_LOOKS=0 -DSHFL_STEPS_AWAKE=0 -I "$top/include" \
+    -c "$top/examples/c/counter.c" -o "$room/hasty.o" || exit 1
+
+# C++ may include the headers, and build the heap
+if command -v c++ >/dev/null; then
+    cat >"$room/seats.cpp" <<'PROGRAM'
+#include "shfl_park.h"
+int main() {
+    static shfl_seat seats[2];
+    shfl_pass passes[2] = {};
+    const uint64_t attrs[2] = {};
+    if (!shfl_open(attrs, 2, SHFL_RW, 1024, passes, 2)) return 2;
+    shfl_seat_all(passes, seats, 2);
+    shfl_lock_parked(seats, 1);
+    bool refused = !shfl_trylock(&seats[0].pass);
+    shfl_unlock_parked(seats, 1);
+    shfl_rdlock_parked(seats, 0);
+    shfl_unlock_parked(seats, 0);
+    for (shfl_seat &seat : seats) shfl_close(&seat.pass);
+    return refused ? 0 : 1;
+}
+PROGRAM
+    c++ -std=c++17 -O2 -Wall -Wextra -Werror -I "$top/include" "$room/seats.cpp" "$top/include/shfl_heap.c" "$archive" -o "$room/seats" \
+        -lpthread || exit 1
+    "$room/seats" || { echo "tests/c.sh: the program in C++, status $?" >&2; failed=1; }
+fi
+
+for name in "${programs[@]}"; do
+    exact=0
+    for ((k = 0; k < times; k++)); do
+        if "$room/$name" >"$room/got" 2>&1; then
+            exact=$((exact + 1))
+        else
+            echo "tests/c.sh: $name, status $?: $(cat "$room/got")" >&2
+            failed=1
+        fi
+    done
+    echo "tests/c.sh: $name exact in $exact of $times"
+done
+
+if command -v valgrind >/dev/null; then
+    # one thread at a time runs under it, so few rounds serve
+    for run in "counter 50" "map 40" "policy 50"; do
+        read -r name rounds <<<"$run"
+        if valgrind -q --error-exitcode=9 --leak-check=full --show-leak-kinds=all --errors-for-leak-kinds=all --fair-sched=yes \
+            "$room/$name" "$rounds" >"$room/got" 2>&1; then
+            echo "tests/c.sh: valgrind is silent on $name"
+        else
+            echo "tests/c.sh: valgrind on $name:" >&2
+            tail -n 30 "$room/got" >&2
+            failed=1
+        fi
+    done
+else
+    echo "tests/c.sh: no valgrind is there, so no program was run under it"
+fi
+exit "$failed"
