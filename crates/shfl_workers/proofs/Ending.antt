@@ -1,11 +1,9 @@
 -- The workers behind their last call.
-use Rattle.std.proofs.Common.{◌≡◌, ◌≢◌, ℕ, zero, suc, ◌<◌, ◌≤◌, List, [], ◌∷◌, map, length, get_or, slice_get, Some, All, sym, refl, ap, ◌∙◌, subst, arith}
+use Rattle.std.proofs.Common.{◌≡◌, ◌≢◌, ℕ, zero, suc, ◌<◌, ◌≤◌, List, [], ◌∷◌, map, length, get_or, All, sym, refl, ap, ◌∙◌, subst, arith}
 use Rattle.std.proofs.lemmas.List.{get_or-map}
 use Rattle.std.specs.List.{AllByRecursion}
 use native.Mathlib.Decide.{dec_lt}
-use Rattle.std.proofs.lemmas.List.Elements.{All-map, Contains-get_or}
 use Rattle.std.proofs.Math.ListN.{length-map}
-use Rattle.std.specs.List.{Contains}
 use Rattle.dir_table.specs.declared.calls.DirCall.{DirCall}
 use Rattle.dir_table.specs.declared.calls.DirReply.{DirReply}
 use Rattle.dir_table.specs.Directory.{Directory}
@@ -24,64 +22,18 @@ use Rattle.trace_text.specs.Report.{done_of}
 use Rattle.trace_text.specs.Traces.{IsCallOf}
 use Rattle.trace_text.specs.Histories.{IsHistoryOf, made_of, made_in, of_worker, beginning, after_all}
 use Rattle.trace_text.proofs.Answered.{answered, left, operations_of}
+use Rattle.shfl_workers.proofs.Numbered.{pass_of, number_of}
 use Rattle.shfl_workers.proofs.Merging.{made_once, nobody, nobody_makes, reads_leave_all}
 use Rattle.trace_text.specs.declared.trace.TraceCall.{TraceCall}
 use Rattle.policy_versions.specs.Places.{RegistryId}
-use Rattle.policy_versions.proofs.Indexed.{some_same}
-use Rattle.rw_cell.specs.RwCells.{RwCellModel, RwPassModel, number, IsPassOf, AreAll, AreOnce}
+use Rattle.rw_cell.specs.RwCells.{RwCellModel, RwPassModel, number, IsPassOf, AreOnce}
 use Rattle.shfl_workers.specs.declared.activity.Activity.{Activity}
-use Rattle.shfl_workers.specs.Activities.{IsAt}
-use Rattle.shfl_workers.specs.Stages.{AreNumbered}
+use Rattle.shfl_workers.specs.Activities.{IsAt, AreNumbered}
 use Rattle.shfl_workers.specs.RwDirs.{HasMade}
 
--- an element that is there is the one of its place
-pub at_index : {X : Type 0} (xs : List X) (i : ℕ) (x d : X) → slice_get xs i ≡ Some x → (i < length xs) × (get_or xs i d ≡ x)
-at_index [] i x d e = absurd (cc)
-at_index (y ∷ ys) zero x d e = (omega arith, some_same y x e)
-at_index (y ∷ ys) (suc i) x d e = let r = at_index ys i x d e in (omega (arith, r.0), r.1)
-
-pub there : {X : Type 0} (xs : List X) (i : ℕ) (d : X) → i < length xs → slice_get xs i ≡ Some (get_or xs i d)
-there [] i d lt = absurd (omega arith)
-there (y ∷ ys) zero d lt = refl
-there (y ∷ ys) (suc i) d lt = there ys i d (omega (arith, lt))
-
--- one fact of each element of the mapped list
-pub of_each : {X Y : Type 0} (f : X → Y) (P : Y → Type 0) (xs : List X) → All (λ x. P (f x)) xs → (i : ℕ) (y : Y) → slice_get (map f xs) i ≡ Some y → P y
-of_each f P [] all i y e = absurd (cc)
-of_each f P (x ∷ xs) all i y e =
-    let whole = All-map P f (x ∷ xs) all in
-    let r = at_index (map f (x ∷ xs)) i y (f x) e in subst P r.1 (whole i (f x) r.0)
-
-abbrev pub pass_of : {E : Type 0} → Activity (RwPassModel E) → RwPassModel E
-pass_of a = a.pass
-
-number_of : {E : Type 0} (all : List (Activity (RwPassModel E))) (i : ℕ) (p : RwPassModel E) → AreNumbered all → slice_get (map (λ a. a.pass) all) i ≡ Some p → number p ≡ i
-number_of [] i p numbered e = absurd (cc)
-number_of (a ∷ rest) i p numbered e =
-    let r = at_index (map pass_of (a ∷ rest)) i p a.pass e in
-    let lt : i < length (a ∷ rest) = (let l = length-map (a ∷ rest) pass_of in let b = r.0 in omega (arith, l, b)) in
-    ap number (sym r.1 ∙ get_or-map pass_of (a ∷ rest) i a a.pass lt) ∙ numbered i a lt
-
 -- each pass is there once
-pub once : {E : Type 0} (all : List (Activity (RwPassModel E))) → AreNumbered all → AreOnce (map (λ a. a.pass) all)
-once all numbered i j p q at_i at_j same = sym (number_of all i p numbered at_i) ∙ same ∙ number_of all j q numbered at_j
-
-numbers_in : {E : Type 0} (all : List (Activity (RwPassModel E))) (k : ℕ) (d : Activity (RwPassModel E)) → AreNumbered all → k < length all
-    → slice_get (map number (map (λ a. a.pass) all)) k ≡ Some k
-numbers_in [] k d numbered lt = absurd (omega arith)
-numbers_in (a ∷ rest) k d numbered lt =
-    let ps = map pass_of (a ∷ rest) in let l = length-map (a ∷ rest) pass_of in let m = length-map ps number in
-    there (map number ps) k k (omega (arith, lt, l, m))
-    ∙ ap Some (get_or-map number ps k a.pass k (omega (arith, lt, l)) ∙ ap number (get_or-map pass_of (a ∷ rest) k a a.pass lt) ∙ numbered k a lt)
-
--- the passes are all that the cell has
-pub everyone : {E : Type 0} (all : List (Activity (RwPassModel E))) (count : ℕ) → AreNumbered all → length all ≡ count → AreAll count (map (λ a. a.pass) all)
-everyone [] count numbered many k lt = absurd (omega (arith, lt, many))
-everyone (a ∷ rest) count numbered many k lt =
-    let within : k < length (a ∷ rest) = omega (arith, lt, many) in
-    let here = numbers_in (a ∷ rest) k a numbered within in
-    let r = at_index (map number (map pass_of (a ∷ rest))) k k k here in
-    subst (Contains (map number (map pass_of (a ∷ rest)))) r.1 (Contains-get_or (map number (map pass_of (a ∷ rest))) k k r.0)
+pub once : {E : Type 0} (all : List (Activity (RwPassModel E))) → AreNumbered number all → AreOnce (map (λ a. a.pass) all)
+once all numbered i j p q at_i at_j same = sym (number_of number all i p numbered at_i) ∙ same ∙ number_of number all j q numbered at_j
 
 any_default : {X : Type 0} (xs : List X) (i : ℕ) (d e : X) → i < length xs → get_or xs i d ≡ get_or xs i e
 any_default [] i d e lt = absurd (omega arith)
@@ -90,7 +42,7 @@ any_default (x ∷ xs) (suc i) d e lt = any_default xs i d e (omega (arith, lt))
 
 module _ {O : Type 0} (cell : RwCellModel) (registry : RegistryId) (workers names policies : ℕ) (calls : List TraceCall)
     (within : AllByRecursion (IsCallOf workers names policies) calls)
-    (all : List (Activity (RwPassModel (Entry O DirCall DirReply)))) (many : length all ≡ workers) (count : cell.count ≡ workers) (numbered : AreNumbered all)
+    (all : List (Activity (RwPassModel (Entry O DirCall DirReply)))) (many : length all ≡ workers) (count : cell.count ≡ workers) (numbered : AreNumbered number all)
     (at : All (IsAt (IsPassOf cell) number HasMade (λ p. p.left) registry calls []) all)
     (writes : List (Entry O DirCall DirReply)) (reads : List (List (Entry O DirCall DirReply)))
     (gives_writes : GivesWrites call_numbers reply_numbers reply_at state_after cell (map (λ a. a.pass) all) writes)

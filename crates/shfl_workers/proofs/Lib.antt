@@ -5,7 +5,11 @@ pub mod Joining
 pub mod Loading
 pub mod Merging
 pub mod Starting
+pub mod Numbered
 pub mod Ending
+pub mod Ran
+pub mod MadeOnce
+pub mod ShardEnding
 pub mod Publishing
 pub mod Opening
-pub mod Runnable
+pub mod Crossing

@@ -5,18 +5,16 @@ use Rattle.trace_text.specs.declared.trace.TraceCall.{TraceCall}
 use Rattle.trace_text.specs.Attachments.{attached_in, versions_from}
 use Rattle.policy_versions.specs.Places.{RegistryId}
 use Rattle.policy_versions.specs.Models.{PublisherModel}
-use Rattle.rw_cell.specs.RwCells.{RwPassModel, number}
 use Rattle.shfl_workers.specs.declared.activity.Activity.{Activity}
 use Rattle.shfl_workers.specs.declared.attaching.Attaching.{Attaching}
-use Rattle.shfl_workers.specs.Activities.{IsAt}
+use Rattle.shfl_workers.specs.Activities.{IsAt, AreNumbered}
 use Rattle.shfl_workers.specs.Attaching.{Attached}
-use Rattle.shfl_workers.specs.Stages.{AreNumbered}
 
 pub is_there : {X : Type 0} (P : X → Type 0) (o : Option X) → IsSomeAnd o P → IsSome o
 is_there P None h = absurd h
 is_there P (Some x) h = refl
 
-module _ {E : Type 0} (is_pass : RwPassModel E → Type 0) (made : RwPassModel E → List DirCall → Type 0) (left : RwPassModel E → ℕ) (registry : RegistryId) (calls : List TraceCall) where
+module _ {Pass : Type 0} (number : Pass → ℕ) (is_pass : Pass → Type 0) (made : Pass → List DirCall → Type 0) (left : Pass → ℕ) (registry : RegistryId) (calls : List TraceCall) where
   -- all that the trace attaches is published
   abbrev pub HasPublished : PublisherModel → Type 0
   HasPublished p = (p.registry ≡ registry) × (p.rows ≡ versions_from 1 (attached_in calls))
@@ -26,8 +24,8 @@ module _ {E : Type 0} (is_pass : RwPassModel E → Type 0) (made : RwPassModel E
   of_first (Some x) h = (h.of_registry, h.rows)
 
   -- there is a first activity, and its worker attaches
-  pub first_of : (all : List (Activity (RwPassModel E))) → 0 < length all → AreNumbered all → All (IsAt is_pass number made left registry calls []) all
-      → (a : Activity (RwPassModel E)) × (rest : List (Activity (RwPassModel E))) × (all ≡ a ∷ rest) × IsSomeAnd a.attaching (λ x. HasPublished x.publisher)
+  pub first_of : (all : List (Activity Pass)) → 0 < length all → AreNumbered number all → All (IsAt is_pass number made left registry calls []) all
+      → (a : Activity Pass) × (rest : List (Activity Pass)) × (all ≡ a ∷ rest) × IsSomeAnd a.attaching (λ x. HasPublished x.publisher)
   first_of [] some numbered at = absurd (omega (arith, some))
   first_of (a ∷ rest) some numbered at = (a, rest, refl, of_first a.attaching ((at 0 a (omega arith)).progress.attached (numbered 0 a (omega arith))))
 
@@ -36,6 +34,6 @@ module _ {E : Type 0} (is_pass : RwPassModel E → Type 0) (made : RwPassModel E
   same_publisher None p h same = absurd h
   same_publisher (Some x) p h same = (ap (λ (m : PublisherModel). m.registry) same ∙ h.0, ap (λ (m : PublisherModel). m.rows) same ∙ h.1)
 
-  pub published : (all : List (Activity (RwPassModel E))) (p : PublisherModel) → 0 < length all → AreNumbered all → All (IsAt is_pass number made left registry calls []) all
-      → ((a : Activity (RwPassModel E)) (rest : List (Activity (RwPassModel E))) → all ≡ a ∷ rest → IsSomeAnd a.attaching (λ x. p ≡ x.publisher)) → HasPublished p
+  pub published : (all : List (Activity Pass)) (p : PublisherModel) → 0 < length all → AreNumbered number all → All (IsAt is_pass number made left registry calls []) all
+      → ((a : Activity Pass) (rest : List (Activity Pass)) → all ≡ a ∷ rest → IsSomeAnd a.attaching (λ x. p ≡ x.publisher)) → HasPublished p
   published all p some numbered at told = let f = first_of all some numbered at in same_publisher f.0.attaching p f.3 (told f.0 f.1 f.2)

@@ -1,5 +1,5 @@
 -- What each worker works with.
-use Rattle.std.specs.Prelude.{◌≡◌, ℕ, List, [], ◌∷◌, Option, None}
+use Rattle.std.specs.Prelude.{◌≡◌, ℕ, ◌<◌, List, [], ◌∷◌, length, slice_index_or, Option, None}
 use Rattle.dir_table.specs.declared.calls.DirCall.{DirCall}
 use Rattle.trace_text.specs.declared.trace.TraceCall.{TraceCall}
 use Rattle.policy_versions.specs.Places.{RegistryId}
@@ -20,3 +20,7 @@ pub record IsAt {Pass : Type 0} (is_pass : Pass → Type 0) (worker : Pass → �
   pub of_dir : is_pass a.pass
   pub closed : IsClosed registry a.user
   pub progress : Progress made left registry (worker a.pass) done ahead a.pass a.attaching
+
+-- each activity stands at the place of its pass's number
+abbrev pub AreNumbered : {Pass : Type 0} → (Pass → ℕ) → List (Activity Pass) → Type 0
+AreNumbered {Pass} number activities = (k : ℕ) (d : Activity Pass) → k < length activities → number (slice_index_or activities k d).pass ≡ k

@@ -4,4 +4,6 @@ pub mod Shares
 pub mod Progress
 pub mod Activities
 pub mod RwDirs
+pub mod ShardDirs
 pub mod Stages
+pub mod ShardStages

@@ -74,7 +74,8 @@ pub fn run_all<D: SharedDir + Sync, G: Gate + Sync, R: Threads + Wait + Sync>(
     let job = |_place: usize, activity: &mut Activity<D::Pass>|
         requires { ((workers : ℕ) × (policies : ℕ)
             × AllByRecursion (IsCallOf workers (D.room dir.now) policies) calls.now)
-            × IsAt (D.is_pass dir.now) D.worker D.made D.left registry.now [] calls.now activity.now }
+            × IsAt (D.is_pass dir.now) D.worker D.made D.left registry.now [] calls.now
+            activity.now }
         ensures { IsAt (D.is_pass dir.entry.now) D.worker D.made D.left registry.entry.now
             calls.entry.now [] activity.exit.now
             × (D.worker activity.exit.now.pass ≡ D.worker activity.entry.now.pass) }

@@ -64,7 +64,8 @@ impl Attaching {
             × Attached registry.now done (policy ∷ left) self.old.publisher self.old.copies.items }
         ensures { (done left : List ℕ)
             → Attached registry.now done (policy ∷ left) self.old.publisher self.old.copies.items
-            → Attached registry.now (done ++ policy ∷ []) left self.new.publisher self.new.copies.items }
+            → Attached registry.now (done ++ policy ∷ []) left
+            self.new.publisher self.new.copies.items }
     {
         let _ = policy;
         let Some(copy) = self.copies.pop_front() else {

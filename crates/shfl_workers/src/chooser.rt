@@ -23,7 +23,12 @@ impl<'a, 'p> Model for UsingChooser<'a, 'p> {
 
     ghost Value = { ChooserModel };
 
-    ghost view = { λ c. record { registry = c.registry.now; name = c.pass.ghost_name; pass = c.pass.now; held = c.held } };
+    ghost view = { λ c. record {
+      registry = c.registry.now;
+      name = c.pass.ghost_name;
+      pass = c.pass.now;
+      held = c.held;
+    } };
 
     ghost invariant = { λ c. (c.pass.now.registry.table ≡ c.registry.now.table)
         × (c.pass.now.is_open ≡ is_open c.held) × IsHeldBy c.registry.now c.pass.now c.held };

@@ -9,6 +9,10 @@ mod run;
 #[cfg(test)]
 mod run_tests;
 mod rw_dir;
+mod shard_dir;
+mod shards_run;
+#[cfg(test)]
+mod shards_tests;
 mod shared_dir;
 mod shares;
 #[cfg(test)]
@@ -18,8 +22,9 @@ mod worker;
 pub use activity::{Activity, join, run_all, take_apart};
 pub use attaching::{Attaching, copies_of};
 pub use chooser::UsingChooser;
-pub use policies::load_all;
+pub use policies::{load_all, load_one};
 pub use run::{Outcome, run_trace};
+pub use shards_run::run_shards;
 pub use shared_dir::SharedDir;
 pub use shares::shares_of;
 pub use worker::work;

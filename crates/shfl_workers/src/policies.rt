@@ -9,8 +9,8 @@ use shfl_policy::{LoadError, Policy, load};
 use std::alloc::Global;
 use trace_text::{NamedSource, NoMemory};
 
-// A declared policy under its number.
-fn load_one(
+/// A declared policy under its number.
+pub fn load_one(
     alloc: Global,
     number: u32,
     profile: Profile,

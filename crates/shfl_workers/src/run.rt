@@ -29,7 +29,7 @@ use syn_outer::Gate;
 use trace_text::{NoMemory, Trace};
 
 /// The longest batch of a round.
-const BATCH: u16 = 1024;
+pub(crate) const BATCH: u16 = 1024;
 
 /// What a run leaves.
 #[derive(Drop)]
@@ -52,7 +52,18 @@ struct Stage {
     users: Vec<VersionPass>,
 }
 
-// An empty directory for each worker, with room for the names of the trace and calls left for its lines.
+/// An empty directory with room for the names of the trace and calls left for its lines.
+pub(crate) fn open_directory(alloc: Global, trace: &Trace) -> Result<Dir, NoMemory>
+    requires { IsWithin trace.now }
+    ensures { IfOk result (λ d. d ≡ directory_for trace.now) }
+{
+    let Ok(dir) = Dir::open(alloc, trace.names.len() as u32, trace.calls.len() as u32) else {
+        return Err(NoMemory);
+    };
+    Ok(dir)
+}
+
+// Such a directory for each worker.
 fn directories_for(alloc: Global, trace: &Trace) -> Result<Vec<Dir>, NoMemory>
     requires { IsWithin trace.now }
     ensures len { IfOk result (λ v. vec_len v ≡ length trace.now.workers.items) }
@@ -61,16 +72,13 @@ fn directories_for(alloc: Global, trace: &Trace) -> Result<Vec<Dir>, NoMemory>
     let mut dirs = Vec::with_capacity(alloc, trace.workers.len())?;
     for number in 0..trace.workers.len() {
         let _ = number;
-        let Ok(dir) = Dir::open(alloc, trace.names.len() as u32, trace.calls.len() as u32) else {
-            return Err(NoMemory);
-        };
-        dirs.push(dir)?;
+        dirs.push(open_directory(alloc, trace)?)?;
     }
     Ok(dirs)
 }
 
-// The registry of the declared policies, what worker 0 attaches of them, and a user for each worker.
-fn open_registry(
+/// The registry of the declared policies, what worker 0 attaches of them, and a user for each worker.
+pub(crate) fn open_registry(
     alloc: Global,
     trace: &Trace,
 ) -> Result<(Registry, Attaching, Vec<VersionPass>), NoMemory>

@@ -21,8 +21,8 @@ const GROUPED: &[u8] =
 const ATTACHED: &[u8] =
     b"syncord-trace 1\nworker 0 0 0 0\nworker 0 0 0 0\nworker 1 0 0 0\nworker 0 0 0 0\nworker 1 0 0 0\npolicy none - -\npolicy socket 61120000000000006111040000000000b7000000010000001d21010000000000b7000000000000009500000000000000 -\ncalls\n0 attach socket\n0 make 0 a\n1 make 1 a\n2 make 2 a\n3 make 3 a\n4 make 4 a\n";
 
-// Four workers on two sockets, each of whom makes a name, looks for it and counts; worker 3 drops what it made.
-const FOUR_WORKERS: &[u8] =
+/// Four workers on two sockets, each of whom makes a name, looks for it and counts; worker 3 drops what it made.
+pub(crate) const FOUR_WORKERS: &[u8] =
     b"syncord-trace 1\nworker 0 0 0 0\nworker 0 0 0 0\nworker 1 0 0 0\nworker 1 0 0 0\npolicy none - -\npolicy socket 61120000000000006111040000000000b7000000010000001d21010000000000b7000000000000009500000000000000 -\ncalls\n0 attach socket\n0 make 5 a\n0 find 5 a\n0 attach none\n0 count 5\n1 make 5 a\n1 find 5 a\n1 next 5\n2 make 5 a\n2 find 5 a\n2 count 6\n3 make 6 b\n3 drop 6 b\n3 count 6\n";
 
 /// Lets worker 0 hold the lock until the others have queued in their order and worker 1 has ended its round.
@@ -33,16 +33,21 @@ struct QueueGate {
     gave_up: AtomicU64,
 }
 
+/// Waits until the counter is that high, or until someone gave up.
+pub(crate) fn wait_for(counter: &AtomicU64, least: u64, gave_up: &AtomicU64) {
+    for _ in 0..LOOKS {
+        if counter.load(Ordering::SeqCst) >= least || gave_up.load(Ordering::SeqCst) > 0 {
+            return;
+        }
+        thread::yield_now();
+    }
+    gave_up.store(1, Ordering::SeqCst);
+}
+
 impl QueueGate {
     // Waits until the counter is that high, or until someone gave up.
     fn wait(&self, counter: &AtomicU64, least: u64) {
-        for _ in 0..LOOKS {
-            if counter.load(Ordering::SeqCst) >= least || self.gave_up.load(Ordering::SeqCst) > 0 {
-                return;
-            }
-            thread::yield_now();
-        }
-        self.gave_up.store(1, Ordering::SeqCst);
+        wait_for(counter, least, &self.gave_up);
     }
 }
 
@@ -103,8 +108,8 @@ fn run_text<G: Gate + Sync, R: Threads + Wait + Sync>(
     Ok(run_trace(rt, alloc, &trace, gate)?)
 }
 
-// The workers of a history, in its order.
-fn workers_of(alloc: Global, outcome: &Outcome) -> Result<Vec<u32>, Fail> {
+/// The workers of a history, in its order.
+pub(crate) fn workers_of(alloc: Global, outcome: &Outcome) -> Result<Vec<u32>, Fail> {
     let mut workers = Vec::new(alloc);
     for entry in outcome.history.as_slice() {
         workers.push(entry.worker)?;

@@ -14,6 +14,8 @@ pub enum Command {
     Verify { profile: Profile },
     /// Replays a trace.
     Replay,
+    /// Replays a trace with a lock for each directory.
+    Shards,
     /// Replays the trace that a seed makes, and sums it up.
     Bulk(BulkWords),
     /// Assembles a policy program.
@@ -37,6 +39,8 @@ impl Command {
             })
         } else if is_same(word, b"replay") {
             Some(Command::Replay)
+        } else if is_same(word, b"shards") {
+            Some(Command::Shards)
         } else if is_same(word, b"asm") {
             Some(Command::Assemble {
                 profile: Profile::One,

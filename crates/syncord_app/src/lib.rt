@@ -12,5 +12,5 @@ pub use syncord_asm::{run_asm, run_disasm};
 pub use syncord_line::run_line;
 pub use syncord_replay::{run_bulk, run_replay};
 pub use syncord_verify::run_verify;
-pub use threads::run_by_threads;
+pub use threads::{run_by_shards, run_by_threads};
 pub use top::syncord;

@@ -39,7 +39,7 @@ fn called<Rt: Threads + Wait + Sync>(
 fn other_words_are_refused_and_nothing_is_read(rt: HostRuntime) -> Result<(), Fail> {
     let alloc = rt.alloc();
     let mut src = SureSource::new(Vec::from_slice(alloc, FAST_PATH.as_bytes())?);
-    let refused: [&[&str]; 17] = [
+    let refused: [&[&str]; 18] = [
         &["line", "x"],
         &["help"],
         &[],
@@ -50,6 +50,7 @@ fn other_words_are_refused_and_nothing_is_read(rt: HostRuntime) -> Result<(), Fa
         &["2"],
         &["-h"],
         &["replay", "2"],
+        &["shards", "2"],
         &["asm", "1"],
         &["disasm", "2", "2"],
         &["bulk"],
@@ -94,7 +95,7 @@ const MOVE: &str = "bf00080000000000\n9500000000000000\n";
 fn the_words_of_a_command_lead_to_it(rt: HostRuntime) -> Result<(), Fail> {
     let alloc = rt.alloc();
     let accepted = "b700000001000000\n9500000000000000\n";
-    let cases: [(&[&str], &str, u8, &str, &str); 15] = [
+    let cases: [(&[&str], &str, u8, &str, &str); 17] = [
         (&["line"], FAST_PATH, 0, FAST_PATH_REPORT, ""),
         (&["line"], "", 1, "", "syncord: line 1: fault 2\n"),
         (&["verify"], accepted, 0, "accepted slots 2\n", ""),
@@ -110,6 +111,8 @@ fn the_words_of_a_command_lead_to_it(rt: HostRuntime) -> Result<(), Fail> {
         (&["replay"], ONE_CALL, 0, ONE_CALL_REPORT, ""),
         (&["replay"], TEN_CALLS, 0, TEN_CALLS_REPORT, ""),
         (&["replay"], "", 1, "", "syncord: line 1: fault 2\n"),
+        (&["shards"], TEN_CALLS, 0, TEN_CALLS_REPORT, ""),
+        (&["shards"], "", 1, "", "syncord: line 1: fault 2\n"),
         (&["bulk", "1", "1", "3"], "", 0, SUMMARY, ""),
         (&["bulk", "7", "8", "20000"], "", 0, EIGHT_SUMMARY, ""),
         (&["asm", "2"], "le 16 r0\n", 0, "d400000010000000\n", ""),

@@ -1,8 +1,8 @@
 //! The top call: words and bytes in, a status, a report and an error line out.
 ghost use Rattle.std.specs.Prelude.{◌≡◌, ◌≢◌, [], map, string_bytes, codes, Some, None, IfOk};
-ghost use Rattle.syncord_app.specs.declared.commands.Command.TheVariants.{Line, Verify, Replay, Bulk, Assemble, Disassemble};
+ghost use Rattle.syncord_app.specs.declared.commands.Command.TheVariants.{Line, Verify, Replay, Shards, Bulk, Assemble, Disassemble};
 ghost use Rattle.bpf_isa.specs.declared.insn.Profile.{Profile as ProfileValue};
-ghost use Rattle.syncord_endings.specs.Traffic.{traffic, Takes, Told};
+ghost use Rattle.syncord_endings.specs.Traffic.{through, Takes, Told};
 ghost use Rattle.syncord_line.specs.Reports as line;
 ghost use Rattle.syncord_verify.specs.Verdicts.{Verifies};
 ghost use Rattle.syncord_asm.specs.Assemblies.{Assembles};
@@ -14,7 +14,7 @@ ghost use Rattle.syncord_app.specs.Outcomes.{Performs, SumsUp};
 ghost use Rattle.syncord_app.specs.Commands.{command_in};
 
 use crate::commands::Command;
-use crate::threads::run_by_threads;
+use crate::threads::{run_by_shards, run_by_threads};
 use std::alloc::Global;
 use std::sync::Wait;
 use std::thread::Threads;
@@ -26,8 +26,8 @@ use syncord_replay::{BulkWords, Run, run_bulk, run_replay};
 use syncord_verify::run_verify;
 use trace_text::{NoMemory, Trace};
 
-/// Does what the words behind the program's name say, and answers the status. `replay` and `bulk` run a thread for each worker of
-/// their trace and wait for them all: what is said of them here is said if the call returns. `gate` is where a test can hold a worker.
+/// Does what the words behind the program's name say, and answers the status. `replay`, `shards` and `bulk` run a thread for each
+/// worker of their trace and wait for them all: what is said of them here is said if the call returns. `gate` is where a test can hold a worker.
 pub fn syncord<Rt: Threads + Wait + Sync, R: Source, W: Sink, E: Sink, G: Gate + Sync>(
     rt: &Rt,
     alloc: Global,
@@ -42,64 +42,76 @@ pub fn syncord<Rt: Threads + Wait + Sync, R: Source, W: Sink, E: Sink, G: Gate +
     ensures untouched { command_in (map string_bytes words.now) ≡ None →
         (src.new ≡ src.old) × (out.new ≡ out.old) }
     ensures told { command_in (map string_bytes words.now) ≡ None →
-        Told (traffic (E.held err.old) (E.held err.new) (E.faults err.old) (E.faults err.new))
+        Told (through E.held E.faults err.old err.new)
         (codes "syncord: words\n") }
 
     // With each other status than 0 and 4 nothing is written.
     ensures silent { result ≢ 0 → result ≢ 4 → Takes
-        (traffic (W.held out.old) (W.held out.new) (W.faults out.old) (W.faults out.new)) [] }
+        (through W.held W.faults out.old out.new) [] }
 
     // `line` reports a schedule, or ends otherwise with its cause.
     ensures line { command_in (map string_bytes words.now) ≡ Some Line →
         Performs line.Reports line.Refuses
-        (traffic (R.left src.old) (R.left src.new) (R.faults src.old) (R.faults src.new))
-        (traffic (W.held out.old) (W.held out.new) (W.faults out.old) (W.faults out.new))
-        (traffic (E.held err.old) (E.held err.new) (E.faults err.old) (E.faults err.new)) result }
+        (through R.left R.faults src.old src.new)
+        (through W.held W.faults out.old out.new)
+        (through E.held E.faults err.old err.new) result }
 
     // `verify` accepts or refuses the program, or ends otherwise with its cause.
     ensures verify { (profile : ProfileValue) →
         command_in (map string_bytes words.now) ≡ Some (Verify profile) → Verifies profile
-        (traffic (R.left src.old) (R.left src.new) (R.faults src.old) (R.faults src.new))
-        (traffic (W.held out.old) (W.held out.new) (W.faults out.old) (W.faults out.new))
-        (traffic (E.held err.old) (E.held err.new) (E.faults err.old) (E.faults err.new)) result }
+        (through R.left R.faults src.old src.new)
+        (through W.held W.faults out.old out.new)
+        (through E.held E.faults err.old err.new) result }
 
     // `replay` runs a trace by threads and reports a history of it, or ends otherwise with its cause.
     ensures replay { command_in (map string_bytes words.now) ≡ Some Replay →
         Performs replay.Reports replay.Refuses
-        (traffic (R.left src.old) (R.left src.new) (R.faults src.old) (R.faults src.new))
-        (traffic (W.held out.old) (W.held out.new) (W.faults out.old) (W.faults out.new))
-        (traffic (E.held err.old) (E.held err.new) (E.faults err.old) (E.faults err.new)) result }
+        (through R.left R.faults src.old src.new)
+        (through W.held W.faults out.old out.new)
+        (through E.held E.faults err.old err.new) result }
+
+    // `shards` runs a trace by threads with a lock for each directory, and reports a history of it as `replay` does.
+    ensures shards { command_in (map string_bytes words.now) ≡ Some Shards →
+        Performs replay.Reports replay.Refuses
+        (through R.left R.faults src.old src.new)
+        (through W.held W.faults out.old out.new)
+        (through E.held E.faults err.old err.new) result }
 
     // `bulk` runs the trace that its numbers make and sums it up, and reads nothing.
     ensures bulk { (numbers : Numbers) →
         command_in (map string_bytes words.now) ≡ Some (Bulk numbers) → SumsUp numbers
-        (traffic (W.held out.old) (W.held out.new) (W.faults out.old) (W.faults out.new))
-        (traffic (E.held err.old) (E.held err.new) (E.faults err.old) (E.faults err.new)) result }
+        (through W.held W.faults out.old out.new)
+        (through E.held E.faults err.old err.new) result }
     ensures unread { (numbers : Numbers) →
         command_in (map string_bytes words.now) ≡ Some (Bulk numbers) → src.new ≡ src.old }
 
     // `asm` assembles a text, or ends otherwise with its cause.
     ensures asm { (profile : ProfileValue) →
         command_in (map string_bytes words.now) ≡ Some (Assemble profile) → Assembles profile
-        (traffic (R.left src.old) (R.left src.new) (R.faults src.old) (R.faults src.new))
-        (traffic (W.held out.old) (W.held out.new) (W.faults out.old) (W.faults out.new))
-        (traffic (E.held err.old) (E.held err.new) (E.faults err.old) (E.faults err.new)) result }
+        (through R.left R.faults src.old src.new)
+        (through W.held W.faults out.old out.new)
+        (through E.held E.faults err.old err.new) result }
 
     // `disasm` lists a program, or ends otherwise with its cause.
     ensures disasm { (profile : ProfileValue) →
         command_in (map string_bytes words.now) ≡ Some (Disassemble profile) → Disassembles profile
-        (traffic (R.left src.old) (R.left src.new) (R.faults src.old) (R.faults src.new))
-        (traffic (W.held out.old) (W.held out.new) (W.faults out.old) (W.faults out.new))
-        (traffic (E.held err.old) (E.held err.new) (E.faults err.old) (E.faults err.new)) result }
+        (through R.left R.faults src.old src.new)
+        (through W.held W.faults out.old out.new)
+        (through E.held E.faults err.old err.new) result }
 {
     let runner = |alloc: Global, trace: &Trace| -> Result<Run, NoMemory>
         requires { IsRunnable trace.now }
         ensures { IfOk result (IsRunOf trace.now) }
     { run_by_threads(rt, alloc, trace, gate) };
+    let sharded = |alloc: Global, trace: &Trace| -> Result<Run, NoMemory>
+        requires { IsRunnable trace.now }
+        ensures { IfOk result (IsRunOf trace.now) }
+    { run_by_shards(rt, alloc, trace, gate) };
     match Command::of(words) {
         Some(Command::Line) => run_line(alloc, src, out, err),
         Some(Command::Verify { profile }) => run_verify(alloc, profile, src, out, err),
         Some(Command::Replay) => run_replay(&runner, alloc, src, out, err),
+        Some(Command::Shards) => run_replay(&sharded, alloc, src, out, err),
         Some(Command::Bulk(numbers)) => {
             let BulkWords {
                 seed,

@@ -10,10 +10,11 @@ use Rattle.hist_log.specs.declared.entry.Entry.{Entry}
 use Rattle.hist_log.specs.History.{IsLegal, operations, state_left}
 use Rattle.hist_log.specs.Merge.{merged, AreInOrder, ReadsFit}
 use Rattle.policy_versions.specs.Models.{PassModel, IsClosed}
-use Rattle.rw_cell.specs.RwCells.{RwPassModel, IsPassOf, AreAll, AreOnce}
+use Rattle.rw_cell.specs.RwCells.{RwPassModel, number, IsPassOf, AreAll, AreOnce}
 use Rattle.rw_cell.specs.Closings.{GivesWrites, GivesReads}
 use Rattle.shfl_workers.specs.declared.activity.Activity.{Activity}
-use Rattle.shfl_workers.proofs.Ending.{of_each, once, everyone, is_history}
+use Rattle.shfl_workers.proofs.Numbered.{of_each, everyone}
+use Rattle.shfl_workers.proofs.Ending.{once, is_history}
 use Rattle.shfl_workers.proofs.Publishing.{first_of, is_there, published}
 use Rattle.shfl_workers.proofs.run.close_stage.Goals as goal
 
@@ -24,14 +25,14 @@ pub take_apart-publisher-requires-clause-first : goal.take_apart-publisher-requi
 take_apart-publisher-requires-clause-first c =
     let s = c.requires.stage in let all = c.args.stage.activities.items in
     let some : 0 < length all = (let n = s.workers in let w = c.requires.within.workers.0 in omega (arith, n, w)) in
-    let f = first_of _ _ _ c.args.stage.registry c.args.trace.now.calls.items all some s.numbered s.at in
+    let f = first_of _ _ _ _ c.args.stage.registry c.args.trace.now.calls.items all some s.numbered s.at in
     (f.0, f.1, f.2, is_there _ f.0.attaching f.3)
 
 pub close-policies-requires-clause-publisher : goal.close-policies-requires-clause-publisher
 close-policies-requires-clause-publisher c =
     let s = c.requires.stage in let all = c.args.stage.activities.items in
     let some : 0 < length all = (let n = s.workers in let w = c.requires.within.workers.0 in omega (arith, n, w)) in
-    (published _ _ _ c.args.stage.registry c.args.trace.now.calls.items all c.take_apart-publisher.result some s.numbered s.at c.take_apart-publisher.ensures.publisher).0
+    (published _ _ _ _ c.args.stage.registry c.args.trace.now.calls.items all c.take_apart-publisher.result some s.numbered s.at c.take_apart-publisher.ensures.publisher).0
 
 pub close-policies-requires-clause-passes : goal.close-policies-requires-clause-passes
 close-policies-requires-clause-passes c i p at =
@@ -46,7 +47,7 @@ close-dirs-requires-clause-cell c =
 pub close-dirs-requires-clause-all : goal.close-dirs-requires-clause-all
 close-dirs-requires-clause-all c =
     let s = c.requires.stage in let all = c.args.stage.activities.items in
-    subst (AreAll c.args.stage.cell.count) (sym c.take_apart-publisher.ensures.passes) (everyone all c.args.stage.cell.count s.numbered (s.workers ∙ sym s.count))
+    subst (AreAll c.args.stage.cell.count) (sym c.take_apart-publisher.ensures.passes) (everyone number all c.args.stage.cell.count s.numbered (s.workers ∙ sym s.count))
 
 pub close-dirs-requires-clause-once : goal.close-dirs-requires-clause-once
 close-dirs-requires-clause-once c = subst AreOnce (sym c.take_apart-publisher.ensures.passes) (once c.args.stage.activities.items c.requires.stage.numbered)
@@ -79,4 +80,4 @@ pub returns-clause-versions : goal.returns-clause-versions
 returns-clause-versions c =
     let s = c.requires.stage in let all = c.args.stage.activities.items in
     let some : 0 < length all = (let n = s.workers in let w = c.requires.within.workers.0 in omega (arith, n, w)) in
-    c.close-policies.ensures.rows ∙ (published _ _ _ c.args.stage.registry c.args.trace.now.calls.items all c.take_apart-publisher.result some s.numbered s.at c.take_apart-publisher.ensures.publisher).1
+    c.close-policies.ensures.rows ∙ (published _ _ _ _ c.args.stage.registry c.args.trace.now.calls.items all c.take_apart-publisher.result some s.numbered s.at c.take_apart-publisher.ensures.publisher).1

@@ -1,4 +1,4 @@
-use Rattle.std.proofs.Common.{◌≡◌, ◌<◌, List, [], All, length, slice_index_or, sym, ap, ◌∙◌, subst, arith}
+use Rattle.std.proofs.Common.{◌≡◌, List, [], All, length, sym, ap, ◌∙◌, subst}
 use Rattle.std.proofs.lemmas.List.{with_items_is}
 use Rattle.dir_table.specs.declared.dir.Dir.{Dir}
 use Rattle.dir_table.specs.declared.calls.DirCall.{DirCall}
@@ -7,9 +7,9 @@ use Rattle.hist_log.specs.declared.entry.Entry.{Entry}
 use Rattle.trace_text.specs.declared.trace.TraceCall.{TraceCall}
 use Rattle.rw_cell.specs.RwCells.{RwPassModel, number, IsPassOf}
 use Rattle.shfl_workers.specs.declared.activity.Activity.{Activity}
-use Rattle.shfl_workers.specs.Activities.{IsAt}
+use Rattle.shfl_workers.specs.Activities.{IsAt, AreNumbered}
 use Rattle.shfl_workers.specs.RwDirs.{HasMade}
-use Rattle.shfl_workers.specs.Stages.{AreNumbered}
+use Rattle.shfl_workers.proofs.Ran.{as_long, still_numbered}
 use Rattle.shfl_workers.proofs.run.run_trace.Goals as goal
 
 abbrev A : Type 0
@@ -20,19 +20,15 @@ close_stage-requires-clause-stage g c =
     let s = c.in_ok-stage.stage in let before = c.in_ok-stage.ensures in
     let ran = c.run_all.ensures in let lent = c.as_mut_slice.ensures.value in
     let after : List A = c.run_all.new.activities in
-    let long : length after ≡ length s.activities.items = ran.len ∙ ap length lent in
+    let long : length after ≡ length s.activities.items = as_long number s.activities.items _ after lent ran.len ran.workers in
     let is = with_items_is s.activities after (long ∙ sym s.activities.ok.0) in
-    let numbered : AreNumbered after = λ k d lt.
-    let there : k < length s.activities.items = omega (arith, long, lt) in
-    let within : k < length c.as_mut_slice.result.now = (let v = ap length lent in omega (arith, there, v)) in
-    ran.workers k d within ∙ ap (λ (l : List A). number (slice_index_or l k d).pass) lent ∙ before.numbered k d there in
     record {
       count = before.count;
       opening = before.opening;
       workers = ap length is ∙ long ∙ before.workers;
       at = subst (All (IsAt (IsPassOf s.cell) number HasMade (λ p. p.left) s.registry c.args.trace.now.calls.items [])) (sym is)
           (subst (λ (l : List TraceCall). All (IsAt (IsPassOf s.cell) number HasMade (λ p. p.left) s.registry l []) after) c.as_slice.ensures.value ran.done);
-      numbered = subst AreNumbered (sym is) numbered;
+      numbered = subst (AreNumbered number) (sym is) (still_numbered number s.activities.items _ after lent ran.len ran.workers before.numbered);
       no_passes = before.no_passes;
       pass_room = before.pass_room;
       no_users = before.no_users;

@@ -1,0 +1,9 @@
+pub mod Committing
+pub mod LockPasses
+pub mod MadeCalls
+pub mod NamedLocks
+pub mod Places
+pub mod Dealing
+pub mod LockEnds
+pub mod JournalEnds
+pub mod ShardEnds

@@ -1,0 +1,45 @@
+use Rattle.std.proofs.Common.{◌≡◌, ◌<◌, ◌≤◌, ℕ, ◌+◌, ◌∷◌, ◌++◌, [], length, slice_index_or, sym, refl, ap, ◌∙◌, subst, arith, length-append}
+use Rattle.std.proofs.lemmas.Option.{slice_get-get_or}
+use Rattle.shfl_table.specs.PassModel.{BoardModel, ClosingModel}
+use Rattle.dir_shards.specs.ShardPasses.{ShardPassModel, without_last}
+use Rattle.dir_shards.specs.Closings.{EndsOn}
+use Rattle.dir_shards.proofs.Places.{snoc_same}
+use Rattle.dir_shards.proofs.LockEnds.{AreShorter, AreBack, shorter_more, all_shorter, back_more, all_back, now_is}
+use Rattle.dir_shards.proofs.lock_closing.close_lock.Goals as goal
+
+pub take_last-pass-requires : goal.take_last-pass-requires
+take_last-pass-requires c = let v = c.loop-k.invariant in let before = c.args.passes.now in let k = c.loop-k.k in let d = c.index-passes-k.result in
+    let long = v.passes.long in let test = c.loop-k-test.true in
+    let within : k < length before = omega arith in
+    let ends = c.requires.last k d within in
+    let some : 0 < length (slice_index_or before k d).locks = (let l = ap length ends.1 in let m = length-append ends.0 (c.args.board.id ∷ []) in omega (arith, l, m)) in
+    subst (λ (p : ShardPassModel). 0 < length p.locks) (sym (now_is k before c.loop-k.passes d v.passes within)) some
+
+pub give-requires-clause-board : goal.give-requires-clause-board
+give-requires-clause-board c = let v = c.loop-k.invariant in let before = c.args.passes.now in let k = c.loop-k.k in let d = c.index-passes-k.result in
+    let long = v.passes.long in let test = c.loop-k-test.true in
+    let within : k < length before = omega arith in
+    let ends = c.requires.last k d within in let lock = c.take_last-pass.ensures.lock in
+    (snoc_same lock.0 ends.0 c.take_last-pass.result.board c.args.board.id (sym lock.1 ∙ ap (λ (p : ShardPassModel). p.locks) (now_is k before c.loop-k.passes d v.passes within) ∙ ends.1)).1
+    ∙ ap (λ (b : BoardModel). b.id) (sym v.board)
+
+pub loop-k-preserved : goal.loop-k-preserved
+loop-k-preserved c = let v = c.loop-k.invariant in let before = c.args.passes.now in let k = c.loop-k.k in let d = c.index-passes-k.result in
+    let long = v.passes.long in let test = c.loop-k-test.true in
+    let within : k < length before = omega arith in
+    let same = now_is k before c.loop-k.passes d v.passes within in let was = slice_get-get_or before k d within in
+    record {
+      board = ap (λ (z : ClosingModel). z.board) c.give.ensures ∙ v.board;
+      passes = shorter_more k before c.loop-k.passes (slice_index_or before k d) c.take_last-pass.new.self v.passes was (c.take_last-pass.ensures.pass ∙ ap without_last same);
+      back = subst (AreBack (k + 1) before) (sym (ap (λ (z : ClosingModel). z.back) c.give.ensures))
+          (back_more k before c.loop-k.closing.back (slice_index_or before k d) _ v.back was (c.take_last-pass.ensures.given ∙ ap (λ (p : ShardPassModel). record { number = p.number; history = [] }) same));
+    }
+
+pub finish-values-requires : goal.finish-values-requires
+finish-values-requires c = let v = c.loop-k.invariant in let test = c.loop-k-test.false in let long = v.passes.long in record {
+  all = λ k below. all_back c.loop-k.k c.args.board.count c.args.passes.now c.loop-k.closing.back (omega arith) c.requires.all v.back k (subst (λ (b : BoardModel). k < b.count) v.board below);
+}
+
+pub returns-clause-passes : goal.returns-clause-passes
+returns-clause-passes c = let v = c.loop-k.invariant in let test = c.loop-k-test.false in let long = v.passes.long in
+    all_shorter c.loop-k.k c.args.passes.now c.loop-k.passes (omega arith) v.passes

@@ -1,0 +1,2 @@
+//! Directories that passes call.
+mod two;

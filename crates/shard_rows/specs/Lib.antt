@@ -1,0 +1,4 @@
+pub mod Replay
+pub mod Shares
+pub mod Tables
+pub mod Values

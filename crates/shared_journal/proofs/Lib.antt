@@ -1,0 +1,4 @@
+mod Commits
+mod Dealing
+mod EntryRoom
+mod Steps

@@ -1,0 +1,107 @@
+-- Calls of which each worker makes its own ones in order.
+use Rattle.std.proofs.Common.{◌≡◌, ◌≢◌, ℕ, suc, ◌+◌, ◌≤◌, true, false, cond, eqb, List, [], ◌∷◌, ◌++◌, map, length, sym, refl, ap, ◌∙◌, subst, arith, inl, inr, length-append}
+use Rattle.std.specs.List.{filter, AllByRecursion}
+use Rattle.std.proofs.lemmas.Bool.{cases_eq}
+use Rattle.std.proofs.lemmas.Bool.Decides.{nat_tests}
+use Rattle.dir_table.specs.declared.calls.DirCall.{DirCall}
+use Rattle.dir_table.specs.Meanings.{IsAdmitted}
+use Rattle.trace_text.specs.declared.trace.TraceAct.{TraceAct}
+use Rattle.trace_text.specs.declared.trace.TraceAct.TheVariants as does
+use Rattle.trace_text.specs.declared.trace.TraceCall.{TraceCall}
+use Rattle.trace_text.specs.Histories.{Made, made_by, made_in, of_worker}
+use Rattle.trace_text.specs.Traces.{IsActOf, IsCallOf}
+
+own_first : (k : ℕ) (m : Made) (ms : List Made) → m.worker ≡ k → of_worker k (m ∷ ms) ≡ m.call ∷ of_worker k ms
+own_first k m ms same =
+    let yes : eqb m.worker k ≡ true = grind (arith, nat_tests, same) in
+    ap (λ b. map (λ (x : Made). x.call) (cond b (m ∷ filter (λ (x : Made). eqb x.worker k) ms) (filter (λ (x : Made). eqb x.worker k) ms))) yes
+
+other_first : (k : ℕ) (m : Made) (ms : List Made) → m.worker ≢ k → of_worker k (m ∷ ms) ≡ of_worker k ms
+other_first k m ms other =
+    let not : eqb m.worker k ≡ false = grind (arith, nat_tests, other) in
+    ap (λ b. map (λ (x : Made). x.call) (cond b (m ∷ filter (λ (x : Made). eqb x.worker k) ms) (filter (λ (x : Made). eqb x.worker k) ms))) not
+
+-- the calls without the first one of a worker
+record IsWithout (k : ℕ) (all rest : List Made) (left : List DirCall) : Type 0 where
+  long : length all ≡ suc (length rest)
+  own : of_worker k rest ≡ left
+  others : (j : ℕ) → j ≢ k → of_worker j rest ≡ of_worker j all
+
+without : (k : ℕ) (c : DirCall) (left : List DirCall) (all : List Made) → of_worker k all ≡ c ∷ left → (rest : List Made) × IsWithout k all rest left
+without k c left [] is = absurd (cc)
+without k c left (m ∷ ms) is = elim (cases_eq m.worker k) [
+  | inl same ↦ (
+    ms,
+    record {
+      long = refl;
+      own = (let e : m.call ∷ of_worker k ms ≡ c ∷ left = sym (own_first k m ms same) ∙ is in cc);
+      others = λ j other. sym (other_first j m ms (λ e. other (sym e ∙ same)));
+    },
+  )
+  | inr other ↦
+      let r = without k c left ms (sym (other_first k m ms other) ∙ is) in (
+        m ∷ r.0,
+        record {
+          long = ap suc r.1.long;
+          own = other_first k m r.0 other ∙ r.1.own;
+          others = λ j apart. elim (cases_eq m.worker j) [
+            | inl same ↦ own_first j m r.0 same ∙ ap (λ l. m.call ∷ l) (r.1.others j apart) ∙ sym (own_first j m ms same)
+            | inr not ↦ other_first j m r.0 not ∙ r.1.others j apart ∙ sym (other_first j m ms not)
+          ];
+        },
+      )
+]
+
+-- no more calls than those where each worker makes the same
+pub no_more : (xs ys : List Made) → ((k : ℕ) → of_worker k xs ≡ of_worker k ys) → length xs ≤ length ys
+no_more [] ys same = omega arith
+no_more (x ∷ xs) ys same =
+    let w = without x.worker x.call (of_worker x.worker xs) ys (sym (same x.worker) ∙ own_first x.worker x xs refl) in
+    let rest = no_more xs w.0 (λ k. elim (cases_eq x.worker k) [
+      | inl here ↦ subst (λ j. of_worker j xs ≡ of_worker j w.0) here (sym w.1.own)
+      | inr not ↦ sym (other_first k x xs not) ∙ same k ∙ sym (w.1.others k (λ e. not (sym e)))
+    ]) in
+    let long = w.1.long in omega (arith, rest, long)
+
+made_few_by : (worker : ℕ) (act : TraceAct) → length (made_by worker act) ≤ 1
+made_few_by worker (does.Dir call) = omega arith
+made_few_by worker (does.Attach policy) = omega arith
+
+-- a trace has no more calls than lines
+pub made_few : (calls : List TraceCall) → length (made_in calls) ≤ length calls
+made_few [] = omega arith
+made_few (c ∷ cs) =
+    let e : length (made_in (c ∷ cs)) ≡ length (made_by c.worker c.act) + length (made_in cs) = length-append (made_by c.worker c.act) (made_in cs) in
+    let one = made_few_by c.worker c.act in let rest = made_few cs in omega (arith, e, one, rest)
+
+-- where those of each worker are such, all are
+pub all_of_each : (P : DirCall → Type 0) (ms : List Made) → ((k : ℕ) → AllByRecursion P (of_worker k ms)) → AllByRecursion (λ m. P m.call) ms
+all_of_each P [] each = tt
+all_of_each P (m ∷ ms) each = (
+  (subst (AllByRecursion P) (own_first m.worker m ms refl) (each m.worker)).0,
+  all_of_each P ms (λ k. elim (cases_eq m.worker k) [
+    | inl same ↦ (subst (AllByRecursion P) (own_first k m ms same) (each k)).1
+    | inr not ↦ subst (AllByRecursion P) (other_first k m ms not) (each k)
+  ]),
+)
+
+each_of_all : (P : DirCall → Type 0) (k : ℕ) (ms : List Made) → AllByRecursion (λ m. P m.call) ms → AllByRecursion P (of_worker k ms)
+each_of_all P k [] all = tt
+each_of_all P k (m ∷ ms) all = elim (cases_eq m.worker k) [
+  | inl same ↦ subst (AllByRecursion P) (sym (own_first k m ms same)) (all.0, each_of_all P k ms all.1)
+  | inr not ↦ subst (AllByRecursion P) (sym (other_first k m ms not)) (each_of_all P k ms all.1)
+]
+
+module _ (workers names policies : ℕ) where
+  admitted_with : (worker : ℕ) (act : TraceAct) (rest : List Made) → IsActOf names policies worker act → AllByRecursion (λ m. IsAdmitted names m.call) rest
+      → AllByRecursion (λ m. IsAdmitted names m.call) (made_by worker act ++ rest)
+  admitted_with worker (does.Dir call) rest may all = (may, all)
+  admitted_with worker (does.Attach policy) rest may all = all
+
+  admitted_in : (calls : List TraceCall) → AllByRecursion (IsCallOf workers names policies) calls → AllByRecursion (λ m. IsAdmitted names m.call) (made_in calls)
+  admitted_in [] all = tt
+  admitted_in (c ∷ cs) all = admitted_with c.worker c.act (made_in cs) all.0.act (admitted_in cs all.1)
+
+  -- a worker's calls are admitted
+  pub admitted_each : (calls : List TraceCall) (k : ℕ) → AllByRecursion (IsCallOf workers names policies) calls → AllByRecursion (IsAdmitted names) (of_worker k (made_in calls))
+  admitted_each calls k all = each_of_all (IsAdmitted names) k (made_in calls) (admitted_in calls all)
