@@ -1,0 +1,2 @@
+pub mod PoolDocuments
+pub mod PoolReports

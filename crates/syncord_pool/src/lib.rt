@@ -1,0 +1,11 @@
+//! The command `pool`: the calls of a trace stand in one queue, and what came of it.
+#![tactic(auto)]
+
+mod outcome;
+mod report;
+mod run;
+#[cfg(test)]
+mod tests;
+
+pub use outcome::PoolRun;
+pub use run::run_pool;

@@ -1,0 +1,65 @@
+//! The command `pool` as a call.
+ghost use Rattle.syncord_endings.specs.Traffic.{through};
+ghost use Rattle.syncord_endings.specs.Endings.{Ends, Answers, Decides};
+ghost use Rattle.syncord_pool.specs.Runs.{TakesEach, LeavesRuns};
+ghost use Rattle.syncord_pool.specs.Reports.{Reports, Refuses};
+
+use crate::outcome::PoolRun;
+use crate::report::pooled;
+use std::alloc::Global;
+use syn_outer::{ReadError, Sink, Source, read_all, write_all};
+use syncord_endings::{Ending, MOST_BYTES, Refusal, tell_ending};
+use trace_text::{NoMemory, Trace};
+
+/// Reads, runs the calls, and writes the report.
+fn ending<F: Fn(Global, &Trace) -> Result<PoolRun, NoMemory>, R: Source, W: Sink>(
+    runner: &F,
+    alloc: Global,
+    src: &mut R,
+    out: &mut W,
+) -> Ending
+    requires takes { TakesEach (F.pre runner.now) (λ t. t.now) }
+    requires leaves { LeavesRuns (F.post runner.now) (λ t. t.now) }
+    ensures { Ends Reports Refuses
+        (through R.left R.faults src.old src.new)
+        (through W.held W.faults out.old out.new) result }
+{
+    let bytes = match read_all(alloc, src, MOST_BYTES) {
+        Ok(bytes) => bytes,
+        Err(ReadError::ReadFault) => return Ending::ReadFault,
+        Err(ReadError::TooLarge) => return Ending::TooLarge,
+        Err(ReadError::NoMemory) => return Ending::NoReport(Refusal::NoMemory),
+    };
+    let text = match pooled(runner, alloc, &bytes) {
+        Ok(text) => text,
+        Err(refusal) => return Ending::NoReport(refusal),
+    };
+    match write_all(out, &text) {
+        Ok(()) => Ending::Done,
+        Err(fault) => Ending::WriteFault(fault.written),
+    }
+}
+
+/// Does all of the command `pool` that follows its words, and answers the status. The calls are run by `runner`: who takes which
+/// call, and in which order they are made, is left open.
+pub fn run_pool<F: Fn(Global, &Trace) -> Result<PoolRun, NoMemory>, R: Source, W: Sink, E: Sink>(
+    runner: &F,
+    alloc: Global,
+    src: &mut R,
+    out: &mut W,
+    err: &mut E,
+) -> u8
+    requires takes { TakesEach (F.pre runner.now) (λ t. t.now) }
+    requires leaves { LeavesRuns (F.post runner.now) (λ t. t.now) }
+    ensures answer { Answers Reports Refuses
+        (through R.left R.faults src.old src.new)
+        (through W.held W.faults out.old out.new)
+        (through E.held E.faults err.old err.new) result }
+    ensures complete { Decides Refuses
+        (through R.left R.faults src.old src.new)
+        (through W.held W.faults out.old out.new) result }
+{
+    let ending = ending(runner, alloc, src, out);
+    tell_ending(err, ending);
+    ending.status()
+}
