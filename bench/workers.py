@@ -1,30 +1,7 @@
 """Makes the traces of workers.sh, compares what the programs write, and times them. Words: FOLDER PROGRAM."""
-import os
-import subprocess
 import sys
-import time
 
-
-def run(words, text=None):
-    begun = time.perf_counter()
-    source = open(text, "rb") if text else subprocess.DEVNULL
-    done = subprocess.Popen(words, stdin=source, stdout=subprocess.PIPE)
-    said = done.stdout.read()
-    _, status, used = os.wait4(done.pid, 0)
-    done.returncode = os.waitstatus_to_exitcode(status)
-    wall = time.perf_counter() - begun
-    assert done.returncode == 0, (words, done.returncode)
-    return wall, used.ru_utime + used.ru_stime, used.ru_maxrss / 1024, said
-
-
-def best(words, text=None, times=7):
-    runs = [run(words, text) for _ in range(times)]
-    return min(r[0] for r in runs), min(r[1] for r in runs), max(r[2] for r in runs), runs[0][3]
-
-
-def row(what, ours, peer):
-    print(f"{what:<34} {ours[1] * 1e3:8.1f} {peer[1] * 1e3:8.1f} {ours[1] / peer[1]:6.2f}   {ours[0] * 1e3:8.1f} {peer[0] * 1e3:8.1f} "
-          f"{ours[0] / peer[0]:6.2f}   {ours[2]:6.1f} {peer[2]:6.1f}")
+from timing import best, row
 
 
 def head(workers):
@@ -32,7 +9,7 @@ def head(workers):
 
 
 def main(folder, program):
-    print(f"{'':<34} {'cpu ms':>8} {'peer':>8} {'ratio':>6}   {'wall ms':>8} {'peer':>8} {'ratio':>6}   {'MB':>6} {'peer':>6}")
+    print(f"{'':<40} {'cpu ms':>8} {'peer':>8} {'ratio':>6}   {'wall ms':>8} {'peer':>8} {'ratio':>6}   {'MB':>6} {'peer':>6}")
     for workers in (16, 4):
         words = ["7", str(workers), "65000"]
         ours = best([program, "bulk"] + words)

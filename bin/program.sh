@@ -22,5 +22,5 @@ is_current() {
     [[ "${known[*]:1}" == "${files[*]#"$top"/}" ]]
 }
 
-is_current || "$top/bin/build-program" "$program" || exit 70
+is_current || "$top/bin/build-program" "$program" "${0##*/}" || exit 70
 exec "$built" "$@"

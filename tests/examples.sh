@@ -1,9 +1,9 @@
 #!/usr/bin/env bash
 # Compares what the built program does with each example: NAME.line with `line`, NAME.hex with `verify`, NAME.hex2 with
-# `verify 2`, NAME.trace with `replay`, NAME.bulk with `bulk` and the words in it. Beside NAME.SUFFIX stand what it writes
-# (.out), what it says on standard error (.err) and its status (.status); where one isn't there, nothing is written, nothing
-# is said, and the status is 0. What `replay` writes of several workers is judged by tests/judge-replay.sh, as is the report that
-# stands beside such a trace, since two runs may order their calls differently. Then the forms of each policy in examples/policies are compared (the C where a clang for BPF is
+# `verify 2`, NAME.trace with `replay` and with `shards`, NAME.bulk with `bulk` and the words in it. Beside NAME.SUFFIX stand what it
+# writes (.out), what it says on standard error (.err) and its status (.status); where one isn't there, nothing is written, nothing
+# is said, and the status is 0. What `replay` and `shards` write of several workers is judged by tests/judge-replay.sh, as is the report
+# that stands beside such a trace, since two runs may order their calls differently. Then the forms of each policy in examples/policies are compared (the C where a clang for BPF is
 # there), and that each example is in the index and each output belongs to one.
 set -u
 top="$(cd "$(dirname "$(readlink -f "${BASH_SOURCE[0]}")")/.." && pwd)"
@@ -40,12 +40,12 @@ compare() {
 for document in "$top"/examples/*.line; do compare "$document" line; done
 for document in "$top"/examples/*.hex "$top"/examples/policies/*.hex; do compare "$document" verify; done
 for document in "$top"/examples/*.hex2; do compare "$document" verify 2; done
-# A trace of several workers that isn't refused: its report, and the one that is stored.
+# A trace of several workers that isn't refused: its report by a command, and the one that is stored.
 judge() {
-    local document="$1" name
+    local document="$1" command="$2" name
     name="$(basename "$document")"
-    if ! "$top/bin/syncord" replay <"$document" >"$got/out" 2>"$got/err" || [ -s "$got/err" ]; then
-        echo "examples/$name: another status, or something was said; to run it again: bin/syncord replay <examples/$name" >&2
+    if ! "$top/bin/syncord" "$command" <"$document" >"$got/out" 2>"$got/err" || [ -s "$got/err" ]; then
+        echo "examples/$name: another status, or something was said; to run it again: bin/syncord $command <examples/$name" >&2
         failed=1
     elif "$top/tests/judge-replay.sh" "$document" "$got/out" && "$top/tests/judge-replay.sh" "$document" "$document.out"; then
         echo "examples/$name: as it may be"
@@ -55,11 +55,13 @@ judge() {
 }
 
 for document in "$top"/examples/*.trace; do
-    if [ "$(grep -c '^worker ' "$document")" -gt 1 ] && [ ! -e "$document.status" ]; then
-        judge "$document"
-    else
-        compare "$document" replay
-    fi
+    for command in replay shards; do
+        if [ "$(grep -c '^worker ' "$document")" -gt 1 ] && [ ! -e "$document.status" ]; then
+            judge "$document" "$command"
+        else
+            compare "$document" "$command"
+        fi
+    done
 done
 # as many attachments as a trace may have, each before two calls of four workers
 {
@@ -70,9 +72,11 @@ done
         print n % 4 " make 1 n" n % 100
         print (n + 1) % 4 (n % 3 ? " find 1 n" : " drop 1 n") n % 100 } }'
 } >"$got/attachments.trace"
-"$top/bin/syncord" replay <"$got/attachments.trace" >"$got/attachments.out" \
-    && "$top/tests/judge-replay.sh" "$got/attachments.trace" "$got/attachments.out" \
-    && grep -qx 'attaches 4096' "$got/attachments.out" && echo 'a trace of 4,096 attachments: as it may be' || failed=1
+for command in replay shards; do
+    "$top/bin/syncord" "$command" <"$got/attachments.trace" >"$got/attachments.out" \
+        && "$top/tests/judge-replay.sh" "$got/attachments.trace" "$got/attachments.out" \
+        && grep -qx 'attaches 4096' "$got/attachments.out" && echo "a trace of 4,096 attachments by $command: as it may be" || failed=1
+done
 for document in "$top"/examples/*.bulk; do
     # its words stand in the document, which the command doesn't read
     read -r -a words <"$document"
@@ -132,7 +136,7 @@ for part in "$top"/examples/*.{out,err,status} "$top"/examples/policies/*.{out,e
         failed=1
     fi
 done
-for document in "$top"/examples/*.{line,hex,hex2,trace,bulk}; do
+for document in "$top"/examples/*.{line,hex,hex2,trace,bulk,sim}; do
     grep -qF "\`$(basename "$document")\`" "$top/examples/README.md" && continue
     echo "examples/README.md: it doesn't name $(basename "$document")" >&2
     failed=1

@@ -97,6 +97,8 @@ refuse policies/socket.hex verify
 refuse policies/socket.asm asm
 refuse policies/socket.hex disasm
 refuse serial.trace replay
+refuse serial.trace shards
 refuse_threads four-workers.trace replay
+refuse_threads four-workers.trace shards
 refuse_threads /dev/null bulk 7 8 2000
 exit "$failed"
