@@ -29,6 +29,13 @@ def main(folder, program):
         out.write("".join(f"{n % 4} find 5 f{n * 7 % 1000:05}\n" for n in range(65000)))
     ours, theirs = best([program, "replay"], finds), best([f"{folder}/rust", "reads"], finds)
     row("65,000 finds, RwLock<BTreeMap>", ours, theirs)
+    for workers in (4, 16):
+        calls = f"{folder}/calls.trace"
+        with open(calls, "w") as out:
+            out.write(head(workers))
+            out.write("".join(f"0 {('make', 'find', 'make', 'drop')[n % 4]} 5 n{n * 7 // 2 % 1000:04}\n" for n in range(4096)))
+        ours, theirs = best([program, "pool"], calls), best([f"{folder}/rust", "pool"], calls)
+        row(f"4,096 calls, {workers} takers, two Mutexes", ours, theirs)
 
 
 main(*sys.argv[1:])

@@ -1,8 +1,9 @@
-// The peers of `syncord bulk` and of `syncord replay` by threads: a thread for each worker over one BTreeMap, behind a Mutex, or behind
-// an RwLock where it only reads. Words: `bulk SEED WORKERS CALLS` writes the same summary; `reads` takes a trace of makes by worker 0 and
-// finds by all others on standard input, makes the names first, and writes the report worker by worker.
+// The peers of `syncord bulk`, of `syncord replay` and of `syncord pool` by threads: a thread for each worker over one BTreeMap, behind a
+// Mutex, or behind an RwLock where it only reads. Words: `bulk SEED WORKERS CALLS` writes the same summary; `reads` takes a trace of makes
+// by worker 0 and finds by all others on standard input, makes the names first, and writes the report worker by worker; `pool` takes a
+// trace of makes, drops and finds, whose calls stand in a VecDeque behind a Mutex of its own, and writes a report of the pool.
 // Build: rustc -O -o workers workers.rs
-use std::collections::BTreeMap;
+use std::collections::{BTreeMap, VecDeque};
 use std::env;
 use std::io::{self, Read, Write};
 use std::sync::{Mutex, RwLock};
@@ -126,15 +127,33 @@ fn bulk(seed: u64, workers: u64, calls: u64) {
     println!("left {left}");
 }
 
-fn reads() {
-    let mut text = Vec::new();
-    io::stdin().read_to_end(&mut text).unwrap();
+fn number(word: &[u8]) -> u64 {
+    word.iter().fold(0, |n, digit| n * 10 + u64::from(digit - b'0'))
+}
+
+// How many workers the trace on these lines has, and the lines of its calls.
+fn calls_of<'a>(text: &'a [u8]) -> (usize, Vec<&'a [u8]>) {
     let lines: Vec<&[u8]> = text.split(|byte| *byte == b'\n').filter(|line| !line.is_empty()).collect();
     let workers = lines.iter().filter(|line| line.starts_with(b"worker ")).count();
     let begin = lines.iter().position(|line| *line == b"calls").unwrap() + 1;
-    let number = |word: &[u8]| word.iter().fold(0u64, |n, digit| n * 10 + u64::from(digit - b'0'));
+    (workers, lines[begin..].to_vec())
+}
+
+fn put_names(out: &mut Vec<u8>, names: &Names) {
+    writeln!(out, "final {}", names.len()).unwrap();
+    for ((dir, name), ino) in names {
+        write!(out, "{dir} ").unwrap();
+        out.extend_from_slice(name);
+        writeln!(out, " {ino}").unwrap();
+    }
+}
+
+fn reads() {
+    let mut text = Vec::new();
+    io::stdin().read_to_end(&mut text).unwrap();
+    let (workers, calls) = calls_of(&text);
     let mut shares: Vec<Vec<&[u8]>> = vec![Vec::new(); workers];
-    for line in &lines[begin..] {
+    for line in &calls {
         let worker = number(line.split(|byte| *byte == b' ').next().unwrap());
         shares[worker as usize].push(line);
     }
@@ -170,17 +189,68 @@ fn reads() {
     });
     let d = directory.into_inner().unwrap();
     let mut out = Vec::new();
-    writeln!(out, "syncord-replay 1 workers {workers} entries {}", lines.len() - begin).unwrap();
+    writeln!(out, "syncord-replay 1 workers {workers} entries {}", calls.len()).unwrap();
     for body in bodies {
         out.extend_from_slice(&body);
     }
-    writeln!(out, "final {}", d.names.len()).unwrap();
-    for ((dir, name), ino) in &d.names {
-        write!(out, "{dir} ").unwrap();
-        out.extend_from_slice(name);
-        writeln!(out, " {ino}").unwrap();
-    }
+    put_names(&mut out, &d.names);
     out.extend_from_slice(b"attaches 0\nend\n");
+    io::stdout().write_all(&out).unwrap();
+}
+
+// Makes a call of a pool, and says what it is answered.
+fn served(d: &mut Directory, line: &[u8]) -> Option<u64> {
+    let words: Vec<&[u8]> = line.split(|byte| *byte == b' ').collect();
+    let place = (number(words[2]) as u8, words[3].to_vec());
+    match words[1] {
+        b"make" if d.names.contains_key(&place) => None,
+        b"make" => {
+            let ino = d.next;
+            d.next += 1;
+            d.names.insert(place, ino);
+            Some(ino)
+        }
+        b"drop" => d.names.remove(&place).map(|_| 0),
+        _ => d.names.get(&place).copied(),
+    }
+}
+
+fn pool() {
+    let mut text = Vec::new();
+    io::stdin().read_to_end(&mut text).unwrap();
+    let (workers, calls) = calls_of(&text);
+    let queue: Mutex<VecDeque<(usize, &[u8])>> = Mutex::new(calls.iter().copied().enumerate().collect());
+    let directory = Mutex::new((Directory { names: Names::new(), next: 1 }, Vec::with_capacity(calls.len())));
+    thread::scope(|scope| {
+        for worker in 0..workers {
+            let (queue, directory) = (&queue, &directory);
+            scope.spawn(move || {
+                loop {
+                    let next = queue.lock().unwrap().pop_front();
+                    let Some((at, line)) = next else { return };
+                    let (d, history) = &mut *directory.lock().unwrap();
+                    let said = served(d, line);
+                    history.push((worker, at, line, said));
+                }
+            });
+        }
+    });
+    let (d, history) = directory.into_inner().unwrap();
+    let mut out = Vec::new();
+    writeln!(out, "syncord-pool 1 workers {workers} entries {}", history.len()).unwrap();
+    for (worker, at, line, said) in history {
+        let call = &line[line.iter().position(|byte| *byte == b' ').unwrap() + 1..];
+        write!(out, "{worker} {at} ").unwrap();
+        out.extend_from_slice(call);
+        match said {
+            Some(0) => out.extend_from_slice(b" = done\n"),
+            Some(ino) => writeln!(out, " = ino {ino}").unwrap(),
+            None if call.starts_with(b"make") => out.extend_from_slice(b" = exists\n"),
+            None => out.extend_from_slice(b" = absent\n"),
+        }
+    }
+    put_names(&mut out, &d.names);
+    out.extend_from_slice(b"end\n");
     io::stdout().write_all(&out).unwrap();
 }
 
@@ -189,6 +259,7 @@ fn main() {
     let number = |place: usize| words[place].parse().unwrap();
     match words[0].as_str() {
         "bulk" => bulk(number(1), number(2), number(3)),
+        "pool" => pool(),
         _ => reads(),
     }
 }

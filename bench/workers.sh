@@ -1,8 +1,8 @@
 #!/usr/bin/env bash
 # Times `syncord bulk` and `replay` by threads beside a Rust program over a Mutex<BTreeMap> and a C program over a mutex and tsearch,
-# which write the same summary; reads alone beside an RwLock<BTreeMap>; and one worker's makes of long names beside a serial program
-# over a BTreeMap. Processor and wall milliseconds, the best of seven, and the most memory. Not a part of the gate. It builds the
-# peers in a folder that it removes. SYNCORD names another program to time.
+# which write the same summary; reads alone beside an RwLock<BTreeMap>; one worker's makes of long names beside a serial program over
+# a BTreeMap; and `pool` beside a Mutex<VecDeque> that feeds a Mutex<BTreeMap>. Processor and wall milliseconds, the best of seven, and
+# the most memory. Not a part of the gate. It builds the peers in a folder that it removes. SYNCORD names another program to time.
 set -eu
 top="$(cd "$(dirname "$(readlink -f "${BASH_SOURCE[0]}")")/.." && pwd)"
 program="${SYNCORD:-$top/crates/syncord/out/syncord}"

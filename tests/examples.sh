@@ -1,9 +1,10 @@
 #!/usr/bin/env bash
 # Compares what the built program does with each example: NAME.line with `line`, NAME.hex with `verify`, NAME.hex2 with
-# `verify 2`, NAME.trace with `replay` and with `shards`, NAME.bulk with `bulk` and the words in it. Beside NAME.SUFFIX stand what it
-# writes (.out), what it says on standard error (.err) and its status (.status); where one isn't there, nothing is written, nothing
-# is said, and the status is 0. What `replay` and `shards` write of several workers is judged by tests/judge-replay.sh, as is the report
-# that stands beside such a trace, since two runs may order their calls differently. Then the forms of each policy in examples/policies are compared (the C where a clang for BPF is
+# `verify 2`, NAME.trace with `replay` and with `shards`, NAME.pool with `pool`, NAME.bulk with `bulk` and the words in it. Beside
+# NAME.SUFFIX stand what it writes (.out), what it says on standard error (.err) and its status (.status); where one isn't there, nothing
+# is written, nothing is said, and the status is 0. What `replay` and `shards` write of several workers is judged by
+# tests/judge-replay.sh, and what `pool` writes by tests/judge-pool.sh, as is the report that stands beside such a trace, since two runs
+# may order their calls differently. Then the forms of each policy in examples/policies are compared (the C where a clang for BPF is
 # there), and that each example is in the index and each output belongs to one.
 set -u
 top="$(cd "$(dirname "$(readlink -f "${BASH_SOURCE[0]}")")/.." && pwd)"
@@ -42,27 +43,32 @@ for document in "$top"/examples/*.hex "$top"/examples/policies/*.hex; do compare
 for document in "$top"/examples/*.hex2; do compare "$document" verify 2; done
 # A trace of several workers that isn't refused: its report by a command, and the one that is stored.
 judge() {
-    local document="$1" command="$2" name
+    local document="$1" command="$2" judge="$top/tests/judge-$3.sh" name
     name="$(basename "$document")"
     if ! "$top/bin/syncord" "$command" <"$document" >"$got/out" 2>"$got/err" || [ -s "$got/err" ]; then
         echo "examples/$name: another status, or something was said; to run it again: bin/syncord $command <examples/$name" >&2
         failed=1
-    elif "$top/tests/judge-replay.sh" "$document" "$got/out" && "$top/tests/judge-replay.sh" "$document" "$document.out"; then
+    elif "$judge" "$document" "$got/out" && "$judge" "$document" "$document.out"; then
         echo "examples/$name: as it may be"
     else
         failed=1
     fi
 }
 
+# a trace by a command, whose reports this judges where there are several workers
+run_trace() {
+    if [ "$(grep -c '^worker ' "$1")" -gt 1 ] && [ ! -e "$1.status" ]; then
+        judge "$@"
+    else
+        compare "$1" "$2"
+    fi
+}
+
 for document in "$top"/examples/*.trace; do
-    for command in replay shards; do
-        if [ "$(grep -c '^worker ' "$document")" -gt 1 ] && [ ! -e "$document.status" ]; then
-            judge "$document" "$command"
-        else
-            compare "$document" "$command"
-        fi
-    done
+    run_trace "$document" replay replay
+    run_trace "$document" shards replay
 done
+for document in "$top"/examples/*.pool; do run_trace "$document" pool pool; done
 # as many attachments as a trace may have, each before two calls of four workers
 {
     printf 'syncord-trace 1\nworker 0 0 0 0\nworker 1 0 0 0\nworker 0 0 0 0\nworker 1 0 0 0\n'
@@ -136,7 +142,7 @@ for part in "$top"/examples/*.{out,err,status} "$top"/examples/policies/*.{out,e
         failed=1
     fi
 done
-for document in "$top"/examples/*.{line,hex,hex2,trace,bulk,sim}; do
+for document in "$top"/examples/*.{line,hex,hex2,trace,pool,bulk,sim}; do
     grep -qF "\`$(basename "$document")\`" "$top/examples/README.md" && continue
     echo "examples/README.md: it doesn't name $(basename "$document")" >&2
     failed=1

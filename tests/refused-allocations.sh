@@ -63,7 +63,7 @@ refuse() {
     echo "$name: $total allocations"
 }
 
-# the same where the workers of a trace run in threads; `good` judges a report
+# the same where the workers of a trace run in threads; `good` judges a report, one of `shards` as one of `replay`
 refuse_threads() {
     local document="$1" name number total status whole=0 wanting=0
     shift
@@ -75,7 +75,7 @@ refuse_threads() {
         status=$?
         if [ "$status" = 5 ] && [ ! -s "$got/out" ] && [ ! -s "$got/err" ]; then
             wanting=$((wanting + 1))
-        elif [ "$status" = 0 ] && [ ! -s "$got/err" ] && good "$document"; then
+        elif [ "$status" = 0 ] && [ ! -s "$got/err" ] && good "$document" "$1"; then
             whole=$((whole + 1))
         else
             echo "$name: allocation $number of $total: status $status" >&2
@@ -86,7 +86,7 @@ refuse_threads() {
 }
 
 good() {
-    if [ "$1" = /dev/null ]; then cmp -s "$got/out" "$got/whole"; else "$top/tests/judge-replay.sh" "$1" "$got/out"; fi
+    if [ "$1" = /dev/null ]; then cmp -s "$got/out" "$got/whole"; else "$top/tests/judge-${2/shards/replay}.sh" "$1" "$got/out"; fi
 }
 
 cd "$top/examples" || exit 1
@@ -100,5 +100,7 @@ refuse serial.trace replay
 refuse serial.trace shards
 refuse_threads four-workers.trace replay
 refuse_threads four-workers.trace shards
+refuse_threads two-makes.pool pool
+refuse_threads four-takers.pool pool
 refuse_threads /dev/null bulk 7 8 2000
 exit "$failed"

@@ -6,8 +6,8 @@ use Rattle.crossbeam_queue.specs.Fifo.{Pushes, Pops, Forks, Merges, Learns}
 use Rattle.crossbeam_queue.proofs.Lists.{at_set, at_snoc}
 use Rattle.call_queue.specs.declared.rule.Ticket.{Ticket}
 use Rattle.call_queue.specs.declared.rule.Share.{Share}
-use Rattle.call_queue.specs.Rule.{IsOneOf, weigh, total, AreNumbered, IsSeated, IsRuled, whole, first_share, with_pushed, with_taken, without_part, one_part, both, spent, Takes, HasTakenAll}
-use Rattle.call_queue.proofs.Weights.{weigh-append, total-append, total_set, alone_total, is_within, one_of-append}
+use Rattle.call_queue.specs.Rule.{weigh, AreNumbered, IsSeated, IsRuled, whole, first_share, with_pushed, with_taken, without_part, one_part, both, spent, Takes, HasTakenAll}
+use Rattle.call_queue.proofs.Weights.{weigh-append, total-append, total_set, part_within, alone_total, is_within, one_of-append}
 
 module _ {C : Type 0} where
   same_ticket : (a b : Ticket C) → Some a ≡ Some b → a ≡ b
@@ -152,12 +152,13 @@ module _ {C : Type 0} where
             seat u e);
       }
 
-  pub learns : (id : ℕ) (v : Share C) → v.parts ≡ 1024 → Learns IsRuled id v (HasTakenAll v)
-  learns id v every items views ok at = let o = ok.seated id v at in let knows : v.all ≡ ok.all = o.knows (omega arith) in record {
-    popped = ok.popped;
-    in_order = knows ∙ ok.in_order;
-    numbered = subst AreNumbered (sym knows) ok.numbered;
-    once = λ h. sym (alone_total (λ u. weigh h u.taken) views id v at every ok.parts (λ seat u e none. ap (weigh h) ((ok.seated seat u e).idle none))) ∙ ok.once h;
-    earlier = o.earlier;
-    placed = λ t h. ap (λ l. slice_get l t.at) knows ∙ o.placed t h;
-  }
+  pub learns : (id : ℕ) (v : Share C) → whole ≤ v.parts → Learns IsRuled id v (HasTakenAll v)
+  learns id v most items views ok at = let o = ok.seated id v at in let knows : v.all ≡ ok.all = o.knows (omega arith) in
+      let within = part_within views id v at in let sum = ok.parts in let every : v.parts ≡ 1024 = omega arith in record {
+        popped = ok.popped;
+        in_order = knows ∙ ok.in_order;
+        numbered = subst AreNumbered (sym knows) ok.numbered;
+        once = λ h. sym (alone_total (λ u. weigh h u.taken) views id v at every ok.parts (λ seat u e none. ap (weigh h) ((ok.seated seat u e).idle none))) ∙ ok.once h;
+        earlier = o.earlier;
+        placed = λ t h. ap (λ l. slice_get l t.at) knows ∙ o.placed t h;
+      }

@@ -4,7 +4,7 @@ use mathlib.Core.Option.{some, some-injective, some-ne-none}
 use lib.ListN.{get_elem?}
 use Rattle.call_queue.specs.declared.rule.Ticket.{Ticket}
 use Rattle.call_queue.specs.declared.rule.Share.{Share}
-use Rattle.call_queue.specs.Rule.{IsOneOf, weigh, total, whole}
+use Rattle.call_queue.specs.Rule.{IsOneOf, weigh, total}
 
 module _ {C : Type 0} where
   pub weigh-append : (h : Ticket C → ℕ) (xs ys : List (Ticket C)) → weigh h (xs ++ ys) ≡ weigh h xs + weigh h ys
@@ -26,7 +26,7 @@ module _ {C : Type 0} where
   none_total f [] none idle = refl
   none_total f (x ∷ xs) none idle = let a = idle 0 x refl (omega arith) in let b = none_total f xs (omega arith) (λ seat u e. idle (suc seat) u e) in omega arith
 
-  part_within : (vs : List (Share C)) (id : ℕ) (v : Share C) → get_elem? vs id ≡ some v → v.parts ≤ total (λ u. u.parts) vs
+  pub part_within : (vs : List (Share C)) (id : ℕ) (v : Share C) → get_elem? vs id ≡ some v → v.parts ≤ total (λ u. u.parts) vs
   part_within [] id v at = absurd (some-ne-none v (sym at))
   part_within (x ∷ xs) zero v at = let p : x.parts ≡ v.parts = ap (λ (u : Share C). u.parts) (some-injective x v at) in omega arith
   part_within (x ∷ xs) (suc id) v at = let r = part_within xs id v at in omega arith

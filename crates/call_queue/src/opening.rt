@@ -4,12 +4,13 @@ ghost use Rattle.crossbeam_queue.specs.Passes.{view, IsPassOf, IsSamePass};
 ghost use Rattle.call_queue.specs.Rule.{whole, share, first_share, with_pushed, without_part};
 ghost use Rattle.call_queue.specs.declared.rule.Ticket.{Ticket as TicketValue};
 ghost use Rattle.call_queue.specs.Tickets.{bare, calls_in, calls_from, ends_from, tickets_of, AreWhole};
-ghost use Rattle.call_queue.specs.Queues.{fresh_taker};
+ghost use Rattle.call_queue.specs.Queues.{IsFresh, LastHasTheRest};
 
 use crate::queue::{CallQueue, Taker};
 use crate::rule::{Line, OnePart, Pushed, Share, Ticket};
 use crossbeam_queue::Pass;
 use std::alloc::{AllocError, Global};
+use std::snapshot::Snapshot;
 
 // Pushes a ticket. False where another thread was in the way, which no one is while the queue is opened.
 fn push_one<C: Copy>(
@@ -77,6 +78,7 @@ fn next_taker<C: Copy>(line: &Line<C>, pass: &mut Pass<Ticket<C>, Share<C>>) -> 
     ensures taker { result ≡ record {
       queue = pass.old.table_id;
       calls = bare (calls_in (view pass.old).all);
+      parts = 1;
       taken = [];
       ended = false;
     } }
@@ -88,32 +90,31 @@ fn next_taker<C: Copy>(line: &Line<C>, pass: &mut Pass<Ticket<C>, Share<C>>) -> 
     }
 }
 
-// A taker for each of so many.
+// A taker for each of so many, who took nothing; the last one has the parts that are left.
 fn deal<C: Copy>(
     alloc: Global,
     line: &Line<C>,
-    pass: &mut Pass<Ticket<C>, Share<C>>,
+    mut opener: Pass<Ticket<C>, Share<C>>,
     takers: u32,
 ) -> Result<Vec<Taker<C>>, AllocError>
-    requires pass { IsPassOf line.now pass.old × (takers < (view pass.old).parts) }
-    requires whole { AreWhole (view pass.old).all }
-    ensures pass { IsSamePass pass.old pass.new }
-    ensures parts { IfOk result (λ _. (view pass.new).parts + takers ≡ (view pass.old).parts) }
-    ensures still { ((view pass.new).all ≡ (view pass.old).all)
-        × ((view pass.new).taken ≡ (view pass.old).taken) }
+    requires pass { IsPassOf line.now opener }
+    requires share { ((view opener).parts ≡ whole) × ((view opener).taken ≡ []) }
+    requires takers { (0 < takers) × (takers ≤ 64) }
+    requires whole { AreWhole (view opener).all }
     ensures count { IfOk result (λ v. vec_len v ≡ takers) }
-    ensures fresh { IfOk result (λ v. All (λ t. t ≡ record {
-      queue = pass.old.table_id;
-      calls = bare (calls_in (view pass.old).all);
-      taken = [];
-      ended = false;
-    }) v.items) }
+    ensures rest { IfOk result (λ v. LastHasTheRest v.items) }
+    ensures fresh { IfOk result (λ v. All (IsFresh opener.table_id
+        (bare (calls_in (view opener).all))) v.items) }
 {
     let mut all = Vec::with_capacity(alloc, takers as usize)?;
-    for dealt in 0..takers {
+    for dealt in 1..takers {
         let _ = dealt;
-        all.push_reserved(next_taker(line, pass));
+        all.push_reserved(next_taker(line, &mut opener));
     }
+    all.push_reserved(Taker {
+        pass: opener,
+        ended: false,
+    });
     Ok(all)
 }
 
@@ -127,10 +128,9 @@ impl<C: Copy> CallQueue<C> {
         requires few { length calls.now ≤ 4096 }
         requires takers { (0 < takers) × (takers ≤ 64) }
         ensures queue { IfOk result (λ r. (r.0.calls ≡ calls.now) × (r.0.takers ≡ takers)) }
-        ensures unused { IfOk result (λ r.
-            (r.0.given ≡ 0) × (r.0.gathered ≡ []) × (r.0.ended ≡ false)) }
         ensures count { IfOk result (λ r. vec_len r.1 ≡ takers) }
-        ensures fresh { IfOk result (λ r. All (λ t. t ≡ fresh_taker r.0) r.1.items) }
+        ensures rest { IfOk result (λ r. LastHasTheRest r.1.items) }
+        ensures fresh { IfOk result (λ r. All (IsFresh r.0.id r.0.calls) r.1.items) }
     {
         let capacity = calls.len() + takers as usize;
         let (line, mut opener) = Line::ruled(alloc, capacity)?;
@@ -141,12 +141,12 @@ impl<C: Copy> CallQueue<C> {
         if !push_ends(&line, &mut opener, count, takers) {
             return Err(AllocError);
         }
-        let all = deal(alloc, &line, &mut opener, takers)?;
+        let filled = Snapshot::of(&opener);
+        let all = deal(alloc, &line, opener, takers)?;
         let queue = CallQueue {
             line,
-            opener,
+            filled,
             takers,
-            given: 0,
         };
         Ok((queue, all))
     }

@@ -7,6 +7,7 @@ use crate::rule::{Line, Share, Taken, Ticket};
 use crossbeam_queue::Pass;
 use numbered_calls::NumberedCall;
 use std::marker::Model;
+use std::snapshot::Snapshot;
 use std::sync::Wait;
 use std::thread;
 
@@ -14,38 +15,26 @@ use std::thread;
 #[derive(Drop)]
 pub struct CallQueue<C: Copy> {
     pub(crate) line: Line<C>,
-    // The right to know who took what, which the takers have parts of.
-    pub(crate) opener: Pass<Ticket<C>, Share<C>>,
+    // What was known when it was filled: all calls.
+    pub(crate) filled: Snapshot<Pass<Ticket<C>, Share<C>>>,
     pub(crate) takers: u32,
-    // How many of them were given back.
-    pub(crate) given: u32,
 }
 
 impl<C: Copy> Model for CallQueue<C> {
-    ghost use Rattle.std.specs.Prelude.{◌≡◌, ◌+◌, ◌≤◌};
-    ghost use Rattle.crossbeam_queue.specs.Passes.{view as share_of, IsPassOf};
+    ghost use Rattle.crossbeam_queue.specs.Passes.{view as share_of};
     ghost use Rattle.call_queue.specs.Queues.{QueueModel};
-    ghost use Rattle.call_queue.specs.Rule.{whole};
-    ghost use Rattle.call_queue.specs.Tickets.{bare, calls_in, has_end, AreWhole};
+    ghost use Rattle.call_queue.specs.Tickets.{bare, calls_in};
 
     ghost Value = { QueueModel C };
 
     ghost view = { λ q. record {
       id = q.line.table.shared.table_id;
-      calls = bare (calls_in (share_of q.opener).all);
+      calls = bare (calls_in (share_of q.filled.value).all);
       takers = q.takers;
-      given = q.given;
-      gathered = calls_in (share_of q.opener).taken;
-      ended = has_end (share_of q.opener).taken;
     } };
-
-    ghost invariant = { λ q. IsPassOf q.line q.opener
-        × ((share_of q.opener).parts + q.takers ≡ whole + q.given)
-        × (q.takers ≤ 64)
-        × AreWhole (share_of q.opener).all };
 }
 
-/// A caller's right to take calls from the queue.
+/// A caller's right to take calls from the queue, with some parts of the right to know who took what.
 #[derive(Drop)]
 pub struct Taker<C: Copy> {
     pub(crate) pass: Pass<Ticket<C>, Share<C>>,
@@ -53,7 +42,7 @@ pub struct Taker<C: Copy> {
 }
 
 impl<C: Copy> Model for Taker<C> {
-    ghost use Rattle.std.specs.Prelude.{◌≡◌, []};
+    ghost use Rattle.std.specs.Prelude.{◌≡◌, ◌<◌, []};
     ghost use Rattle.crossbeam_queue.specs.Passes.{view as share_of};
     ghost use Rattle.call_queue.specs.Queues.{TakerModel};
     ghost use Rattle.call_queue.specs.Tickets.{bare, calls_in, has_end, AreWhole};
@@ -63,12 +52,13 @@ impl<C: Copy> Model for Taker<C> {
     ghost view = { λ t. record {
       queue = t.pass.table_id;
       calls = bare (calls_in (share_of t.pass).all);
+      parts = (share_of t.pass).parts;
       taken = calls_in (share_of t.pass).taken;
       ended = t.ended;
     } };
 
     ghost invariant = { λ t. (t.pass.me.1 ≡ [])
-        × ((share_of t.pass).parts ≡ 1)
+        × (0 < (share_of t.pass).parts)
         × AreWhole (share_of t.pass).all
         × (t.ended ≡ has_end (share_of t.pass).taken) };
 }
@@ -108,6 +98,7 @@ impl<C: Copy> CallQueue<C> {
         requires queue { taker.old.queue ≡ self.now.id }
         ensures queue { taker.new.queue ≡ taker.old.queue }
         ensures calls { taker.new.calls ≡ taker.old.calls }
+        ensures parts { taker.new.parts ≡ taker.old.parts }
 
         // The call is that of its place, and goes behind those taken before, which stood at earlier places.
         ensures listed { IfSome result (λ c. slice_get taker.old.calls c.at ≡ Some c.call) }

@@ -4,7 +4,7 @@ use Rattle.doc_text.specs.Words.{same, ◌>>?◌}
 use Rattle.bpf_isa.specs.declared.insn.Profile.TheVariants.{One, Two}
 use Rattle.syncord_replay.specs.Numbers.{AreInRange, words_in as bulk_words_in}
 use Rattle.syncord_app.specs.declared.commands.Command.{Command}
-use Rattle.syncord_app.specs.declared.commands.Command.TheVariants.{Line, Verify, Replay, Shards, Bulk, Assemble, Disassemble}
+use Rattle.syncord_app.specs.declared.commands.Command.TheVariants.{Line, Verify, Replay, Shards, Pool, Bulk, Assemble, Disassemble}
 
 -- the numbers of `bulk` are in range
 abbrev pub IsPossible : Command → Type 0
@@ -16,6 +16,7 @@ word_in word = if same word (codes "line") then Some Line
     else if same word (codes "verify") then Some (Verify One)
     else if same word (codes "replay") then Some Replay
     else if same word (codes "shards") then Some Shards
+    else if same word (codes "pool") then Some Pool
     else if same word (codes "asm") then Some (Assemble One)
     else if same word (codes "disasm") then Some (Disassemble One) else None
 
@@ -28,7 +29,7 @@ words_in word number = if same number (codes "2") then
 abbrev pub bulk_in : List ℕ → List (List ℕ) → Option Command
 bulk_in word numbers = if same word (codes "bulk") then (bulk_words_in numbers >>? λ b. Some (Bulk b)) else None
 
--- the command, where the words are just those of one: `line`, `verify`, `verify 2`, `replay`, `shards`,
+-- the command, where the words are just those of one: `line`, `verify`, `verify 2`, `replay`, `shards`, `pool`,
 -- `bulk SEED WORKERS CALLS`, `asm`, `asm 2`, `disasm` or `disasm 2`
 abbrev pub command_in : List (List ℕ) → Option Command
 command_in (word ∷ []) = word_in word

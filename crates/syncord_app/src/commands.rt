@@ -16,6 +16,8 @@ pub enum Command {
     Replay,
     /// Replays a trace with a lock for each directory.
     Shards,
+    /// Runs the calls of a trace from one queue.
+    Pool,
     /// Replays the trace that a seed makes, and sums it up.
     Bulk(BulkWords),
     /// Assembles a policy program.
@@ -41,6 +43,8 @@ impl Command {
             Some(Command::Replay)
         } else if is_same(word, b"shards") {
             Some(Command::Shards)
+        } else if is_same(word, b"pool") {
+            Some(Command::Pool)
         } else if is_same(word, b"asm") {
             Some(Command::Assemble {
                 profile: Profile::One,

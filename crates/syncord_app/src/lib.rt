@@ -2,6 +2,7 @@
 #![tactic(auto)]
 
 mod commands;
+mod takers;
 #[cfg(test)]
 mod tests;
 mod threads;
@@ -10,7 +11,9 @@ mod top;
 pub use bpf_isa::Profile;
 pub use syncord_asm::{run_asm, run_disasm};
 pub use syncord_line::run_line;
+pub use syncord_pool::run_pool;
 pub use syncord_replay::{run_bulk, run_replay};
 pub use syncord_verify::run_verify;
+pub use takers::run_by_takers;
 pub use threads::{run_by_shards, run_by_threads};
 pub use top::syncord;

@@ -39,7 +39,7 @@ fn called<Rt: Threads + Wait + Sync>(
 fn other_words_are_refused_and_nothing_is_read(rt: HostRuntime) -> Result<(), Fail> {
     let alloc = rt.alloc();
     let mut src = SureSource::new(Vec::from_slice(alloc, FAST_PATH.as_bytes())?);
-    let refused: [&[&str]; 18] = [
+    let refused: [&[&str]; 19] = [
         &["line", "x"],
         &["help"],
         &[],
@@ -51,6 +51,7 @@ fn other_words_are_refused_and_nothing_is_read(rt: HostRuntime) -> Result<(), Fa
         &["-h"],
         &["replay", "2"],
         &["shards", "2"],
+        &["pool", "2"],
         &["asm", "1"],
         &["disasm", "2", "2"],
         &["bulk"],
@@ -82,6 +83,12 @@ const TEN_CALLS: &str =
 const TEN_CALLS_REPORT: &str =
     "syncord-replay 1 workers 1 entries 10\n0 make 0 a = ino 1\n0 make 0 a = exists\n0 rename 0 a 0 a = done\n0 make 1 b = ino 2\n0 rename 0 a 1 b = done\n0 find 1 b = ino 1\n0 find 0 a = absent\n0 count 1 = number 1\n0 next 1 = name b\n0 next 1 b = end\nfinal 1\n1 b 1\nattaches 0\nend\n";
 
+const TWO_MAKES: &str =
+    "syncord-trace 1\nworker 0 0 0 0\npolicy none - -\ncalls\n0 make 0 a\n0 make 0 a\n";
+
+const TWO_MAKES_REPORT: &str =
+    "syncord-pool 1 workers 1 entries 2\n0 0 make 0 a = ino 1\n0 1 make 0 a = exists\nfinal 1\n0 a 1\nend\n";
+
 const SUMMARY: &str =
     "bulk seed 1 workers 1 calls 3 attaches 0\nino 1 done 0 exists 0 absent 1 number 1 name 0 end 0\nleft 1\n";
 
@@ -95,7 +102,7 @@ const MOVE: &str = "bf00080000000000\n9500000000000000\n";
 fn the_words_of_a_command_lead_to_it(rt: HostRuntime) -> Result<(), Fail> {
     let alloc = rt.alloc();
     let accepted = "b700000001000000\n9500000000000000\n";
-    let cases: [(&[&str], &str, u8, &str, &str); 17] = [
+    let cases: [(&[&str], &str, u8, &str, &str); 20] = [
         (&["line"], FAST_PATH, 0, FAST_PATH_REPORT, ""),
         (&["line"], "", 1, "", "syncord: line 1: fault 2\n"),
         (&["verify"], accepted, 0, "accepted slots 2\n", ""),
@@ -113,6 +120,9 @@ fn the_words_of_a_command_lead_to_it(rt: HostRuntime) -> Result<(), Fail> {
         (&["replay"], "", 1, "", "syncord: line 1: fault 2\n"),
         (&["shards"], TEN_CALLS, 0, TEN_CALLS_REPORT, ""),
         (&["shards"], "", 1, "", "syncord: line 1: fault 2\n"),
+        (&["pool"], TWO_MAKES, 0, TWO_MAKES_REPORT, ""),
+        (&["pool"], FOUR, 1, "", "syncord: line 12: fault 17\n"),
+        (&["pool"], "", 1, "", "syncord: line 1: fault 2\n"),
         (&["bulk", "1", "1", "3"], "", 0, SUMMARY, ""),
         (&["bulk", "7", "8", "20000"], "", 0, EIGHT_SUMMARY, ""),
         (&["asm", "2"], "le 16 r0\n", 0, "d400000010000000\n", ""),
@@ -143,6 +153,22 @@ fn four_workers_are_replayed(rt: HostRuntime) -> Result<(), Fail> {
     let report = end.out.bytes();
     assert!(rt; report.starts_with(b"syncord-replay 1 workers 4 entries 40\n"));
     assert!(rt; report.ends_with(b"attaches 2\n1 none\n2 socket\nend\n"));
+    Ok(())
+}
+
+// The same without its attachments.
+const FOUR_TAKERS: &str =
+    "syncord-trace 1\nworker 0 0 0 0\nworker 0 0 0 0\nworker 1 0 0 0\nworker 1 0 0 0\npolicy socket 61120000000000006111040000000000b7000000010000001d21010000000000b7000000000000009500000000000000 -\npolicy none - -\ncalls\n0 make 5 job-0\n0 make 5 shared\n0 find 5 shared\n0 rename 5 job-0 6 job-0\n0 count 6\n0 find 6 job-0\n0 drop 5 shared\n0 next 6\n0 make 7 log-0\n0 count 7\n1 make 5 job-1\n1 make 5 shared\n1 find 5 shared\n1 rename 5 job-1 6 job-1\n1 count 6\n1 find 6 job-1\n1 drop 5 shared\n1 next 6\n1 make 7 log-1\n1 count 7\n2 make 5 job-2\n2 make 5 shared\n2 find 5 shared\n2 rename 5 job-2 6 job-2\n2 count 6\n2 find 6 job-2\n2 drop 5 shared\n2 next 6\n2 make 7 log-2\n2 count 7\n3 make 5 job-3\n3 make 5 shared\n3 find 5 shared\n3 rename 5 job-3 6 job-3\n3 count 6\n3 find 6 job-3\n3 drop 5 shared\n3 next 6\n3 make 7 log-3\n3 count 7\n";
+
+#[test]
+fn four_takers_empty_a_pool(rt: HostRuntime) -> Result<(), Fail> {
+    let alloc = rt.alloc();
+    let mut src = SureSource::new(Vec::from_slice(alloc, FOUR_TAKERS.as_bytes())?);
+    let end = called(&rt, alloc, &["pool"], &mut src)?;
+    assert_eq!(rt; end.status, 0);
+    let report = end.out.bytes();
+    assert!(rt; report.starts_with(b"syncord-pool 1 workers 4 entries 40\n"));
+    assert!(rt; report.ends_with(b"\nend\n"));
     Ok(())
 }
 

@@ -1,6 +1,6 @@
 //! The top call: words and bytes in, a status, a report and an error line out.
 ghost use Rattle.std.specs.Prelude.{◌≡◌, ◌≢◌, [], map, string_bytes, codes, Some, None, IfOk};
-ghost use Rattle.syncord_app.specs.declared.commands.Command.TheVariants.{Line, Verify, Replay, Shards, Bulk, Assemble, Disassemble};
+ghost use Rattle.syncord_app.specs.declared.commands.Command.TheVariants.{Line, Verify, Replay, Shards, Pool, Bulk, Assemble, Disassemble};
 ghost use Rattle.bpf_isa.specs.declared.insn.Profile.{Profile as ProfileValue};
 ghost use Rattle.syncord_endings.specs.Traffic.{through, Takes, Told};
 ghost use Rattle.syncord_line.specs.Reports as line;
@@ -10,10 +10,13 @@ ghost use Rattle.syncord_asm.specs.Listings.{Disassembles};
 ghost use Rattle.syncord_replay.specs.declared.words.BulkWords.{BulkWords as Numbers};
 ghost use Rattle.syncord_replay.specs.Replays as replay;
 ghost use Rattle.syncord_replay.specs.Runnable.{IsRunnable, IsRunOf};
+ghost use Rattle.syncord_pool.specs.Reports as pool;
+ghost use Rattle.syncord_pool.specs.Runs as pooled;
 ghost use Rattle.syncord_app.specs.Outcomes.{Performs, SumsUp};
 ghost use Rattle.syncord_app.specs.Commands.{command_in};
 
 use crate::commands::Command;
+use crate::takers::run_by_takers;
 use crate::threads::{run_by_shards, run_by_threads};
 use std::alloc::Global;
 use std::sync::Wait;
@@ -22,12 +25,14 @@ use syn_outer::{Gate, Sink, Source};
 use syncord_asm::{run_asm, run_disasm};
 use syncord_endings::tell;
 use syncord_line::run_line;
+use syncord_pool::{PoolRun, run_pool};
 use syncord_replay::{BulkWords, Run, run_bulk, run_replay};
 use syncord_verify::run_verify;
 use trace_text::{NoMemory, Trace};
 
-/// Does what the words behind the program's name say, and answers the status. `replay`, `shards` and `bulk` run a thread for each
-/// worker of their trace and wait for them all: what is said of them here is said if the call returns. `gate` is where a test can hold a worker.
+/// Does what the words behind the program's name say, and answers the status. `replay`, `shards`, `pool` and `bulk` run a thread for
+/// each worker of their trace and wait for them all: what is said of them here is said if the call returns. `gate` is where a test can
+/// hold a worker.
 pub fn syncord<Rt: Threads + Wait + Sync, R: Source, W: Sink, E: Sink, G: Gate + Sync>(
     rt: &Rt,
     alloc: Global,
@@ -77,6 +82,14 @@ pub fn syncord<Rt: Threads + Wait + Sync, R: Source, W: Sink, E: Sink, G: Gate +
         (through W.held W.faults out.old out.new)
         (through E.held E.faults err.old err.new) result }
 
+    // `pool` runs the calls of a trace by threads that take them from one queue, and reports a history of them, or ends otherwise
+    // with its cause.
+    ensures pool { command_in (map string_bytes words.now) ≡ Some Pool →
+        Performs pool.Reports pool.Refuses
+        (through R.left R.faults src.old src.new)
+        (through W.held W.faults out.old out.new)
+        (through E.held E.faults err.old err.new) result }
+
     // `bulk` runs the trace that its numbers make and sums it up, and reads nothing.
     ensures bulk { (numbers : Numbers) →
         command_in (map string_bytes words.now) ≡ Some (Bulk numbers) → SumsUp numbers
@@ -107,11 +120,16 @@ pub fn syncord<Rt: Threads + Wait + Sync, R: Source, W: Sink, E: Sink, G: Gate +
         requires { IsRunnable trace.now }
         ensures { IfOk result (IsRunOf trace.now) }
     { run_by_shards(rt, alloc, trace, gate) };
+    let takers = |alloc: Global, trace: &Trace| -> Result<PoolRun, NoMemory>
+        requires { pooled.MayRun trace.now }
+        ensures { IfOk result (pooled.IsRunOf trace.now) }
+    { run_by_takers(rt, alloc, trace, gate) };
     match Command::of(words) {
         Some(Command::Line) => run_line(alloc, src, out, err),
         Some(Command::Verify { profile }) => run_verify(alloc, profile, src, out, err),
         Some(Command::Replay) => run_replay(&runner, alloc, src, out, err),
         Some(Command::Shards) => run_replay(&sharded, alloc, src, out, err),
+        Some(Command::Pool) => run_pool(&takers, alloc, src, out, err),
         Some(Command::Bulk(numbers)) => {
             let BulkWords {
                 seed,

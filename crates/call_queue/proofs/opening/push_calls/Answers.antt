@@ -1,7 +1,5 @@
-use Rattle.std.proofs.Common.{◌≡◌, ℕ, ◌+◌, ◌<◌, ◌≤◌, true, [], ap, ◌∙◌, sym, arith, length, take, length-take-le, Some}
-use Rattle.crossbeam_queue.specs.Passes.{view}
+use Rattle.std.proofs.Common.{true, [], ap, ◌∙◌, sym, arith, length, take, length-take-le, Some}
 use Rattle.call_queue.specs.Rule.{with_pushed, share, whole}
-use Rattle.call_queue.specs.Tickets.{calls_from}
 use Rattle.call_queue.specs.declared.rule.Share.{Share}
 use Rattle.call_queue.proofs.Filled.{next_call, length-calls_from}
 use Rattle.call_queue.proofs.opening.push_calls.Goals as goal

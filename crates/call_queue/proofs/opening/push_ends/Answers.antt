@@ -1,4 +1,4 @@
-use Rattle.std.proofs.Common.{◌≡◌, ℕ, ◌+◌, ◌<◌, ◌++◌, true, [], ap, ◌∙◌, sym, arith, length, length-append, None}
+use Rattle.std.proofs.Common.{◌≡◌, ◌+◌, ◌++◌, true, [], ap, ◌∙◌, sym, arith, length, length-append, None}
 use Rattle.crossbeam_queue.specs.Passes.{view}
 use Rattle.call_queue.specs.Rule.{with_pushed, share, whole}
 use Rattle.call_queue.specs.Tickets.{ends_from}

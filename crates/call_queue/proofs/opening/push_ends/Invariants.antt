@@ -1,4 +1,4 @@
-use Rattle.std.proofs.Common.{◌≡◌, ◌≤◌, ◌++◌, true, []}
+use Rattle.std.proofs.Common.{◌≡◌, ◌++◌, true, []}
 use Rattle.crossbeam_queue.specs.Passes.{view}
 use Rattle.call_queue.specs.Rule.{whole, share}
 use Rattle.call_queue.specs.Tickets.{ends_from}

@@ -1,5 +1,6 @@
 use Rattle.std.proofs.Common.{◌≡◌, ◌++◌, length, ap, ◌∙◌, sym, refl, subst}
-use Rattle.crossbeam_queue.specs.Passes.{view}
+use Rattle.crossbeam_queue.specs.Passes.{view, Pass}
+use Rattle.call_queue.specs.declared.rule.Ticket.{Ticket}
 use Rattle.call_queue.specs.declared.rule.Share.{Share}
 use Rattle.call_queue.specs.Tickets.{bare, calls_in, calls_from, ends_from, tickets_of, AreWhole}
 use Rattle.call_queue.proofs.Moves.{begins}
@@ -18,19 +19,8 @@ deal-requires-clause-whole g c =
     ∙ ap (λ (h : Share _). h.all ++ ends_from (length c.args.calls.now) c.args.takers) (c.push_calls.ensures.full c.if-not-push_calls.false) in
     subst AreWhole (sym all) (tickets-whole c.args.calls.now c.args.takers)
 
-pub invariant_of-queue : goal.invariant_of-queue
-invariant_of-queue g c =
-    let opened = c.in_ok-line.ensures in let first = c.push_calls.ensures.pass in let second = c.push_ends.ensures.pass in let last = c.deal.ensures.pass in
-    let all : (view c.push_ends.new.pass).all ≡ tickets_of c.args.calls.now c.args.takers = ap (λ (h : Share _). h.all) (c.push_ends.ensures.full c.if-not-push_ends.false)
-    ∙ ap (λ (h : Share _). h.all ++ ends_from (length c.args.calls.now) c.args.takers) (c.push_calls.ensures.full c.if-not-push_calls.false) in (
-      (last.0 ∙ (second.0 ∙ (first.0 ∙ opened.1.0)), last.2 ∙ (second.2 ∙ (first.2 ∙ opened.1.1))),
-      c.in_ok-all.ensures.parts ∙ ap (λ (h : Share _). h.parts) (c.push_ends.ensures.full c.if-not-push_ends.false),
-      c.requires.takers.1,
-      subst AreWhole (sym (c.deal.ensures.still.0 ∙ all)) (tickets-whole c.args.calls.now c.args.takers),
-    )
-
 pub returns-clause-queue : goal.returns-clause-queue
 returns-clause-queue g c =
     let all : (view c.push_ends.new.pass).all ≡ tickets_of c.args.calls.now c.args.takers = ap (λ (h : Share _). h.all) (c.push_ends.ensures.full c.if-not-push_ends.false)
     ∙ ap (λ (h : Share _). h.all ++ ends_from (length c.args.calls.now) c.args.takers) (c.push_calls.ensures.full c.if-not-push_calls.false) in
-    (ap (λ l. bare (calls_in l)) (c.deal.ensures.still.0 ∙ all) ∙ bare-tickets_of c.args.calls.now c.args.takers, refl)
+    (ap (λ (p : Pass (Ticket _) (Share _)). bare (calls_in (view p).all)) c.of-filled.ensures ∙ (ap (λ l. bare (calls_in l)) all ∙ bare-tickets_of c.args.calls.now c.args.takers), refl)

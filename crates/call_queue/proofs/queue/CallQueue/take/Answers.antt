@@ -1,4 +1,4 @@
-use Rattle.std.proofs.Common.{◌≡◌, ◌<◌, ◌++◌, ◌∷◌, [], true, All, slice_get, Some, ap, ◌∙◌, subst, sym, refl, append-nil}
+use Rattle.std.proofs.Common.{◌<◌, ◌++◌, ◌∷◌, [], All, slice_get, ap, ◌∙◌, subst, sym, refl, append-nil}
 use Rattle.crossbeam_queue.specs.Passes.{view}
 use Rattle.call_queue.specs.declared.rule.Share.{Share}
 use Rattle.call_queue.specs.Queues.{TakerModel}
@@ -9,7 +9,7 @@ use Rattle.call_queue.proofs.queue.CallQueue.take.Goals as goal
 pub invariant_of-taker : goal.invariant_of-taker
 invariant_of-taker g c = let v = c.taker.invariant in let w = c.take_one-ticket.ensures.taken in let p = c.take_one-ticket.ensures.pass in (
   p.2 ∙ v.0,
-  ap (λ (h : Share _). h.parts) w.taken ∙ v.1,
+  subst (λ (h : Share _). 0 < h.parts) (sym w.taken) v.1,
   subst AreWhole (sym (ap (λ (h : Share _). h.all) w.taken)) v.2,
   v.3 ∙ sym (ap (λ (h : Share _). has_end h.taken) w.taken ∙ no_end_more (view c.taker.inside.pass).taken c.take_one-ticket.result c.in-Some.call c.in-Some.is),
 )
@@ -17,7 +17,7 @@ invariant_of-taker g c = let v = c.taker.invariant in let w = c.take_one-ticket.
 pub invariant_of-taker-in-None : goal.invariant_of-taker-in-None
 invariant_of-taker-in-None g c = let v = c.taker.invariant in let w = c.take_one-ticket.ensures.taken in let p = c.take_one-ticket.ensures.pass in (
   p.2 ∙ v.0,
-  ap (λ (h : Share _). h.parts) w.taken ∙ v.1,
+  subst (λ (h : Share _). 0 < h.parts) (sym w.taken) v.1,
   subst AreWhole (sym (ap (λ (h : Share _). h.all) w.taken)) v.2,
   sym (ap (λ (h : Share _). has_end h.taken) w.taken ∙ end_more (view c.taker.inside.pass).taken c.take_one-ticket.result c.in-None.is),
 )

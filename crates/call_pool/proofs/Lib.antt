@@ -1,0 +1,6 @@
+mod AllPasses
+mod Members
+mod Openings
+mod PoolHistory
+mod Running
+mod Takings

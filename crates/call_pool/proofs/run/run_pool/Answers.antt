@@ -1,0 +1,35 @@
+use Rattle.std.proofs.Common.{◌≡◌, List, All, length, sym, ap, ◌∙◌, subst}
+use Rattle.std.proofs.Crossing.{crosses}
+use Rattle.std.proofs.lemmas.List.{with_items_is}
+use denote.Param.Send.{sendable}
+use Rattle.atomic_table.proofs.shared.Shared.TheSendSync as shared
+use Rattle.atomic_table.proofs.send_lease.SendLease.TheSendSync as lease
+use Rattle.dir_table.specs.declared.calls.DirCall.{DirCall}
+use Rattle.dir_table.specs.Numbers.{call_numbers}
+use Rattle.dir_table.specs.Meanings.{Admits}
+use Rattle.shfl_cell.specs.Cells.{number}
+use Rattle.call_pool.specs.Pools.{PoolPassModel, IsPassOf, AreNumbered}
+use Rattle.call_pool.proofs.Running.{numbered}
+use Rattle.call_pool.proofs.run.run_pool.Goals as goal
+
+abbrev P : Type 0
+P = PoolPassModel DirCall
+
+pub take_in_threads-requires-sync-P : goal.take_in_threads-requires-sync-P
+take_in_threads-requires-sync-P g c κs within = search (sendable, crosses, shared.the_sync, lease.the_sync) depth 60 fits 20000
+
+pub take_in_threads-requires-clause-numbered : goal.take_in_threads-requires-clause-numbered
+take_in_threads-requires-clause-numbered g c κs within =
+    subst (AreNumbered (λ (p : P). number p.cell)) (sym c.deref_mut.ensures.value) (numbered c.in_ok-pool.passes.items c.in_ok-pool.ensures.in_order)
+
+pub close_in_order-requires-clause-pool : goal.close_in_order-requires-clause-pool
+close_in_order-requires-clause-pool g c =
+    let all = c.in_ok-pool.passes in let after : List P = c.take_in_threads.new.passes in
+    let long : length after ≡ length all.items = c.take_in_threads.ensures.len ∙ ap length c.deref_mut.ensures.value in
+    subst (All (IsPassOf call_numbers Admits c.in_ok-pool.pool)) (sym (with_items_is all after (long ∙ sym all.ok.0))) c.take_in_threads.ensures.passes
+
+pub close_in_order-requires-clause-numbered : goal.close_in_order-requires-clause-numbered
+close_in_order-requires-clause-numbered g c =
+    let all = c.in_ok-pool.passes in let after : List P = c.take_in_threads.new.passes in
+    let long : length after ≡ length all.items = c.take_in_threads.ensures.len ∙ ap length c.deref_mut.ensures.value in
+    subst (AreNumbered (λ (p : P). number p.cell)) (sym (with_items_is all after (long ∙ sym all.ok.0))) c.take_in_threads.ensures.numbered

@@ -1,0 +1,15 @@
+//! Calls of no fixed worker: they stand in a queue, and each is taken and made once, on one object behind the lock.
+#![tactic(auto)]
+
+mod closing;
+mod opening;
+mod pool;
+mod run;
+mod taking;
+#[cfg(test)]
+mod tests;
+mod threads;
+
+pub use numbered_calls::{Numbered, NumberedCall};
+pub use pool::{Pool, PoolOf, PoolPass, PoolPassOf};
+pub use run::run_pool;

@@ -1,0 +1,92 @@
+//! Calls on a directory by takers in threads.
+ghost use Rattle.std.specs.Prelude.{◌≡◌, ◌*◌, ◌<◌, ◌≤◌, true, All, length, vec_len, IfOk};
+ghost use Rattle.hist_log.specs.History.{operations, state_left};
+ghost use Rattle.dir_table.specs.Numbers.{call_numbers, reply_numbers, state_numbers};
+ghost use Rattle.dir_table.specs.Meanings.{reply_at, state_after, Admits, IsAdmitted};
+ghost use Rattle.numbered_calls.specs.Numbers.{numbers, inner};
+ghost use Rattle.numbered_calls.specs.PoolHistories.{IsPoolHistory};
+ghost use Rattle.shfl_cell.specs.Cells.{number};
+ghost use Rattle.call_pool.specs.Pools.{IsPassOf, AreNumbered};
+
+use crate::pool::{Pool, PoolPass};
+use crate::threads::{SharedCalls, take_in_threads};
+use dir_table::{Dir, DirCall};
+use hist_log::Entry;
+use numbered_calls::Numbered;
+use shfl_line::{Attr, Chooser, NoMemory};
+use shfl_policy::Policy;
+use std::alloc::Global;
+use std::sync::Wait;
+use std::thread::Threads;
+use syn_outer::Gate;
+
+/// The longest batch of a round.
+const BATCH: u16 = 1024;
+
+impl SharedCalls for Pool<Dir> {
+    type Pass = PoolPass<Dir>;
+
+    ghost use Rattle.dir_table.specs.Numbers.{call_numbers};
+    ghost use Rattle.dir_table.specs.Meanings.{Admits};
+    ghost use Rattle.shfl_cell.specs.Cells.{number as number_of};
+    ghost use Rattle.call_pool.specs.Pools.{IsPassOf};
+
+    ghost is_pass = { λ pool p. IsPassOf call_numbers Admits pool p };
+
+    ghost number = { λ p. number_of p.cell };
+
+    ghost ended = { λ p. p.taker.ended };
+
+    fn take_rest<C: Chooser, G: Gate, R: Wait>(
+        &self,
+        rt: &R,
+        pass: &mut PoolPass<Dir>,
+        chooser: &mut C,
+        gate: &G,
+    ) {
+        self.take_all(rt, pass, chooser, gate);
+    }
+}
+
+// Closes a pool whose passes stand in the order of their numbers and have all ended.
+fn close_in_order(pool: Pool<Dir>, passes: Vec<PoolPass<Dir>>) -> (Dir, Vec<Entry<Numbered<Dir>>>)
+    requires pool { All (IsPassOf call_numbers Admits pool) passes.items }
+    requires numbered { AreNumbered (λ p. number p.cell) passes.items }
+    requires count { (0 < vec_len passes) × (vec_len passes ≡ pool.cell.count) }
+    requires ended { All (λ p. p.taker.ended ≡ true) passes.items }
+    ensures history { IsPoolHistory call_numbers reply_numbers reply_at state_after
+        pool.cell.opening pool.queue.calls result.1.items }
+    ensures state { state_numbers result.0
+        ≡ state_left (λ state call. state_after state (inner call)) pool.cell.opening
+        (operations (numbers call_numbers) reply_numbers result.1.items) }
+{
+    pool.close(passes)
+}
+
+/// Makes these calls on the directory, by a taker in a thread for each of the attributes; the policy serves all of them
+/// throughout. All memory is taken before the takers start.
+pub fn run_pool<G: Gate + Sync, R: Threads + Wait + Sync>(
+    rt: &R,
+    alloc: Global,
+    dir: Dir,
+    policy: &Policy,
+    attrs: &[Attr],
+    calls: &[DirCall],
+    gate: &G,
+) -> Result<(Dir, Vec<Entry<Numbered<Dir>>>), NoMemory>
+    requires takers { (0 < length attrs.now) × (length attrs.now ≤ 16) }
+    requires few { length calls.now ≤ 4096 }
+    requires spare { length attrs.now * length calls.now ≤ dir.spare }
+    requires admitted { All (IsAdmitted dir.room) calls.now }
+
+    // Each call stands in the history once, with its place in the list.
+    ensures history { IfOk result (λ r. IsPoolHistory call_numbers reply_numbers reply_at
+        state_after (state_numbers dir) calls.now r.1.items) }
+    ensures state { IfOk result (λ r. state_numbers r.0
+        ≡ state_left (λ state call. state_after state (inner call)) (state_numbers dir)
+        (operations (numbers call_numbers) reply_numbers r.1.items)) }
+{
+    let (pool, mut passes) = Pool::<Dir>::open(alloc, dir, attrs, BATCH, calls)?;
+    take_in_threads(rt, &pool, policy, gate, &mut passes);
+    Ok(close_in_order(pool, passes))
+}

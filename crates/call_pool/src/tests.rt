@@ -1,0 +1,3 @@
+//! Pools of a directory's calls.
+mod one;
+mod threads;
