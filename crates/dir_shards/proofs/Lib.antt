@@ -7,3 +7,4 @@ pub mod Dealing
 pub mod LockEnds
 pub mod JournalEnds
 pub mod ShardEnds
+pub mod Crossing

@@ -6,11 +6,12 @@ ghost use Rattle.dir_shards.specs.ShardPasses.{IsPassOf, MakesCall, Asks};
 
 use crate::commits::{commit_in, commit_over};
 use crate::locking::{free_at, lock_at};
-use crate::naming::{first_dir, other_dir};
+use crate::naming::other_dir;
 use crate::shard_pass::ShardPass;
 use crate::sharded::ShardedDir;
 use dir_table::{DirCall, DirReply};
 use hist_log::Receipt;
+use shard_rows::first_dir;
 use shfl_line::Chooser;
 use std::sync::Wait;
 use syn_outer::{Gate, Point};

@@ -37,8 +37,8 @@ fn open_journal(
 >
     requires few { length calls.now ≤ 16 }
     requires calls { sum calls.now ≤ 65536 }
-    ensures table { IfOk result (λ r. (r.0.allowed ≡ calls.now) × (r.0.opening ≡ room ∷ sum calls.now ∷ [])
-        × (r.0.limit ≡ sum calls.now)) }
+    ensures table { IfOk result (λ r. (r.0.allowed ≡ calls.now)
+        × (r.0.opening ≡ room ∷ sum calls.now ∷ []) × (r.0.limit ≡ sum calls.now)) }
     ensures count { IfOk result (λ r. vec_len r.1 ≡ length calls.now) }
     ensures passes { IfOk result (λ r. (k : ℕ) → k < length calls.now
         → slice_get r.1.items k ≡ Some (shared.fresh_pass r.0.id r.0.opening r.0.limit k

@@ -5,9 +5,8 @@ ghost use Rattle.shard_rows.specs.Values.{caught_up};
 ghost use Rattle.dir_shards.specs.Commits.{MayEnter, Enters};
 
 use crate::dir_journal::DirJournal;
-use crate::naming::first_dir;
 use dir_table::{DirCall, DirReply};
-use shard_rows::{Journal, Shard};
+use shard_rows::{Journal, Shard, first_dir};
 use shared_journal::Step;
 
 /// A call, with the names of the directory that it names first.

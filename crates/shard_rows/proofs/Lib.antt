@@ -10,6 +10,7 @@ pub mod Longer
 pub mod Named
 pub mod Numbered
 pub mod OwnRows
+pub mod Quiet
 pub mod Rows
 pub mod SamePlace
 pub mod Shared

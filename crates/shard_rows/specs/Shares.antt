@@ -1,5 +1,5 @@
 -- One directory's share of the names, and what an entry makes of it.
-use Rattle.std.specs.Prelude.{◌≡◌, ◌≢◌, ℕ, zero, suc, ◌+◌, ◌<◌, ◌==◌, Option, None, Some, if◌then◌else◌}
+use Rattle.std.specs.Prelude.{◌≡◌, ◌≢◌, ◌⊎◌, ℕ, zero, suc, ◌+◌, ◌<◌, ◌==◌, Option, None, Some, if◌then◌else◌}
 use Rattle.std.specs.FinMap.{get, insert, remove, retain_keys}
 use Rattle.dir_table.specs.declared.calls.DirCall.{DirCall}
 use Rattle.dir_table.specs.declared.calls.DirCall.TheVariants.{Make, Drop, Rename, Find, Count, Next}
@@ -39,6 +39,19 @@ first_named (Rename dir name to_dir to_name) = dir
 first_named (Find dir name) = dir
 first_named (Count dir) = dir
 first_named (Next dir bound) = dir
+
+-- the directory that the call names last
+abbrev pub last_named : DirCall → ℕ
+last_named (Make dir name) = dir
+last_named (Drop dir name) = dir
+last_named (Rename dir name to_dir to_name) = to_dir
+last_named (Find dir name) = dir
+last_named (Count dir) = dir
+last_named (Next dir bound) = dir
+
+-- the call names the directory
+abbrev pub NamesDir : DirCall → ℕ → Type 0
+NamesDir call dir = (first_named call ≡ dir) ⊎ (last_named call ≡ dir)
 
 -- a directory that has these names alone
 abbrev pub alone : Directory → Names → Directory

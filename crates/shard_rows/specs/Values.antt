@@ -1,5 +1,5 @@
 -- A shard and a journal as their callers see them.
-use Rattle.std.specs.Prelude.{◌≡◌, ℕ, ◌≤◌, All, List, Some, slice_get, take, length, filter, nat_lt}
+use Rattle.std.specs.Prelude.{◌≡◌, ℕ, ◌<◌, ◌≤◌, All, List, Some, slice_get, slice_index, take, length, filter, nat_lt}
 use Rattle.std.specs.FinMap.{code, entries}
 use Rattle.std.specs.Coded.{Coded, code_by, coded×, coded_ℕ}
 use Rattle.std.proofs.Common.{refl}
@@ -7,7 +7,7 @@ use Rattle.dir_table.specs.Names.{Place, Names}
 use Rattle.dir_table.specs.Directory.{Directory}
 use Rattle.dir_table.specs.Meanings.{IsAdmitted}
 use Rattle.shard_rows.specs.Replay.{DirEntry, opening, left_by, numbers_of, IsLegal}
-use Rattle.shard_rows.specs.Shares.{names_in}
+use Rattle.shard_rows.specs.Shares.{names_in, NamesDir}
 
 pub record JournalValue : Type 0 where
   pub entries : List DirEntry
@@ -44,8 +44,12 @@ pub record IsUpTo (entries : List DirEntry) (shard : ShardValue) : Type 0 where
 abbrev pub caught_up : List DirEntry → ShardValue → ShardValue
 caught_up entries shard = record shard { names = names_in (left_by (opening shard.room) entries).names shard.dir; known = length entries }
 
+-- no entry from this place on names the directory
+abbrev pub NamedBelow : List DirEntry → ℕ → ℕ → Type 0
+NamedBelow entries dir place = (i : ℕ) (e : DirEntry) → slice_get entries i ≡ Some e → NamesDir e.call dir → i < place
+
 -- what a journal keeps beside its entries
-pub record IsKept (entries : List DirEntry) (numbers : List ℕ) (next_number room limit capacity number_capacity : ℕ) : Type 0 where
+pub record IsKept (entries : List DirEntry) (numbers newest : List ℕ) (next_number room limit capacity number_capacity : ℕ) : Type 0 where
   -- each reply is the directory's after the entries before it
   pub legal : IsLegal (opening room) entries
   -- each call is one of directories and names in range
@@ -54,6 +58,9 @@ pub record IsKept (entries : List DirEntry) (numbers : List ℕ) (next_number ro
   pub placed : (i : ℕ) (e : DirEntry) → slice_get entries i ≡ Some e → e.receipt ≡ i
   -- the numbers that the entries gave or moved
   pub beside : numbers ≡ numbers_of (opening room) entries
+  -- for each directory the place behind the last entry that names it
+  pub directories : length newest ≡ 64
+  pub named : (dir : ℕ) → NamedBelow entries dir (slice_index newest dir)
   -- the number that the next new file gets
   pub next : next_number ≡ (left_by (opening room) entries).next_number
   pub within : length entries ≤ limit

@@ -19,12 +19,17 @@ pub struct Committed {
 }
 
 impl Shard {
-    /// Brings the names forward by the entries that they lack. Only these are looked at, and no memory is taken.
+    /// Brings the names forward by the entries that they lack. Only these are looked at, and none where none of them names the directory.
+    /// No memory is taken.
     pub fn bring_forward(&mut self, journal: &Journal)
         requires up_to { IsUpTo journal.now.entries self.old }
         requires room { self.old.room ≡ journal.now.room }
         ensures { self.new ≡ caught_up journal.now.entries self.old }
     {
+        if journal.newest(self.dir()) <= self.known() {
+            self.skip_to(journal.len());
+            return;
+        }
         for place in self.known()..journal.len() {
             let call = journal.call(place);
             self.follow(&call, journal.number(place));

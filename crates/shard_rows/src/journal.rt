@@ -1,16 +1,17 @@
 //! The journal: all calls in one order, with the number that each gave or moved.
-ghost use Rattle.std.specs.Prelude.{◌≡◌, ℕ, ◌+◌, ◌<◌, ◌≤◌, ◌++◌, [], ◌∷◌, All, Some, IfOk, length, slice_get, slice_index};
+ghost use Rattle.std.specs.Prelude.{◌≡◌, ℕ, ◌+◌, ◌<◌, ◌≤◌, ◌++◌, [], ◌∷◌, All, Some, IfOk, length, vec_len, slice_get, slice_index, slice_set};
 ghost use Rattle.dir_table.specs.Meanings.{IsAdmitted};
 ghost use Rattle.dir_table.specs.Answers.{reply_to};
 ghost use Rattle.shard_rows.specs.Replay.{DirEntry, opening, left_by, numbers_of, number_of, entry_by, IsLegal};
-ghost use Rattle.shard_rows.specs.Shares.{next_after};
-ghost use Rattle.shard_rows.specs.Values.{JournalValue, names_after, rows_below};
+ghost use Rattle.shard_rows.specs.Shares.{next_after, first_named, last_named};
+ghost use Rattle.shard_rows.specs.Values.{JournalValue, NamedBelow, names_after, rows_below};
 ghost use Rattle.std.specs.FinMap.{entries};
 ghost use Rattle.hist_log.specs.History as history;
 ghost use Rattle.hist_log.specs.History.{operations};
 ghost use Rattle.dir_table.specs.Numbers.{call_numbers, reply_numbers, state_numbers};
 ghost use Rattle.dir_table.specs.Meanings.{reply_at, state_after};
 
+use crate::naming::{first_dir, last_dir};
 use crate::shard::Answered;
 use dir_table::{Dir, DirCall, NoMemory};
 use hist_log::Entry;
@@ -22,6 +23,8 @@ use std::marker::Model;
 pub struct Journal {
     entries: Vec<Entry<Dir>>,
     numbers: Vec<u64>,
+    // For each directory the place behind the last entry that names it.
+    newest: Vec<u32>,
     next_number: u64,
     room: u32,
     limit: u32,
@@ -39,7 +42,7 @@ impl Model for Journal {
       limit = j.limit;
     } };
 
-    ghost invariant = { λ j. IsKept j.entries.items j.numbers.items j.next_number j.room j.limit
+    ghost invariant = { λ j. IsKept j.entries.items j.numbers.items j.newest.items j.next_number j.room j.limit
         (vec_capacity j.entries) (vec_capacity j.numbers) };
 }
 
@@ -54,6 +57,17 @@ fn next_after(call: &DirCall, number: u64, next_number: u64) -> u64
     }
 }
 
+// Notes the place behind an entry at the directories that its call names.
+fn note(newest: &mut Vec<u32>, call: &DirCall, behind: u32)
+    requires within { (first_named call.now < vec_len newest.old)
+        × (last_named call.now < vec_len newest.old) }
+    ensures { newest.new.items ≡ slice_set
+        (slice_set newest.old.items (first_named call.now) behind) (last_named call.now) behind }
+{
+    newest[first_dir(call) as usize] = behind;
+    newest[last_dir(call) as usize] = behind;
+}
+
 impl Journal {
     /// A journal with no entry. The memory for `limit` entries is taken here; names are below `room`.
     pub fn open(alloc: Global, room: u32, limit: u32) -> Result<Journal, NoMemory>
@@ -63,6 +77,7 @@ impl Journal {
         Ok(Journal {
             entries: Vec::with_capacity(alloc, limit as usize)?,
             numbers: Vec::with_capacity(alloc, limit as usize)?,
+            newest: Vec::from_slice(alloc, &[0; 64])?,
             next_number: 1,
             room,
             limit,
@@ -104,6 +119,16 @@ impl Journal {
         self.numbers[place as usize]
     }
 
+    // No entry from this place on names the directory.
+    pub(crate) fn newest(&self, dir: u8) -> u32
+        ensures { NamedBelow self.now.entries dir result }
+    {
+        match self.newest.get(dir as usize) {
+            Some(place) => *place,
+            None => self.len(),
+        }
+    }
+
     // Puts an entry behind the others.
     pub(crate) fn push(&mut self, worker: u32, call: &DirCall, answered: Answered)
         requires left { length self.old.entries < self.old.limit }
@@ -117,6 +142,7 @@ impl Journal {
               ++ entry_by worker call.now answered.reply (length self.old.entries) ∷ [];
         } }
     {
+        let behind = self.len() + 1;
         let receipt = self.entries.len() as u64;
         self.entries.push_reserved(Entry {
             worker,
@@ -125,6 +151,7 @@ impl Journal {
             receipt,
         });
         self.numbers.push_reserved(answered.number);
+        note(&mut self.newest, call, behind);
         self.next_number = next_after(call, answered.number, self.next_number);
     }
 

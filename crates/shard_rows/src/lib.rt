@@ -3,8 +3,11 @@
 
 mod closing;
 mod commit;
+#[cfg(test)]
+mod drawn_tests;
 mod journal;
 mod laws;
+mod naming;
 mod shard;
 mod table;
 #[cfg(test)]
@@ -13,4 +16,5 @@ mod tests;
 pub use commit::Committed;
 pub use journal::Journal;
 pub use laws::{calls_look_at_one_directory, numbers_carry_changes};
+pub use naming::{first_dir, last_dir};
 pub use shard::Shard;

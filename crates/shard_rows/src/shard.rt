@@ -82,6 +82,13 @@ impl Shard {
         self.known += 1;
     }
 
+    // Goes on to a later place, where the entries between leave the names as they are.
+    pub(crate) fn skip_to(&mut self, known: u32)
+        ensures { self.new ≡ record self.old { known = known } }
+    {
+        self.known = known;
+    }
+
     // Puts the rows behind those of the list.
     pub(crate) fn push_rows(&self, rows: &mut Vec<DirRow>)
         requires { length rows.old.items + length (entries self.now.names) ≤ vec_capacity rows.old }

@@ -9,12 +9,20 @@ use crate::journal::Journal;
 use crate::view::{InTurn, PutBack, TakeOut, Terms, View};
 use atomic_table::{Seat, Table};
 use std::alloc::Global;
+use std::hint;
 use std::marker::Model;
 use std::sync::Wait;
-use std::{hint, thread};
+use std::time::Duration;
 
-// How often a seat looks whether the journal is back before it gives its processor to others.
-const LOOKS: u32 = 50;
+// How often a seat pauses between two tries before it naps, and how long the first pause is; each is twice the one before.
+const PAUSES: u32 = 5;
+
+const PAUSE: u32 = 4;
+
+// How long the first nap is at most, in microseconds, and how often the next one may be twice as long.
+const NAP: u32 = 50;
+
+const LONGER: u32 = 3;
 
 /// The journal's table: a word, which is 1 while the journal is out, and the journal's place.
 #[derive(Drop)]
@@ -68,19 +76,28 @@ impl<J: Journal + Drop> JournalTable<J> {
         ensures seat { seat.new.me ≡ (with_out seat.old.me.0 (J.entries result), (0, None) ∷ []) }
         ensures knows { KnowsOf J.entries J.limit J.opening J.legal J.worker seat.old.me.0 result }
     {
-        let mut looks: u32 = 0;
+        let mut tried: u32 = 0;
         for _ in rt.forever() {
             if let Some(journal) = self.try_take_out(seat) {
                 return journal;
             }
-            if looks < LOOKS {
-                hint::spin_loop();
-                looks += 1;
-            } else {
-                thread::yield_now();
-            }
+            self.back_off(rt, tried);
+            tried = tried.saturating_add(1);
         }
         unreachable!()
+    }
+
+    // Lets others go on after this try: pauses, and after some tries naps, unless the journal is back already.
+    fn back_off<R: Wait>(&self, rt: &R, tried: u32) {
+        if tried < PAUSES {
+            for _ in 0..PAUSE << tried {
+                hint::spin_loop();
+            }
+        } else {
+            let micros = NAP << (tried - PAUSES).min(LONGER);
+            let shared = &self.table.shared;
+            shared.park_timeout(rt, 0, 1, Duration::from_micros(u64::from(micros)));
+        }
     }
 
     // Puts the journal back, with one entry more of a number that the seat has.

@@ -12,4 +12,3 @@ pub mod MadeOnce
 pub mod ShardEnding
 pub mod Publishing
 pub mod Opening
-pub mod Crossing

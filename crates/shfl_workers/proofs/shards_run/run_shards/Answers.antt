@@ -6,7 +6,7 @@ use Rattle.shfl_workers.specs.declared.activity.Activity.{Activity}
 use Rattle.shfl_workers.specs.Activities.{IsAt, AreNumbered}
 use Rattle.shfl_workers.specs.ShardDirs.{HasMade}
 use denote.Param.Send.{sendable}
-use Rattle.shfl_workers.proofs.Crossing.{dir_sync}
+use Rattle.dir_shards.proofs.Crossing.{dir_sync}
 use Rattle.shfl_workers.proofs.Ran.{as_long, still_numbered}
 use Rattle.shfl_workers.proofs.shards_run.run_shards.Goals as goal
 

@@ -2,7 +2,8 @@ use Rattle.std.proofs.Common.{◌≡◌, ℕ, ◌+◌, ◌≤◌, length, take, 
 use Rattle.std.proofs.lemmas.Option.{slice_get_within}
 use Rattle.shard_rows.specs.Replay.{opening, left_by, numbers_of}
 use Rattle.shard_rows.specs.Shares.{names_in, advanced}
-use Rattle.shard_rows.specs.Values.{ShardValue}
+use Rattle.shard_rows.specs.Values.{ShardValue, NamedBelow}
+use Rattle.shard_rows.proofs.Quiet.{skips}
 use Rattle.shard_rows.proofs.Forward.{forward_step}
 use Rattle.shard_rows.proofs.shard.Shard.bring_forward.Goals as goal
 
@@ -25,3 +26,10 @@ loop-place-preserved c =
           ∙ ap (advanced s.dir c.loop-place.self.names e.call) (c.number.ensures ∙ ap (λ r. slice_index (numbers_of (opening r) es) c.loop-place.place) (sym c.requires.room))
           ∙ forward_step s.room s.dir c.loop-place.place es e c.loop-place.self.names found i.4,
     )
+
+pub returns-then-newest-known : goal.returns-then-newest-known
+returns-then-newest-known c =
+    let es = c.args.journal.now.entries in
+    let s = c.args.self.now in
+    c.skip_to.ensures ∙ ap (λ n. record s { known = n }) c.len.ensures.len
+    ∙ skips es s c.newest.result (subst (λ dir. NamedBelow es dir c.newest.result) c.dir.ensures c.newest.ensures) (omega (arith, c.if-newest-known.true, c.known.ensures)) c.requires.up_to
