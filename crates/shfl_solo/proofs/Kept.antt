@@ -21,10 +21,10 @@ use Rattle.shfl_core.proofs.Lists.{seen-at}
 use Rattle.shfl_core.proofs.Blind.{store-blind}
 use Rattle.shfl_laws.specs.Moves.{MayMove}
 use Rattle.shfl_laws.specs.Seen.{SeenAs, Alike}
-use Rattle.shfl_laws.proofs.InRange.{in-range-law, told-names}
-use Rattle.shfl_laws.proofs.Laws.{laws}
-use Rattle.shfl_laws.proofs.MoveLaws.{move-law}
-use Rattle.shfl_laws.proofs.SeenAs.{moves-unseen}
+use Rattle.shfl_laws.proofs.laws.InRange.{in-range-law, told-names}
+use Rattle.shfl_laws.proofs.laws.Laws.{laws}
+use Rattle.shfl_laws.proofs.laws.MoveLaws.{move-law}
+use Rattle.shfl_laws.proofs.laws.SeenAs.{moves-unseen}
 use Rattle.shfl_world.specs.LawfulLock.{IsLawfulLock}
 use Rattle.shfl_world.proofs.Moving.{lawful-lock}
 use Rattle.shfl_solo.specs.declared.rule.Whole.{Whole}

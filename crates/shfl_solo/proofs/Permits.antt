@@ -15,7 +15,7 @@ use Rattle.shfl_core.specs.Worlds.{World, stepped}
 use Rattle.shfl_core.specs.Lawful.{Lawful, count}
 use Rattle.shfl_core.proofs.Lists.{set-read}
 use Rattle.shfl_table.specs.Perform.{Permits}
-use Rattle.shfl_laws.proofs.OwnSteps.{own-step}
+use Rattle.shfl_laws.proofs.laws.OwnSteps.{own-step}
 use Rattle.shfl_solo.specs.declared.rule.Whole.{Whole}
 use Rattle.shfl_solo.specs.declared.rule.Opening.{Opening}
 use Rattle.shfl_solo.specs.Rule.{world, whole, opening_terms, IsWholeLock, row_of, reads, IsSeen}

@@ -5,8 +5,8 @@ use Rattle.shfl_core.specs.Plan.{is_awake}
 use Rattle.shfl_core.specs.Worlds.{known, Step}
 use Rattle.shfl_core.specs.Runner.{Lock, moved}
 use Rattle.shfl_laws.specs.Rounds.{is_own}
-use Rattle.shfl_laws.proofs.Laws.{laws}
-use Rattle.shfl_laws.proofs.MeasureRounds.{rounds-short}
+use Rattle.shfl_laws.proofs.laws.Laws.{laws}
+use Rattle.shfl_laws.proofs.rounds.MeasureRounds.{rounds-short}
 use Rattle.shfl_world.specs.LawfulLock.{IsLawfulLock, terms_of}
 use Rattle.shfl_world.proofs.Facts.{full}
 use Rattle.shfl_solo.specs.Steps.{BeginsShortRound}

@@ -16,7 +16,7 @@ use Rattle.shfl_core.specs.Waiting.{idle}
 use Rattle.shfl_core.specs.Worlds.{known}
 use Rattle.shfl_core.specs.Lawful.{Terms, count, Lawful}
 use Rattle.shfl_core.proofs.Lists.{set-again, seen-at}
-use Rattle.shfl_laws.proofs.Opens.{seat-law, known-one}
+use Rattle.shfl_laws.proofs.laws.Opens.{seat-law, known-one}
 use Rattle.shfl_table.proofs.Places.{there}
 use Rattle.shfl_table.specs.declared.kept.Action.{Action}
 use Rattle.shfl_table.specs.declared.view.Given.{Given}
@@ -30,7 +30,7 @@ use Rattle.shfl_table.specs.BoardRule.{AreHome, BoardRule, Homes, SeatFacts, wor
 use Rattle.shfl_table.specs.PassModel.{BoardId, PassModel, fresh_pass}
 use Rattle.shfl_table.proofs.SeatViews.{passes-set, passes-at, live-pass, pass-there, dead_stays, hold-same}
 use Rattle.shfl_table.proofs.First.{count-is}
-use Rattle.shfl_laws.proofs.MoveRows.{forget-law}
+use Rattle.shfl_laws.proofs.laws.MoveRows.{forget-law}
 
 at_end : {A : Type 0} (l : List A) (a b : A) (j : ℕ) → get_elem? (l ++ a ∷ []) j ≡ some b → ((j < length l) × (get_elem? l j ≡ some b)) ⊎ ((j ≡ length l) × (a ≡ b))
 at_end [] a b zero e = inr (refl, some-injective a b e)

@@ -16,8 +16,8 @@ use Rattle.shfl_core.specs.Words.{index, site}
 use Rattle.shfl_core.specs.Plan.{plan, plan_at, plan_by, is_idle, is_resting}
 use Rattle.shfl_core.specs.Take.{acquired, released, entry, exit}
 use Rattle.shfl_core.specs.Waiting.{MayUse}
-use Rattle.shfl_laws.proofs.SeenAs.{moves-unseen}
-use Rattle.shfl_laws.proofs.MoveLaws.{idle-is, resting-is}
+use Rattle.shfl_laws.proofs.laws.SeenAs.{moves-unseen}
+use Rattle.shfl_laws.proofs.laws.MoveLaws.{idle-is, resting-is}
 use Rattle.shfl_table.specs.declared.kept.Action.{Action}
 use Rattle.shfl_table.specs.declared.view.View.{View}
 use Rattle.shfl_laws.specs.Holds.{hold_of}

@@ -11,9 +11,9 @@ use Rattle.shfl_core.specs.Worlds.{opening_words}
 use Rattle.shfl_core.specs.Lawful.{Terms, count, Lawful}
 use Rattle.shfl_core.proofs.Opening.{opening-long}
 use Rattle.shfl_laws.specs.Moves.{MayOpen, StartsLawful, first_seated, terms, told_terms}
-use Rattle.shfl_laws.proofs.Leasts.{each-long}
-use Rattle.shfl_laws.proofs.Opens.{first-seat-law}
-use Rattle.shfl_laws.proofs.TermsTold.{terms-law}
+use Rattle.shfl_laws.proofs.words.Leasts.{each-long}
+use Rattle.shfl_laws.proofs.laws.Opens.{first-seat-law}
+use Rattle.shfl_laws.proofs.words.TermsTold.{terms-law}
 use Rattle.shfl_table.specs.declared.kept.Action.{Action}
 use Rattle.shfl_table.specs.Places.{Every}
 use Rattle.shfl_table.specs.Histories.{IsCurrent}

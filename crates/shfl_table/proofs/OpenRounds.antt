@@ -13,7 +13,7 @@ use Rattle.shfl_core.specs.Plan.{round_batch, is_resting}
 use Rattle.shfl_core.specs.Take.{take, take_at, take_by, stops, next_found, after_found, to, done}
 use Rattle.shfl_core.specs.Waiting.{ask, ask_at}
 use Rattle.shfl_core.specs.declared.phase.Ask.TheVariants.{Nothing, Skip}
-use Rattle.shfl_laws.proofs.MoveLaws.{resting-is}
+use Rattle.shfl_laws.proofs.laws.MoveLaws.{resting-is}
 use Rattle.shfl_table.specs.Waits.{IsOpenInRounds, is_last_of_round, opens_round}
 
 pick : (b : Bool) (x y : PassState) → is_round x.phase ≡ true → is_round y.phase ≡ true → is_round (cond b x y).phase ≡ true

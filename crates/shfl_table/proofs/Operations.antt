@@ -18,10 +18,10 @@ use Rattle.shfl_core.specs.Phases.{is_holding}
 use Rattle.shfl_core.specs.Lawful.{Terms, Lawful, Formed, InRange}
 use Rattle.shfl_core.proofs.Blind.{store-blind, told-found}
 use Rattle.shfl_laws.specs.Seen.{SeenAs}
-use Rattle.shfl_laws.proofs.InRange.{in-range-law}
+use Rattle.shfl_laws.proofs.laws.InRange.{in-range-law}
 use Rattle.shfl_table.specs.Perform.{Permits}
 use Rattle.shfl_table.proofs.Places.{there, take_all, give_all, AtHome, taken, taken_else, taken_length, may_take, may_give, given_all, given_else, given_length, given_here, collected, each_home}
-use Rattle.shfl_laws.proofs.OwnSteps.{own-step}
+use Rattle.shfl_laws.proofs.laws.OwnSteps.{own-step}
 use Rattle.shfl_laws.specs.Holds.{hold_of, is_releasing}
 use Rattle.shfl_table.specs.Places.{Every, numbered}
 use Rattle.shfl_table.specs.Histories.{Continues, HasSeen, IsCurrent, common_history}
@@ -31,7 +31,7 @@ use Rattle.shfl_table.specs.declared.view.View.{View}
 use Rattle.shfl_table.specs.Views.{number, passes_from, step_decisions, view_after}
 use Rattle.shfl_table.specs.BoardRule.{BoardRule, IsHome, world_of}
 use Rattle.shfl_table.specs.ValueMoves.{GainsHold, MayFree, MovesValues, access_play, step_play}
-use Rattle.shfl_laws.proofs.Holds.{take-mode, hold-seen, frees-only}
+use Rattle.shfl_laws.proofs.laws.Holds.{take-mode, hold-seen, frees-only}
 use Rattle.shfl_table.proofs.SeatViews.{pass-there, same_carried, none-some}
 use Rattle.shfl_table.proofs.Values.{all-home, freed-ruled, own-home, read-ruled, stays-ruled, unread-ruled, write-ruled}
 use Rattle.std.proofs.lemmas.List.{length-map}

@@ -25,8 +25,8 @@ use Rattle.shfl_core.specs.Lawful.{Terms, count}
 use Rattle.shfl_laws.specs.Seen.{SeenAs, Alike, Enters, Leaves}
 use Rattle.std.proofs.lemmas.List.{length-map}
 use Rattle.shfl_core.proofs.Blind.{formed-names}
-use Rattle.shfl_laws.proofs.Holds.{take-mode, hold-seen, frees-only}
-use Rattle.shfl_laws.proofs.Waits.{none-leads-to-release}
+use Rattle.shfl_laws.proofs.laws.Holds.{take-mode, hold-seen, frees-only}
+use Rattle.shfl_laws.proofs.laws.Waits.{none-leads-to-release}
 use Rattle.shfl_table.proofs.Places.{values_numbered}
 use Rattle.shfl_table.specs.PassModel.{GrowsUnder, PassModel}
 use Rattle.shfl_table.specs.PassInvariant.{Carries, IsGoodUnder, PassInvariant}

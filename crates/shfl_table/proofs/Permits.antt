@@ -9,7 +9,7 @@ use Rattle.shfl_core.specs.Phases.{is_holding}
 use Rattle.shfl_core.specs.Words.{told, index, site}
 use Rattle.shfl_core.specs.Take.{attempted}
 use Rattle.shfl_core.specs.Waiting.{MayUse}
-use Rattle.shfl_laws.proofs.AttemptRows.{attempt-law}
+use Rattle.shfl_laws.proofs.laws.AttemptRows.{attempt-law}
 use Rattle.shfl_core.specs.declared.phase.Rules.{Rules}
 use Rattle.shfl_core.specs.declared.phase.PassState.{PassState}
 use Rattle.shfl_core.specs.declared.words.Access.{Access}

@@ -16,9 +16,9 @@ use Rattle.shfl_core.specs.Plan.{plan, attempt_plan, is_idle, is_held, moving}
 use Rattle.shfl_core.specs.Take.{attempted, take}
 use Rattle.shfl_core.specs.Lawful.{Terms, count}
 use Rattle.shfl_laws.specs.Seen.{Alike}
-use Rattle.shfl_laws.proofs.MoveLaws.{idle-is}
-use Rattle.shfl_laws.proofs.SeenAs.{idle-alike}
-use Rattle.shfl_laws.proofs.Waits.{none-leads-to-release}
+use Rattle.shfl_laws.proofs.laws.MoveLaws.{idle-is}
+use Rattle.shfl_laws.proofs.laws.SeenAs.{idle-alike}
+use Rattle.shfl_laws.proofs.laws.Waits.{none-leads-to-release}
 use Rattle.shfl_table.specs.declared.kept.Action.{Action}
 use Rattle.shfl_table.specs.declared.view.View.{View}
 use Rattle.shfl_laws.specs.Holds.{hold_of, is_releasing}

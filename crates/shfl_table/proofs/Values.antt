@@ -19,7 +19,7 @@ use Rattle.shfl_table.specs.declared.kept.Action.{Action}
 use Rattle.shfl_table.specs.declared.view.View.{View}
 use Rattle.shfl_table.specs.Views.{passes_from, view_after}
 use Rattle.shfl_table.specs.BoardRule.{AreHome, BoardRule, Homes, IsHome, SeatFacts, world_of}
-use Rattle.shfl_laws.proofs.Holds.{alone}
+use Rattle.shfl_laws.proofs.laws.Holds.{alone}
 use Rattle.shfl_table.proofs.Histories.{knew_itself, knew_more}
 use Rattle.shfl_table.proofs.SeatViews.{passes-set, live-pass, pass-there, seated_after, none-some, write-read, hold-here, hold-was, hold-else, hold-same}
 

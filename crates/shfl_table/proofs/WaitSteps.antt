@@ -14,7 +14,7 @@ use Rattle.shfl_core.specs.declared.phase.Ask.TheVariants.{Nothing, Skip, Should
 use Rattle.shfl_core.specs.Phases.{is_holding}
 use Rattle.shfl_core.specs.Plan.{is_idle, is_resting, moving}
 use Rattle.shfl_core.specs.Take.{take, acquired, released, entry, exit}
-use Rattle.shfl_laws.proofs.MoveLaws.{resting-is}
+use Rattle.shfl_laws.proofs.laws.MoveLaws.{resting-is}
 use Rattle.shfl_table.specs.declared.kept.Action.{Action}
 use Rattle.shfl_table.specs.declared.view.Decision.{Decision}
 use Rattle.shfl_laws.specs.Holds.{hold_of, is_ending, is_releasing}
@@ -24,8 +24,8 @@ use Rattle.shfl_table.specs.Views.{decision_on, step_decisions}
 use Rattle.std.proofs.lemmas.List.{length-map}
 use Rattle.shfl_table.specs.PassModel.{AreIn, BoardId, PassModel}
 use Rattle.shfl_table.specs.PassSteps.{SeesValues, TakesStep}
-use Rattle.shfl_laws.proofs.Holds.{take-mode, frees-only}
-use Rattle.shfl_laws.proofs.Waits.{waits-on}
+use Rattle.shfl_laws.proofs.laws.Holds.{take-mode, frees-only}
+use Rattle.shfl_laws.proofs.laws.Waits.{waits-on}
 use Rattle.shfl_table.specs.Waits.{AsksAll, Tells, TriedInVain, WaitsFor, answer_of, answers_of, as_idle}
 
 -- one ask has one answer

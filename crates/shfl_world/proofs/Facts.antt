@@ -18,16 +18,16 @@ use Rattle.shfl_core.specs.Lawful.{count}
 use Rattle.shfl_core.specs.Runner.{Lock}
 use Rattle.shfl_laws.specs.Headline.{Headline}
 use Rattle.shfl_laws.specs.Shows.{ShowsPlainly}
-use Rattle.shfl_laws.proofs.Leasts.{each-long}
-use Rattle.shfl_laws.proofs.Headline.{headline}
-use Rattle.shfl_laws.proofs.Laws.{laws}
-use Rattle.shfl_laws.proofs.MeasureRounds.{rounds-short}
-use Rattle.shfl_laws.proofs.Leave.{link-room}
-use Rattle.shfl_laws.proofs.NextRows.{queued-below}
-use Rattle.shfl_laws.proofs.Order
-use Rattle.shfl_laws.proofs.Plain.{plain-law}
-use Rattle.shfl_laws.proofs.ShownLine.{shown-line-law}
-use Rattle.shfl_laws.proofs.WellFormed.{agrees-well-formed}
+use Rattle.shfl_laws.proofs.words.Leasts.{each-long}
+use Rattle.shfl_laws.proofs.plain.Headline.{headline}
+use Rattle.shfl_laws.proofs.laws.Laws.{laws}
+use Rattle.shfl_laws.proofs.rounds.MeasureRounds.{rounds-short}
+use Rattle.shfl_laws.proofs.rows.Leave.{link-room}
+use Rattle.shfl_laws.proofs.laws.NextRows.{queued-below}
+use Rattle.shfl_laws.proofs.rows.Order
+use Rattle.shfl_laws.proofs.plain.Plain.{plain-law}
+use Rattle.shfl_laws.proofs.shown.ShownLine.{shown-line-law}
+use Rattle.shfl_laws.proofs.shown.WellFormed.{agrees-well-formed}
 use Rattle.shfl_world.specs.LawfulLock.{terms_of, IsLawfulLock, RoundsAreShort}
 
 module _ (lock : Lock) (ok : IsLawfulLock lock) where

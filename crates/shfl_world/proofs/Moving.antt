@@ -13,11 +13,11 @@ use Rattle.shfl_core.specs.ShownLine.{each_below, shown_line}
 use Rattle.shfl_core.specs.Lawful.{Terms, count, Lawful, Advances}
 use Rattle.shfl_core.specs.Runner.{Lock, opened, moved}
 use Rattle.shfl_laws.specs.Moves.{MayMove, MayOpen, OpensLawful, terms}
-use Rattle.shfl_laws.proofs.Laws.{laws}
-use Rattle.shfl_laws.proofs.MoveLaws.{move-law, moved-long}
-use Rattle.shfl_laws.proofs.Opens.{opening-law}
-use Rattle.shfl_laws.proofs.ShownLine.{shown-line-law}
-use Rattle.shfl_laws.proofs.TermsTold.{each-told}
+use Rattle.shfl_laws.proofs.laws.Laws.{laws}
+use Rattle.shfl_laws.proofs.laws.MoveLaws.{move-law, moved-long}
+use Rattle.shfl_laws.proofs.laws.Opens.{opening-law}
+use Rattle.shfl_laws.proofs.shown.ShownLine.{shown-line-law}
+use Rattle.shfl_laws.proofs.words.TermsTold.{each-told}
 use Rattle.shfl_world.specs.LawfulLock.{terms_of, IsLawfulLock, line_event, MovesLawfully}
 use Rattle.shfl_world.proofs.Facts.{full, shown-is}
 

@@ -11,9 +11,9 @@ use Rattle.shfl_core.specs.Phases.{is_queued, is_fore, is_round, is_linking, has
 use Rattle.shfl_core.specs.Worlds.{World, known}
 use Rattle.shfl_core.specs.ShownLine.{least, holders, is_ready}
 use Rattle.shfl_core.proofs.Lists.{below-or}
-use Rattle.shfl_laws.proofs.HoldersBelow.{told}
-use Rattle.shfl_laws.proofs.Leasts.{least-some}
-use Rattle.shfl_laws.proofs.Losing.{holds-split}
+use Rattle.shfl_laws.proofs.shown.HoldersBelow.{told}
+use Rattle.shfl_laws.proofs.words.Leasts.{least-some}
+use Rattle.shfl_laws.proofs.rows.Losing.{holds-split}
 use Rattle.shfl_world.specs.declared.glance.Glance.{Glance}
 use Rattle.shfl_world.specs.Showing.{Finds, Sees, first_found}
 

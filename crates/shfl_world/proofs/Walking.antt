@@ -16,7 +16,7 @@ use Rattle.shfl_core.specs.Worlds.{World}
 use Rattle.shfl_core.specs.ShownLine.{walk, head_of, successor_of, shown_line}
 use Rattle.shfl_core.specs.Runner.{Lock}
 use Rattle.shfl_core.proofs.Lists.{below-or}
-use Rattle.shfl_laws.proofs.ShownOne.{numbers-one}
+use Rattle.shfl_laws.proofs.shown.ShownOne.{numbers-one}
 use Rattle.shfl_world.specs.LawfulLock.{IsLawfulLock}
 use Rattle.shfl_world.proofs.Facts.{of-passes, marked, unmarked}
 

@@ -6,8 +6,8 @@ use Rattle.shfl_core.specs.Lawful.{Lawful}
 use Rattle.shfl_core.specs.Plan as core
 use Rattle.shfl_core.specs.Worlds.{World, Move, opening}
 use Rattle.shfl_laws.specs.Moves.{EachMayMove, terms}
-use Rattle.shfl_laws.proofs.Laws.{laws}
-use Rattle.shfl_laws.proofs.MoveLaws.{run-law}
+use Rattle.shfl_laws.proofs.laws.Laws.{laws}
+use Rattle.shfl_laws.proofs.laws.MoveLaws.{run-law}
 use Rattle.sim_model.specs.declared.bench.Bench.{Bench}
 use Rattle.sim_model.specs.declared.setup.Setup.{Setup}
 use Rattle.sim_model.specs.declared.turns.Entry.{Entry}

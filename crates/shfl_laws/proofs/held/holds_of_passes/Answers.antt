@@ -1,5 +1,5 @@
-use Rattle.shfl_laws.proofs.Holds.{alone, hold-seen, take-mode, frees-only}
-use Rattle.shfl_laws.proofs.Waits.{none-leads-to-release}
+use Rattle.shfl_laws.proofs.laws.Holds.{alone, hold-seen, take-mode, frees-only}
+use Rattle.shfl_laws.proofs.laws.Waits.{none-leads-to-release}
 use Rattle.shfl_laws.proofs.held.holds_of_passes.Goals as goal
 
 pub returns-clause-alone : goal.returns-clause-alone

@@ -1,4 +1,4 @@
-use Rattle.shfl_laws.proofs.Waits.{waits-on}
+use Rattle.shfl_laws.proofs.laws.Waits.{waits-on}
 use Rattle.shfl_laws.proofs.held.waiters_wait_on.Goals as goal
 
 pub returns : goal.returns

@@ -1,4 +1,4 @@
-use Rattle.shfl_laws.proofs.MeasureShown.{rounds-go-on}
+use Rattle.shfl_laws.proofs.rounds.MeasureShown.{rounds-go-on}
 use Rattle.shfl_laws.proofs.measure.what_is_left_by_the_shown_line.Goals as goal
 
 pub returns : goal.returns

@@ -1,5 +1,5 @@
-use Rattle.shfl_laws.proofs.MeasureAttempts.{others-attempt-keeps}
-use Rattle.shfl_laws.proofs.MeasureRounds.{own-lowers, others-keep, begins-bounded}
+use Rattle.shfl_laws.proofs.rounds.MeasureAttempts.{others-attempt-keeps}
+use Rattle.shfl_laws.proofs.rounds.MeasureRounds.{own-lowers, others-keep, begins-bounded}
 use Rattle.shfl_laws.proofs.measure.what_is_left_of_a_round.Goals as goal
 
 pub returns : goal.returns

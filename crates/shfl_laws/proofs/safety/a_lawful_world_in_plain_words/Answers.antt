@@ -1,9 +1,9 @@
 use Rattle.shfl_core.specs.View.{view}
-use Rattle.shfl_laws.proofs.Facts.{facts}
-use Rattle.shfl_laws.proofs.Headline.{headline}
-use Rattle.shfl_laws.proofs.ShownLine.{shown-line-law}
-use Rattle.shfl_laws.proofs.ShownOne.{shows-one}
-use Rattle.shfl_laws.proofs.WellFormed.{agrees-well-formed}
+use Rattle.shfl_laws.proofs.plain.Facts.{facts}
+use Rattle.shfl_laws.proofs.plain.Headline.{headline}
+use Rattle.shfl_laws.proofs.shown.ShownLine.{shown-line-law}
+use Rattle.shfl_laws.proofs.shown.ShownOne.{shows-one}
+use Rattle.shfl_laws.proofs.shown.WellFormed.{agrees-well-formed}
 use Rattle.shfl_laws.proofs.safety.a_lawful_world_in_plain_words.Goals as goal
 
 pub returns-clause-headline : goal.returns-clause-headline

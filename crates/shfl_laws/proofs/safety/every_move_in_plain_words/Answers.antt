@@ -1,4 +1,4 @@
-use Rattle.shfl_laws.proofs.PlainMoves.{plain-one, plain-opening, plain-starts, plain-moves, plain-attempts, plain-seats, plain-runs}
+use Rattle.shfl_laws.proofs.plain.PlainMoves.{plain-one, plain-opening, plain-starts, plain-moves, plain-attempts, plain-seats, plain-runs}
 use Rattle.shfl_laws.proofs.safety.every_move_in_plain_words.Goals as goal
 
 pub returns : goal.returns

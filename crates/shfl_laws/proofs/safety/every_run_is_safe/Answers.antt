@@ -2,10 +2,10 @@ use Rattle.shfl_core.specs.View.{view}
 use Rattle.shfl_core.specs.Worlds.{opening, run}
 use Rattle.shfl_core.specs.Lawful.{Lawful}
 use Rattle.shfl_laws.specs.Moves.{terms}
-use Rattle.shfl_laws.proofs.Headline.{headline}
-use Rattle.shfl_laws.proofs.Laws.{laws}
-use Rattle.shfl_laws.proofs.MoveLaws.{run-law}
-use Rattle.shfl_laws.proofs.WellFormed.{agrees-well-formed}
+use Rattle.shfl_laws.proofs.plain.Headline.{headline}
+use Rattle.shfl_laws.proofs.laws.Laws.{laws}
+use Rattle.shfl_laws.proofs.laws.MoveLaws.{run-law}
+use Rattle.shfl_laws.proofs.shown.WellFormed.{agrees-well-formed}
 use Rattle.shfl_laws.proofs.safety.every_run_is_safe.Goals as goal
 
 pub returns : goal.returns

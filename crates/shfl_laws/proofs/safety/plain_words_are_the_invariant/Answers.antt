@@ -1,4 +1,4 @@
-use Rattle.shfl_laws.proofs.Plain.{plain-law, lawful-law}
+use Rattle.shfl_laws.proofs.plain.Plain.{plain-law, lawful-law}
 use Rattle.shfl_laws.proofs.safety.plain_words_are_the_invariant.Goals as goal
 
 pub returns-clause-plain : goal.returns-clause-plain

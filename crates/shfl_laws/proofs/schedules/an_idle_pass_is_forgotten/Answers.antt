@@ -1,4 +1,4 @@
-use Rattle.shfl_laws.proofs.MoveRows.{forget-law}
+use Rattle.shfl_laws.proofs.laws.MoveRows.{forget-law}
 use Rattle.shfl_laws.proofs.schedules.an_idle_pass_is_forgotten.Goals as goal
 
 pub returns : goal.returns

@@ -1,5 +1,5 @@
-use Rattle.shfl_laws.proofs.Laws.{laws}
-use Rattle.shfl_laws.proofs.MoveLaws.{move-law}
+use Rattle.shfl_laws.proofs.laws.Laws.{laws}
+use Rattle.shfl_laws.proofs.laws.MoveLaws.{move-law}
 use Rattle.shfl_laws.proofs.schedules.every_move.Goals as goal
 
 pub returns : goal.returns

@@ -1,4 +1,4 @@
-use Rattle.shfl_laws.proofs.OwnSteps.{step-law}
+use Rattle.shfl_laws.proofs.laws.OwnSteps.{step-law}
 use Rattle.shfl_laws.proofs.schedules.every_step.Goals as goal
 
 pub returns : goal.returns

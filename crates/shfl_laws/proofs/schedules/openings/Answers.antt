@@ -1,4 +1,4 @@
-use Rattle.shfl_laws.proofs.Opens.{opening-law}
+use Rattle.shfl_laws.proofs.laws.Opens.{opening-law}
 use Rattle.shfl_laws.proofs.schedules.openings.Goals as goal
 
 pub returns : goal.returns

@@ -1,5 +1,5 @@
-use Rattle.shfl_laws.proofs.Opens.{start-law, first-seat-law}
-use Rattle.shfl_laws.proofs.TermsTold.{terms-law}
+use Rattle.shfl_laws.proofs.laws.Opens.{start-law, first-seat-law}
+use Rattle.shfl_laws.proofs.words.TermsTold.{terms-law}
 use Rattle.shfl_laws.proofs.schedules.starts.Goals as goal
 
 pub returns-clause-unseated : goal.returns-clause-unseated

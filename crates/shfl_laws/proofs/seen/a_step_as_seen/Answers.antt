@@ -1,4 +1,4 @@
-use Rattle.shfl_laws.proofs.OwnSteps.{own-step-law, own-range}
+use Rattle.shfl_laws.proofs.laws.OwnSteps.{own-step-law, own-range}
 use Rattle.shfl_laws.proofs.seen.a_step_as_seen.Goals as goal
 
 pub returns-clause-step : goal.returns-clause-step

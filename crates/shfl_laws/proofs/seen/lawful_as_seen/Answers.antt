@@ -1,4 +1,4 @@
-use Rattle.shfl_laws.proofs.SeenAlike.{seen-alike}
+use Rattle.shfl_laws.proofs.laws.SeenAlike.{seen-alike}
 use Rattle.shfl_laws.proofs.seen.lawful_as_seen.Goals as goal
 
 pub returns : goal.returns

@@ -1,4 +1,4 @@
-use Rattle.shfl_laws.proofs.SeenAs.{seen-law, moves-unseen, idle-alike}
+use Rattle.shfl_laws.proofs.laws.SeenAs.{seen-law, moves-unseen, idle-alike}
 use Rattle.shfl_laws.proofs.seen.passes_as_seen.Goals as goal
 
 pub returns-clause-lawful : goal.returns-clause-lawful

@@ -1,5 +1,5 @@
 use Rattle.shfl_core.proofs.Blind.{store-blind, formed-names}
-use Rattle.shfl_laws.proofs.InRange.{in-range-law, told-law, told-names, bells-in-range}
+use Rattle.shfl_laws.proofs.laws.InRange.{in-range-law, told-law, told-names, bells-in-range}
 use Rattle.shfl_laws.proofs.seen.planned_words.Goals as goal
 
 pub returns-clause-in_range : goal.returns-clause-in_range

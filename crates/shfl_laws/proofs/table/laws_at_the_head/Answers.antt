@@ -1,4 +1,4 @@
-use Rattle.shfl_laws.proofs.HeadLaws.{peek-law, grab-law, write-grab-law, head-count-law, head-look-law}
+use Rattle.shfl_laws.proofs.laws.HeadLaws.{peek-law, grab-law, write-grab-law, head-count-law, head-look-law}
 use Rattle.shfl_laws.proofs.table.laws_at_the_head.Goals as goal
 
 pub returns : goal.returns

@@ -1,6 +1,6 @@
 use Rattle.shfl_line.specs.declared.events.Mode.TheVariants.{Write, Read}
-use Rattle.shfl_laws.proofs.AttemptRows.{attempt-law}
-use Rattle.shfl_laws.proofs.OutsideRows.{try-uncount-law}
+use Rattle.shfl_laws.proofs.laws.AttemptRows.{attempt-law}
+use Rattle.shfl_laws.proofs.laws.OutsideRows.{try-uncount-law}
 use Rattle.shfl_laws.proofs.table.laws_of_attempts.Goals as goal
 
 pub returns : goal.returns

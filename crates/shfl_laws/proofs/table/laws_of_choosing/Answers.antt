@@ -1,5 +1,5 @@
-use Rattle.shfl_laws.proofs.RoundReads.{next-law, tail-law, attr-law, decide-law, after-law}
-use Rattle.shfl_laws.proofs.BeginLaw.{begin-law}
+use Rattle.shfl_laws.proofs.laws.RoundReads.{next-law, tail-law, attr-law, decide-law, after-law}
+use Rattle.shfl_laws.proofs.laws.BeginLaw.{begin-law}
 use Rattle.shfl_laws.proofs.table.laws_of_choosing.Goals as goal
 
 pub returns : goal.returns

@@ -1,8 +1,8 @@
-use Rattle.shfl_laws.proofs.InitRow.{init-law}
-use Rattle.shfl_laws.proofs.SwapRow.{swap-law}
-use Rattle.shfl_laws.proofs.NextRows.{link-law}
-use Rattle.shfl_laws.proofs.HeadLaws.{close-law}
-use Rattle.shfl_laws.proofs.LookRow.{look-law}
+use Rattle.shfl_laws.proofs.laws.InitRow.{init-law}
+use Rattle.shfl_laws.proofs.laws.SwapRow.{swap-law}
+use Rattle.shfl_laws.proofs.laws.NextRows.{link-law}
+use Rattle.shfl_laws.proofs.laws.HeadLaws.{close-law}
+use Rattle.shfl_laws.proofs.laws.LookRow.{look-law}
 use Rattle.shfl_laws.proofs.table.laws_of_joining.Goals as goal
 
 pub returns : goal.returns

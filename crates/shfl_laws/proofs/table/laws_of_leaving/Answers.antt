@@ -1,6 +1,6 @@
-use Rattle.shfl_laws.proofs.LeaveRows.{take-law, late-law}
-use Rattle.shfl_laws.proofs.CutRow.{cut-law}
-use Rattle.shfl_laws.proofs.ReadyLaw.{ready-law}
+use Rattle.shfl_laws.proofs.laws.LeaveRows.{take-law, late-law}
+use Rattle.shfl_laws.proofs.laws.CutRow.{cut-law}
+use Rattle.shfl_laws.proofs.laws.ReadyLaw.{ready-law}
 use Rattle.shfl_laws.proofs.table.laws_of_leaving.Goals as goal
 
 pub returns : goal.returns

@@ -1,5 +1,5 @@
-use Rattle.shfl_laws.proofs.NapRows.{doze-law, hear-law, rouse-law}
-use Rattle.shfl_laws.proofs.RingRow.{ring-law}
+use Rattle.shfl_laws.proofs.laws.NapRows.{doze-law, hear-law, rouse-law}
+use Rattle.shfl_laws.proofs.laws.RingRow.{ring-law}
 use Rattle.shfl_laws.proofs.table.laws_of_parking.Goals as goal
 
 pub returns : goal.returns

@@ -1,6 +1,6 @@
-use Rattle.shfl_laws.proofs.NextRows.{pick-law, aim-law, place-law}
-use Rattle.shfl_laws.proofs.MarkLaw.{mark-law}
-use Rattle.shfl_laws.proofs.GiveLaw.{give-law}
+use Rattle.shfl_laws.proofs.laws.NextRows.{pick-law, aim-law, place-law}
+use Rattle.shfl_laws.proofs.laws.MarkLaw.{mark-law}
+use Rattle.shfl_laws.proofs.laws.GiveLaw.{give-law}
 use Rattle.shfl_laws.proofs.table.laws_of_relinking.Goals as goal
 
 pub returns : goal.returns

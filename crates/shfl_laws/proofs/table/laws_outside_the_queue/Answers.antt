@@ -1,5 +1,5 @@
-use Rattle.shfl_laws.proofs.MoveRows.{idle-law, held-law}
-use Rattle.shfl_laws.proofs.OutsideRows.{open-law, steal-law, release-law, read-release-law, count-law, uncount-law}
+use Rattle.shfl_laws.proofs.laws.MoveRows.{idle-law, held-law}
+use Rattle.shfl_laws.proofs.laws.OutsideRows.{open-law, steal-law, release-law, read-release-law, count-law, uncount-law}
 use Rattle.shfl_laws.proofs.table.laws_outside_the_queue.Goals as goal
 
 pub returns : goal.returns

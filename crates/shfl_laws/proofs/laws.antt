@@ -1,0 +1,27 @@
+-- The law of each step and of each move, over words.
+pub mod InitRow
+pub mod SwapRow
+pub mod NextRows
+pub mod HeadLaws
+pub mod LookRow
+pub mod BeginLaw
+pub mod RoundReads
+pub mod MarkLaw
+pub mod GiveLaw
+pub mod LeaveRows
+pub mod CutRow
+pub mod ReadyLaw
+pub mod OutsideRows
+pub mod NapRows
+pub mod RingRow
+pub mod AttemptRows
+pub mod MoveRows
+pub mod Laws
+pub mod MoveLaws
+pub mod Opens
+pub mod InRange
+pub mod SeenAs
+pub mod OwnSteps
+pub mod Holds
+pub mod Waits
+pub mod SeenAlike

@@ -1,0 +1,26 @@
+-- What each step does to the order, the grouping and the hold, as the world is read.
+pub mod Rows
+pub mod Order
+pub mod Quiet
+pub mod Relink
+pub mod RoundApart
+pub mod Loads
+pub mod Join
+pub mod Heir
+pub mod Leave
+pub mod MarkRow
+pub mod Pick
+pub mod Place
+pub mod Holding
+pub mod Losing
+pub mod Counts
+pub mod HeadRows
+pub mod RoundLoads
+pub mod RoundLaws
+pub mod Remark
+pub mod BeginRow
+pub mod BeginGroup
+pub mod MarkOrder
+pub mod LeaveGroup
+pub mod ReadyRow
+pub mod GiveRow
