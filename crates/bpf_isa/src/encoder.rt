@@ -216,7 +216,8 @@ fn encode_all(alloc: Global, insns: &[Insn]) -> Result<Vec<u8>, NoMemory>
 pub fn encode(alloc: Global, insns: &[Insn]) -> Result<Vec<u8>, NoMemory>
     requires { IsWellFormed insns.now }
     ensures bytes { IfOk result (λ v. v.items ≡ encoding insns.now) }
-    ensures decodes { IfOk result (λ v. (p : Profile) → IsOf p insns.now → decoding p v.items ≡ Ok insns.now) }
+    ensures decodes { IfOk result (λ v. (p : Profile) → IsOf p insns.now
+        → decoding p v.items ≡ Ok insns.now) }
 {
     encode_all(alloc, insns)
 }

@@ -42,8 +42,8 @@ impl Model for Journal {
       limit = j.limit;
     } };
 
-    ghost invariant = { λ j. IsKept j.entries.items j.numbers.items j.newest.items j.next_number j.room j.limit
-        (vec_capacity j.entries) (vec_capacity j.numbers) };
+    ghost invariant = { λ j. IsKept j.entries.items j.numbers.items j.newest.items
+        j.next_number j.room j.limit (vec_capacity j.entries) (vec_capacity j.numbers) };
 }
 
 // The next number after a call that gives this number.

@@ -50,8 +50,8 @@ pub extern "C" fn shfl_open(
     requires limited { (0 < limit) × (limit ≤ 1024) }
     requires room { length passes.old ≡ length attrs.now }
     requires zero { tickets_of passes.old ≡ map (λ _. []) passes.old }
-    ensures opened { result ≡ true → HoldPasses (record { limit = limit; form = form_numbered form })
-        attrs.now passes.new }
+    ensures opened { result ≡ true → HoldPasses
+        (record { limit = limit; form = form_numbered form }) attrs.now passes.new }
     ensures no_memory { result ≡ false → passes.new ≡ passes.old }
 {
     match opened(alloc, attrs, form, limit) {

@@ -28,7 +28,11 @@ impl Model for Local {
 
     ghost Value = { Meaning };
 
-    ghost view = { λ l. record { attr = l.attr; rules = record { limit = l.limit; form = Spin }; pass = l.pass } };
+    ghost view = { λ l. record {
+      attr = l.attr;
+      rules = record { limit = l.limit; form = Spin };
+      pass = l.pass;
+    } };
 
     ghost use Rattle.std.specs.Prelude.{◌≡◌};
     ghost use Rattle.shfl_core.specs.declared.phase.Nap.TheVariants.{Awake};

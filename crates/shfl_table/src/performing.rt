@@ -19,7 +19,8 @@ pub fn perform<S, V, K, P: TableRule<S, V, K>, M: Play<S, V>>(
     requires permits { Permits (P.holds shared.now.key) shared.now.table_id.slots seat.old.id
         seat.old.me M.then access }
     ensures seat { (seat.new.table_id ≡ seat.old.table_id) × (seat.new.id ≡ seat.old.id) }
-    ensures play { M.then (step_of shared.now.table_id.slots access) seat.old.me result seat.new.me }
+    ensures play { M.then (step_of shared.now.table_id.slots access)
+        seat.old.me result seat.new.me }
 {
     match access {
         Access::Load { w } => shared.load::<M>(seat, index(w)),

@@ -49,7 +49,8 @@ fn show_holder(out: &mut LineState, pass: u32, own: PassState)
 fn scan<S: Sight>(lock: &S, out: &mut LineState) -> Glance
     requires lawful { IsLawfulLock (S.meaning lock.now) }
     requires blank { out.old ≡ empty (length (S.meaning lock.now).world.passes) }
-    ensures hold { out.new ≡ record out.old { hold = (shown_line (S.meaning lock.now).world).hold } }
+    ensures hold { out.new
+        ≡ record out.old { hold = (shown_line (S.meaning lock.now).world).hold } }
     ensures found { FindsAll (S.meaning lock.now) result }
 {
     let mut found = Glance::nobody();

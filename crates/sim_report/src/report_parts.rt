@@ -72,7 +72,8 @@ fn push_moved(out: &mut Vec<u8>, counts: &Counts) -> Result<(), AllocError>
 
 #[tactic(auto, unfolding(crate::specs::Reports::reaches_text))]
 fn push_reaches(out: &mut Vec<u8>, label: &[u8], reaches: &Reaches) -> Result<(), AllocError>
-    ensures { OnOk result (out.new.items ≡ out.old.items ++ texts.reaches_text label.now reaches.now) }
+    ensures { OnOk result (out.new.items
+        ≡ out.old.items ++ texts.reaches_text label.now reaches.now) }
 {
     out.extend_from_slice(label)?;
     push_figure(out, b" hits ", reaches.hits)?;

@@ -66,7 +66,8 @@ fn simple_words(text: &[u8]) -> Option<(&[u8], BuiltIn)>
 
 // The name and the two words of the programs.
 fn program_words(text: &[u8]) -> Option<(&[u8], &[u8], &[u8])>
-    ensures { option_map (λ w. (w.0.now, w.1.now, w.2.now)) result ≡ program_words_in (words text.now) }
+    ensures { option_map (λ w. (w.0.now, w.1.now, w.2.now)) result
+        ≡ program_words_in (words text.now) }
 {
     let (word, name, kind, should, skip) = five_words(text)?;
     if !is_same(word, b"policy") || !is_name(name) || !is_same(kind, b"program") {

@@ -72,5 +72,10 @@ impl Model for SimSetup {
 
     ghost Value = { SetupModel };
 
-    ghost view = { λ s. record { machine = s.machine; load = s.load; policies = s.policies.items; passes = s.passes.items } };
+    ghost view = { λ s. record {
+      machine = s.machine;
+      load = s.load;
+      policies = s.policies.items;
+      passes = s.passes.items;
+    } };
 }

@@ -32,7 +32,8 @@ pub fn number_next(left: Option<&[u8]>) -> Option<(u32, Option<&[u8]>)>
 /// The text behind a name, where more words are left.
 #[tactic(auto, unfolding(crate::specs::Words::name_next))]
 pub fn name_next<'a>(name: &[u8], text: &'a [u8]) -> Option<Option<&'a [u8]>>
-    ensures { option_map (λ x. words_left (left_said x)) result ≡ name_next name.now (words text.now) }
+    ensures { option_map (λ x. words_left (left_said x)) result
+        ≡ name_next name.now (words text.now) }
 {
     let (word, rest) = word_at(text);
     if is_same(word, name) {

@@ -75,7 +75,8 @@ impl Sink for MemSink {
     fn write(&mut self, bytes: &[u8]) -> Result<usize, Failed>
         ensures bound { WritesAtMost result bytes.now }
         ensures some { IfOk result (λ n. 0 < length bytes.now → 0 < n) }
-        ensures bytes { TookFront (Some self.old.bytes.items) (Some self.new.bytes.items) result bytes.now }
+        ensures bytes { TookFront (Some self.old.bytes.items) (Some self.new.bytes.items)
+            result bytes.now }
         ensures cause { HasCause self.old.faults self.new.faults result }
         // It fails exactly at the calls that were chosen and past its room, and else takes all it may.
         ensures fails { IsErr result ↔ (Contains self.old.fails.items (raised self.old.calls)
@@ -146,7 +147,8 @@ impl Sink for SureSink {
         ensures cause { HasCause 0 0 result }
         // It takes all, keeps what fits, and tells nothing from the first byte on that doesn't.
         ensures all { result ≡ Ok (length bytes.now) }
-        ensures kept { KeepsWhatFits self.old.bytes.items self.new.bytes.items self.old.room bytes.now }
+        ensures kept { KeepsWhatFits self.old.bytes.items self.new.bytes.items self.old.room
+            bytes.now }
         ensures lost { IsTrue self.new.lost ↔ (IsTrue self.old.lost
             ⊎ (self.old.room < vec_len self.old.bytes + length bytes.now)) }
         ensures room { self.new.room ≡ self.old.room }

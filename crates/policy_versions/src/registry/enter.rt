@@ -46,7 +46,8 @@ impl VersionPass {
         requires { IsClosed registry.now self.old }
         ensures same { (self.new.registry ≡ self.old.registry) × (self.new.user ≡ self.old.user) }
         ensures open { self.new.is_open ≡ true }
-        ensures current { LoadedLast self.old.seen self.new.seen (word_of result.version result.which) }
+        ensures current { LoadedLast self.old.seen self.new.seen
+            (word_of result.version result.which) }
         ensures version { IsVersion result.version }
         ensures newest { IsNewest self.old.seen result.version }
         ensures of_registry { result.registry ≡ registry.now }

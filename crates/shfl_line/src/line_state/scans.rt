@@ -49,7 +49,8 @@ pub fn is_free_for(mode: Mode, hold: &[(u32, Mode)]) -> bool
 // Where the pass goes in rising order.
 pub fn place_for(hold: &[(u32, Mode)], pass: u32) -> usize
     ensures within { result ≤ length hold.now }
-    ensures place { (mode : Mode) → insert hold.now result (pass, mode) ≡ add_holder pass mode hold.now }
+    ensures place { (mode : Mode)
+        → insert hold.now result (pass, mode) ≡ add_holder pass mode hold.now }
 {
     for (i, holder) in hold.iter().enumerate() {
         if pass < holder.0 {
