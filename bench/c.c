@@ -150,7 +150,7 @@ static void open_and_close(void) {
     for (int k = 0; k < 64; k++) shfl_close(&passes[k]);
 }
 
-/* The allocator keeps some freed blocks as if they were in use: those of one opening before. */
+/* With what the allocator takes for itself: 8 bytes a block, and its rounding. c.sh turns its caches off, whose blocks it counts as used. */
 static void memory(void) {
     static const uint64_t attrs[64];
     open_and_close();

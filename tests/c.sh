@@ -1,6 +1,7 @@
 #!/usr/bin/env bash
 # The C programs of examples/c: built over the static library, run exact in every form, and once under valgrind's memcheck where it is
-# there. An argument is how often each is run (1 if left out). Where there is no C compiler it says so, and passes.
+# there. A lock of 64 passes is measured, and must stay small. An argument is how often each is run (1 if left out). Where there is no C
+# compiler it says so, and passes.
 set -u
 top="$(cd "$(dirname "$(readlink -f "${BASH_SOURCE[0]}")")/.." && pwd)"
 times="${1:-1}"
@@ -17,6 +18,15 @@ for name in "${programs[@]}"; do
     "$cc" -std=gnu11 -O2 -Wall -Wextra -Werror -I "$top/include" "$top/examples/c/$name.c" "$top/include/shfl_heap.c" "$archive" \
         -o "$room/$name" -lpthread || exit 1
 done
+
+# how much memory a lock takes, over a heap that counts
+"$cc" -std=gnu11 -O2 -Wall -Wextra -Werror -I "$top/include" "$top/tests/room.c" "$archive" -o "$room/room" || exit 1
+if "$room/room" >"$room/got"; then
+    sed 's,^,tests/c.sh: ,' "$room/got"
+else
+    echo "tests/c.sh: a lock takes too much memory, or keeps some: $(cat "$room/got")" >&2
+    failed=1
+fi
 
 # without any patience the headers compile too
 "$cc" -std=gnu11 -O2 -Wall -Wextra -Werror -DSHFL_PAUSES=0 -DSHFL_YIELDS=0 -DSHFL_LOOKS=0 -DSHFL_STEPS_AWAKE=0 -I "$top/include" \

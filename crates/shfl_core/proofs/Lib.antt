@@ -1,3 +1,4 @@
+pub mod CacheLines
 pub mod Lists
 pub mod Bounded
 pub mod Blind

@@ -20,7 +20,7 @@ pub node-words-append : (xs : List Attr) (a : Attr) → node_words (xs ++ a ∷ 
 node-words-append [] a = refl
 node-words-append (x ∷ xs) a = ap (λ l. node (attr_word x) ++ l) (node-words-append xs a)
 
-pub node-words-long : (xs : List Attr) → length (node_words xs) ≡ 16 * length xs
+pub node-words-long : (xs : List Attr) → length (node_words xs) ≡ 10 * length xs
 node-words-long [] = refl
 node-words-long (x ∷ xs) = let e = node-words-long xs in omega arith
 
@@ -45,20 +45,20 @@ zeros-add zero n = let e : zero + n ≡ n = omega arith in ap zeros e
 zeros-add (suc m) n = let e : suc m + n ≡ suc (m + n) = omega arith in ap zeros e ∙ ap (λ l. 0 ∷ l) (zeros-add m n)
 
 -- behind the words of one pass those of the others stand as ever
-pub node-past : (x : Attr) (xs : List Attr) (q k : ℕ) → get_or (node_words (x ∷ xs)) (16 * suc q + k) 0 ≡ get_or (node_words xs) (16 * q + k) 0
-node-past x xs q k = let e : 16 * suc q + k ≡ 16 + (16 * q + k) = omega arith in ap (λ n. get_or (node_words (x ∷ xs)) n 0) e ∙ get_or-append-add (node (attr_word x)) (node_words xs) (16 * q + k) 0
+pub node-past : (x : Attr) (xs : List Attr) (q k : ℕ) → get_or (node_words (x ∷ xs)) (10 * suc q + k) 0 ≡ get_or (node_words xs) (10 * q + k) 0
+node-past x xs q k = let e : 10 * suc q + k ≡ 10 + (10 * q + k) = omega arith in ap (λ n. get_or (node_words (x ∷ xs)) n 0) e ∙ get_or-append-add (node (attr_word x)) (node_words xs) (10 * q + k) 0
 
 -- behind the lock word and the tail word stand the words of the passes
-pub opening-at : (xs : List Attr) (q k i : ℕ) → i ≡ 16 * q + 32 + k → get_or (opening_words xs) i 0 ≡ get_or (node_words xs) (16 * q + k) 0
-opening-at xs q k i is = let e : i ≡ 32 + (16 * q + k) = omega arith in ap (λ n. get_or (opening_words xs) n 0) e ∙ get_or-append-add (replicate 32 0) (node_words xs) (16 * q + k) 0
+pub opening-at : (xs : List Attr) (q k i : ℕ) → i ≡ 10 * q + 20 + k → get_or (opening_words xs) i 0 ≡ get_or (node_words xs) (10 * q + k) 0
+opening-at xs q k i is = let e : i ≡ 20 + (10 * q + k) = omega arith in ap (λ n. get_or (opening_words xs) n 0) e ∙ get_or-append-add (replicate 20 0) (node_words xs) (10 * q + k) 0
 
-node-next : (xs : List Attr) (q : ℕ) → get_or (node_words xs) (16 * q + 0) 0 ≡ 0
+node-next : (xs : List Attr) (q : ℕ) → get_or (node_words xs) (10 * q + 0) 0 ≡ 0
 node-next [] q = refl
 node-next (x ∷ xs) zero = refl
 node-next (x ∷ xs) (suc q) = node-past x xs q 0 ∙ node-next xs q
 
 pub opening-next : (xs : List Attr) (q : ℕ) → look (opening_words xs) (Next q) ≡ 0
-opening-next xs q = opening-at xs q 0 (16 * q + 32) (omega arith) ∙ node-next xs q
+opening-next xs q = opening-at xs q 0 (10 * q + 20) (omega arith) ∙ node-next xs q
 
 opening-links : (xs : List Attr) (count : ℕ) (v : Word) → LinkBelow count v (look (opening_words xs) v)
 opening-links xs count Tail = omega arith
@@ -101,29 +101,29 @@ one-more-made f rules waiters attrs i a w h here m e = let t : take (i + 1) attr
 
 -- the words of so many passes at the opening, and room for the rest
 abbrev pub opened_to : List Attr → ℕ → List ℕ
-opened_to attrs i = opening_words (take i attrs) ++ replicate (16 * (length attrs - i)) 0
+opened_to attrs i = opening_words (take i attrs) ++ replicate (10 * (length attrs - i)) 0
 
-pub opening-long : (xs : List Attr) → length (opening_words xs) ≡ 16 * length xs + 32
-opening-long xs = let n = length-append (replicate 32 0) (node_words xs) in let m = node-words-long xs in omega arith
+pub opening-long : (xs : List Attr) → length (opening_words xs) ≡ 10 * length xs + 20
+opening-long xs = let n = length-append (replicate 20 0) (node_words xs) in let m = node-words-long xs in omega arith
 
-pub opened-none : (attrs : List Attr) → replicate (16 * (length attrs + 2)) 0 ≡ opened_to attrs 0
-opened-none attrs = let e : 16 * (length attrs + 2) ≡ 32 + 16 * (length attrs - 0) = omega arith in ap zeros e ∙ zeros-add 32 (16 * (length attrs - 0))
+pub opened-none : (attrs : List Attr) → replicate (10 * (length attrs + 2)) 0 ≡ opened_to attrs 0
+opened-none attrs = let e : 10 * (length attrs + 2) ≡ 20 + 10 * (length attrs - 0) = omega arith in ap zeros e ∙ zeros-add 20 (10 * (length attrs - 0))
 
 pub opened-all : (attrs : List Attr) (i : ℕ) → length attrs ≤ i → opened_to attrs i ≡ opening_words attrs
-opened-all attrs i h = let e : 16 * (length attrs - i) ≡ 0 = omega arith in ap (λ n. opening_words (take i attrs) ++ zeros n) e
+opened-all attrs i h = let e : 10 * (length attrs - i) ≡ 0 = omega arith in ap (λ n. opening_words (take i attrs) ++ zeros n) e
     ∙ (append-nil (opening_words (take i attrs)) ∙ ap opening_words (take_all i attrs h))
 
 -- the attributes of one pass more
-pub one-more-word : (attrs : List Attr) (i : ℕ) (a : Attr) (words : List ℕ) → i < length attrs → a ≡ get_or attrs i a → words ≡ opened_to attrs i → set words (16 * i + 34) (attr_word a) ≡ opened_to attrs (i + 1)
-one-more-word attrs i a words h here e = let left : ℕ = 16 * (length attrs - (i + 1)) in let before : List ℕ = opening_words (take i attrs) in
-    let more : 16 * (length attrs - i) ≡ 16 + left = omega arith in let place : (16 * i + 34) - (16 * i + 32) ≡ 2 = omega arith in
-    let long : length before ≡ 16 * i + 32 = (let n = opening-long (take i attrs) in let m = length-take i attrs in omega arith) in
-    ap (λ l. set l (16 * i + 34) (attr_word a)) (e ∙ ap (λ z. before ++ z) (ap zeros more ∙ zeros-add 16 left))
-    ∙ (set-append_right before (zeros 16 ++ zeros left) (16 * i + 32) (16 * i + 34) (attr_word a) long (omega arith)
-    ∙ (ap (λ n. before ++ set (zeros 16 ++ zeros left) n (attr_word a)) place
+pub one-more-word : (attrs : List Attr) (i : ℕ) (a : Attr) (words : List ℕ) → i < length attrs → a ≡ get_or attrs i a → words ≡ opened_to attrs i → set words (10 * i + 22) (attr_word a) ≡ opened_to attrs (i + 1)
+one-more-word attrs i a words h here e = let left : ℕ = 10 * (length attrs - (i + 1)) in let before : List ℕ = opening_words (take i attrs) in
+    let more : 10 * (length attrs - i) ≡ 10 + left = omega arith in let place : (10 * i + 22) - (10 * i + 20) ≡ 2 = omega arith in
+    let long : length before ≡ 10 * i + 20 = (let n = opening-long (take i attrs) in let m = length-take i attrs in omega arith) in
+    ap (λ l. set l (10 * i + 22) (attr_word a)) (e ∙ ap (λ z. before ++ z) (ap zeros more ∙ zeros-add 10 left))
+    ∙ (set-append_right before (zeros 10 ++ zeros left) (10 * i + 20) (10 * i + 22) (attr_word a) long (omega arith)
+    ∙ (ap (λ n. before ++ set (zeros 10 ++ zeros left) n (attr_word a)) place
     ∙ (sym (append_assoc before (node (attr_word a)) (zeros left))
-    ∙ ap (λ l. l ++ zeros left) (append_assoc (replicate 32 0) (node_words (take i attrs)) (node (attr_word a))
-    ∙ (ap (λ l. replicate 32 0 ++ l) (sym (node-words-append (take i attrs) a)) ∙ ap opening_words (sym (take_more attrs i a h ∙ ap (λ z. take i attrs ++ z ∷ []) (sym here))))))))
+    ∙ ap (λ l. l ++ zeros left) (append_assoc (replicate 20 0) (node_words (take i attrs)) (node (attr_word a))
+    ∙ (ap (λ l. replicate 20 0 ++ l) (sym (node-words-append (take i attrs) a)) ∙ ap opening_words (sym (take_more attrs i a h ∙ ap (λ z. take i attrs ++ z ∷ []) (sym here))))))))
 
 module _ {W : Type 0} (f : W → Meaning) (rules : Rules) (attrs : List Attr) where
   first-rules : (waiters : List W) → 0 < length waiters → ((k : ℕ) (w : W) → get_elem? waiters k ≡ some w → (f w).rules ≡ rules) → common_rules f waiters ≡ rules

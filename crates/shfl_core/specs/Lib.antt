@@ -1,4 +1,5 @@
 pub mod Words
+pub mod CacheLines
 pub mod Plan
 pub mod Take
 pub mod Waiting

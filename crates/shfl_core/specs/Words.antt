@@ -9,18 +9,18 @@ use Rattle.shfl_core.specs.declared.words.Word.TheVariants.{Lock, Tail, Next, St
 use Rattle.shfl_core.specs.declared.words.Access.{Access}
 use Rattle.shfl_core.specs.declared.words.Access.TheVariants.{Load, Store, Swap, CompareSwap, Or, And, Xor, Add, Sub}
 
--- the place of a word: sixteen words for the lock word, sixteen for the tail word, and sixteen for the four words of each pass
+-- the place of a word: ten words for the lock word, ten for the tail word, and ten for the four words of each pass
 abbrev pub index : Word → ℕ
 index Lock = 0
-index Tail = 16
-index (Next p) = 16 * p + 32
-index (State p) = 16 * p + 33
-index (Attr p) = 16 * p + 34
-index (Bell p) = 16 * p + 35
+index Tail = 10
+index (Next p) = 10 * p + 20
+index (State p) = 10 * p + 21
+index (Attr p) = 10 * p + 22
+index (Bell p) = 10 * p + 23
 
 -- the number of words of a lock for so many passes
 abbrev pub wide : ℕ → ℕ
-wide count = 16 * count + 32
+wide count = 10 * count + 20
 
 -- what a word of the list says
 abbrev pub look : List ℕ → Word → ℕ

@@ -19,17 +19,17 @@ pub record World : Type 0 where
 abbrev pub known : List PassState → ℕ → PassState
 known passes p = slice_index_or passes p (idle p)
 
--- the sixteen words of a pass at the opening: its next, state, attribute and wakeup word, and twelve to spare
+-- the ten words of a pass at the opening: its next, state, attribute and wakeup word, and six to spare
 abbrev pub node : ℕ → List ℕ
-node attr = 0 ∷ 0 ∷ attr ∷ 0 ∷ replicate 12 0
+node attr = 0 ∷ 0 ∷ attr ∷ 0 ∷ replicate 6 0
 
 abbrev pub node_words : List Attr → List ℕ
 node_words [] = []
 node_words (a ∷ rest) = node (attr_word a) ++ node_words rest
 
--- the lock word and the tail word, each with fifteen to spare, and then the passes' words
+-- the lock word and the tail word, each with nine to spare, and then the passes' words
 abbrev pub opening_words : List Attr → List ℕ
-opening_words attrs = replicate 32 0 ++ node_words attrs
+opening_words attrs = replicate 20 0 ++ node_words attrs
 
 -- the passes from p on, idle
 abbrev pub idle_from : ℕ → List Attr → List PassState

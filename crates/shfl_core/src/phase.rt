@@ -40,17 +40,15 @@ pub enum Phase {
     ReadRelease,
 }
 
-/// What a pass remembers. Passes are named by their numbers, from 0.
+/// What a pass remembers. Passes are named by their numbers, from 0. The widest come first, so that few bytes lie unused between them.
 #[derive(Clone, Copy, Debug, PartialEq, Eq, Drop)]
 pub struct Registers {
+    /// The candidate's attribute word.
+    pub seen: u64,
+    /// The lock word that was found last, where the pass must compare with it or report it.
+    pub saw: u64,
     /// The pass's own number.
     pub me: u32,
-    /// How it takes the lock.
-    pub mode: Mode,
-    /// The batch number of its own state word, as it was read last.
-    pub batch: u16,
-    /// The shuffler flag of its own state word, as it was read last.
-    pub flag: bool,
     /// The pass that stood at the queue's end when this one joined.
     pub before: u32,
     /// The pass behind which a round looks for the next candidate.
@@ -61,18 +59,20 @@ pub struct Registers {
     pub first: u32,
     /// The candidate.
     pub cand: u32,
-    /// The candidate's attribute word.
-    pub seen: u64,
     /// The candidate's successor.
     pub after: u32,
-    /// The batch number of `last`.
-    pub count: u16,
-    /// The round began at the queue's head.
-    pub headed: bool,
     /// The pass that becomes the queue's head.
     pub heir: u32,
-    /// The lock word that was found last, where the pass must compare with it or report it.
-    pub saw: u64,
+    /// The batch number of its own state word, as it was read last.
+    pub batch: u16,
+    /// The batch number of `last`.
+    pub count: u16,
+    /// How it takes the lock.
+    pub mode: Mode,
+    /// The shuffler flag of its own state word, as it was read last.
+    pub flag: bool,
+    /// The round began at the queue's head.
+    pub headed: bool,
 }
 
 /// Whether a waiter is awake. While it is not, its steps are those of parking, and its phase stays.
@@ -93,9 +93,9 @@ pub enum Nap {
 /// Where a pass stands between two steps.
 #[derive(Clone, Copy, Debug, PartialEq, Eq, Drop)]
 pub struct PassState {
-    pub phase: Phase,
     pub reg: Registers,
     pub nap: Nap,
+    pub phase: Phase,
 }
 
 /// What a lock's opening fixes for every pass: the largest batch number, and the form.

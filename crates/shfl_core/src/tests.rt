@@ -62,12 +62,12 @@ fn an_attempt_takes_the_free_lock_or_keeps_the_word_that_it_found(rt: HostRuntim
 }
 
 #[test]
-fn the_words_of_a_lock_lie_sixteen_apart(rt: HostRuntime) -> Result<(), Fail> {
+fn the_words_of_a_lock_lie_ten_apart(rt: HostRuntime) -> Result<(), Fail> {
     let attr = Attr { socket: 7, ..PLAIN };
     let list = opening_words(rt.alloc(), &[PLAIN, attr])?;
-    assert_eq!(rt; list.len(), 64);
+    assert_eq!(rt; list.len(), 40);
     for (place, word) in list.iter().enumerate() {
-        let told = if place == 50 { 7 } else { 0 };
+        let told = if place == 32 { 7 } else { 0 };
         assert_eq!(rt; *word, told);
     }
     Ok(())

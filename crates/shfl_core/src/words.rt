@@ -9,9 +9,10 @@ ghost use Rattle.shfl_core.specs.Worlds as worlds;
 use shfl_line::{Attr as Attributes, NoMemory};
 use std::alloc::Global;
 
-/// The words from the lock word to the tail word, and from each pass to the next: two cache lines of 64 bytes, since a
-/// list may begin at any multiple of 16 bytes, and words one line apart would then still share one now and then.
-pub const LINE_WORDS: usize = 16;
+/// The words from the lock word to the tail word, and from each pass to the next: 80 bytes, five pieces of 16. A list begins at a
+/// multiple of 16 bytes, so a cache line of 64 has four pieces that follow each other. The words of a pass fill its first two, and
+/// three are to spare: no line reaches from them to the next pass's.
+pub const LINE_WORDS: usize = 10;
 
 /// One word of a lock; the number is the pass that it belongs to.
 #[derive(Clone, Copy, Debug, PartialEq, Eq, Drop)]

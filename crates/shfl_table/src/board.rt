@@ -12,7 +12,7 @@ pub struct SharedBoard<V: Kept + Drop> {
     pub(crate) table: Table<Option<V>, View, Opening<V>, LawfulBoard, Global>,
     // Room for the values at the end, so that the closing takes no memory.
     pub(crate) room: Vec<V>,
-    // One for each pass. No proof rests on them.
+    // One for each of the first passes, mostly for all. No proof rests on them.
     pub(crate) sleepers: Vec<Sleeper>,
 }
 

@@ -26,7 +26,7 @@ pub use book::Book;
 pub use book_visits::{ApplyCall, FollowCall, LookCall};
 pub use closing::Closing;
 pub use kept::{Action, Kept};
-pub use opening::open;
+pub use opening::{open, open_with_sleepers};
 pub use passes::Pass;
 pub use performing::perform;
 pub use view::{Decision, Given};

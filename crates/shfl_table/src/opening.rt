@@ -78,7 +78,7 @@ fn laid<V: Kept + Drop>(alloc: Global, values: Vec<V>) -> Result<Vec<Option<V>>,
     Ok(slots)
 }
 
-// A place to sleep for each pass.
+// So many places to sleep.
 fn sleepers_of(alloc: Global, count: u32) -> Result<Vec<Sleeper>, NoMemory> {
     let mut sleepers = Vec::with_capacity(alloc, count as usize)?;
     for _ in 0..count {
@@ -87,14 +87,15 @@ fn sleepers_of(alloc: Global, count: u32) -> Result<Vec<Sleeper>, NoMemory> {
     Ok(sleepers)
 }
 
-/// A board with an idle pass for each of these attributes, and with these values behind its lock: none, one, or one for each pass.
-/// `limit` bounds a batch, from 1 to 1,024.
-pub fn open<V: Kept + Drop>(
+/// The board that `open` makes, but only the passes below `sleepers` have places to sleep, of 128 bytes each. For another pass `sleep`
+/// returns at once, and `wake` does nothing. 0 is for callers whose threads wait in places of their own.
+pub fn open_with_sleepers<V: Kept + Drop>(
     alloc: Global,
     attrs: &[Attr],
     form: Form,
     limit: u16,
     values: Vec<V>,
+    sleepers: u32,
 ) -> Result<(SharedBoard<V>, Vec<Pass<V>>), NoMemory>
     requires some { 0 < length attrs.now }
     requires few { length attrs.now ≤ 64 }
@@ -120,7 +121,7 @@ pub fn open<V: Kept + Drop>(
         values: Snapshot::of(&values),
     };
     let room = Vec::with_capacity(alloc, values.len())?;
-    let sleepers = sleepers_of(alloc, count)?;
+    let sleepers = sleepers_of(alloc, sleepers)?;
     let slots = laid(alloc, values)?;
     let Ok((table, seat)) = Table::new(alloc, words.as_slice(), slots, &opening) else {
         return Err(NoMemory);
@@ -134,4 +135,30 @@ pub fn open<V: Kept + Drop>(
         },
         passes,
     ))
+}
+
+/// A board with an idle pass for each of these attributes, and with these values behind its lock: none, one, or one for each pass.
+/// `limit` bounds a batch, from 1 to 1,024.
+pub fn open<V: Kept + Drop>(
+    alloc: Global,
+    attrs: &[Attr],
+    form: Form,
+    limit: u16,
+    values: Vec<V>,
+) -> Result<(SharedBoard<V>, Vec<Pass<V>>), NoMemory>
+    requires some { 0 < length attrs.now }
+    requires few { length attrs.now ≤ 64 }
+    requires limited { (0 < limit) × (limit ≤ 1024) }
+    requires values { AreUntouched V.initial_state V.history values.items }
+    ensures board { IfOk result (λ r.
+        (r.0.id.rules ≡ record { limit = limit; form = form })
+        × (r.0.id.table.slots ≡ vec_len values)
+        × (r.0.count ≡ length attrs.now)
+        × (r.0.initial_state ≡ initial_state_of V.initial_state values.items)) }
+    ensures count { IfOk result (λ r. vec_len r.1 ≡ length attrs.now) }
+    ensures passes { IfOk result (λ r. (i : ℕ) → i < vec_len r.1 → slice_get r.1.items i
+        ≡ Some (fresh_pass (initial_state_of V.initial_state values.items) r.0.id i)) }
+    ensures own { IfOk result (λ r. All (IsIdleAt r.0.id) r.1.items) }
+{
+    open_with_sleepers(alloc, attrs, form, limit, values, attrs.len() as u32)
 }

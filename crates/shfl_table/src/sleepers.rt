@@ -81,7 +81,7 @@ impl Sleeper {
 impl<V: Kept + Drop> Pass<V> {
     /// Waits until another pass wakes this one, or not at all where one did so since the last sleep. It looks a while before it
     /// sleeps, and a sleeping thread uses no processor time. No word and no view changes, and nobody's step waits for it. It is made
-    /// for a pass that has parked and found its wakeup flag unset.
+    /// for a pass that has parked and found its wakeup flag unset. A pass without a place to sleep goes on at once.
     pub fn sleep<R: Wait>(&self, rt: &R, board: &SharedBoard<V>)
         requires board { self.now.board ≡ board.now.id }
     {
@@ -91,7 +91,7 @@ impl<V: Kept + Drop> Pass<V> {
     }
 
     /// Wakes the pass of this number from its sleep, or keeps it from the next one. No word and no view changes. It is made for a
-    /// pass that has set the other one's wakeup flag.
+    /// pass that has set the other one's wakeup flag. Where that one has no place to sleep it does nothing.
     pub fn wake<R: Wait>(&self, _rt: &R, board: &SharedBoard<V>, whom: u32)
         requires board { self.now.board ≡ board.now.id }
     {

@@ -1,11 +1,22 @@
-//! Tickets and policies in blocks of their own.
+//! Values in blocks of their own, with one owner or with several.
 ghost use Rattle.std.specs.Prelude.{◌≡◌, map, IfOk};
 
 use shfl_line::NoMemory;
 use std::alloc::Global;
+use std::sync::Arc;
 
-/// The value in a block of its own.
-pub fn boxed<T: Drop>(alloc: Global, value: T) -> Result<Box<T, Global>, NoMemory>
+/// The value in a block that several may own.
+pub fn shared<T: Drop>(alloc: Global, value: T) -> Result<Arc<T, Global>, NoMemory>
+    ensures { IfOk result (λ a. a.value ≡ value) }
+{
+    match Arc::new(alloc, value) {
+        Ok(shared) => Ok(shared),
+        Err(_) => Err(NoMemory),
+    }
+}
+
+// The value in a block of its own.
+fn boxed<T: Drop>(alloc: Global, value: T) -> Result<Box<T, Global>, NoMemory>
     ensures { IfOk result (λ b. b.value ≡ value) }
 {
     match Box::new(alloc, value) {

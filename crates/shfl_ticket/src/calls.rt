@@ -28,7 +28,7 @@ impl Ticket {
         ensures err { IfErr result (λ word.
             Refuses mode word × (self.new ≡ loses mode word self.old)) }
     {
-        self.pass.attempt(&self.board, mode)
+        self.pass.attempt(&self.share.board, mode)
     }
 
     /// Makes one step, which is one atomic operation on one word. `choice` answers what it asks. False, and nothing changes, where
@@ -39,7 +39,7 @@ impl Ticket {
         ensures still { result ≡ false → self.new ≡ self.old }
         ensures row { result ≡ true → TakesStep choice self.old self.new }
     {
-        self.pass.step(&self.board, choice)
+        self.pass.step(&self.share.board, choice)
     }
 
     /// Begins to free the lock: one step follows. False, and nothing changes, unless the pass holds the lock and owes no step.
@@ -58,7 +58,8 @@ impl Ticket {
         requires idle { plan.is_idle self.old.own.phase ≡ true }
         requires mode { MayUse self.old.board.rules.form mode }
         ensures step { TakesStep false (acquires mode self.old) self.new }
-        ensures holds { result ≡ (plan.is_held self.new.own.phase && not (plan.moving self.new.own)) }
+        ensures holds { result
+            ≡ (plan.is_held self.new.own.phase && not (plan.moving self.new.own)) }
     {
         let _ = self.acquire(mode);
         let _ = self.step(false);

@@ -1,12 +1,13 @@
 //! The opening of a lock, with a ticket for each of its passes.
-ghost use Rattle.std.specs.Prelude.{◌≡◌, ℕ, ◌<◌, ◌≤◌, length, map, vec_len, slice_get, slice_index, IfOk, Some, []};
+ghost use Rattle.std.specs.Prelude.{◌≡◌, ℕ, ◌<◌, ◌≤◌, length, map, vec_len, slice_get, slice_index, IfOk, None, Some, []};
 ghost use Rattle.shfl_line.specs.Words.{attr_of};
 ghost use Rattle.shfl_table.specs.PassModel.{fresh_pass};
 ghost use Rattle.shfl_ticket.specs.Tickets.{AreOpened, fresh_ticket};
 
-use crate::ticket::Ticket;
+use crate::boxes::shared;
+use crate::ticket::{Share, Ticket};
 use shfl_line::{Attr, Form, NoMemory};
-use shfl_table::{Pass, SharedBoard};
+use shfl_table::{Pass, open_with_sleepers};
 use std::alloc::Global;
 use std::sync::Arc;
 
@@ -21,58 +22,45 @@ fn attrs_of(alloc: Global, words: &[u64]) -> Result<Vec<Attr>, NoMemory>
     Ok(attrs)
 }
 
-fn shared(alloc: Global, board: SharedBoard<()>) -> Result<Arc<SharedBoard<()>, Global>, NoMemory>
-    ensures { IfOk result (λ a. a.value ≡ board) }
-{
-    match Arc::new(alloc, board) {
-        Ok(board) => Ok(board),
-        Err(_) => Err(NoMemory),
-    }
-}
-
 // The ticket of one pass.
-fn ticket(
-    board: &Arc<SharedBoard<()>, Global>,
-    words: &[u64],
-    k: usize,
-    pass: Pass<()>,
-) -> Result<Ticket, NoMemory>
-    requires place { k < length words.now }
-    requires no_values { board.now.value.id.table.slots ≡ 0 }
-    requires fresh { pass ≡ fresh_pass [] board.now.value.id k }
-    ensures { IfOk result (λ t.
-        t ≡ fresh_ticket board.now.value.id k (attr_of (slice_index words.now k))) }
+fn ticket(share: &Arc<Share, Global>, k: usize, pass: Pass<()>) -> Result<Ticket, NoMemory>
+    requires place { k < vec_len share.now.value.words.value }
+    requires no_values { share.now.value.board.value.id.table.slots ≡ 0 }
+    requires no_policy { share.now.value.policy ≡ None }
+    requires fresh { pass ≡ fresh_pass [] share.now.value.board.value.id k }
+    ensures { IfOk result (λ t. t ≡ fresh_ticket share.now.value.board.value.id k
+        (attr_of (slice_index share.now.value.words.value.items k))) }
 {
-    let share = Arc::try_clone(board)?;
-    Ok(Ticket::new(share, pass, Attr::unpack(words[k])))
+    Ok(Ticket::new(Arc::try_clone(share)?, pass))
 }
 
 // A ticket for each pass, in their order.
 fn deal(
     alloc: Global,
-    board: &Arc<SharedBoard<()>, Global>,
-    words: &[u64],
+    share: &Arc<Share, Global>,
     passes: Vec<Pass<()>>,
 ) -> Result<Vec<Ticket>, NoMemory>
-    requires count { vec_len passes ≡ length words.now }
-    requires no_values { board.now.value.id.table.slots ≡ 0 }
+    requires count { vec_len passes ≡ vec_len share.now.value.words.value }
+    requires no_values { share.now.value.board.value.id.table.slots ≡ 0 }
+    requires no_policy { share.now.value.policy ≡ None }
     requires fresh { (i : ℕ) → i < vec_len passes
-        → slice_get passes.items i ≡ Some (fresh_pass [] board.now.value.id i) }
-    ensures count { IfOk result (λ v. vec_len v ≡ length words.now) }
+        → slice_get passes.items i ≡ Some (fresh_pass [] share.now.value.board.value.id i) }
+    ensures count { IfOk result (λ v. vec_len v ≡ vec_len share.now.value.words.value) }
     ensures fresh { IfOk result (λ v. (i : ℕ) → i < vec_len v → slice_get v.items i
-        ≡ Some (fresh_ticket board.now.value.id i (attr_of (slice_index words.now i)))) }
+        ≡ Some (fresh_ticket share.now.value.board.value.id i
+        (attr_of (slice_index share.now.value.words.value.items i)))) }
 {
-    let mut tickets = Vec::with_capacity(alloc, words.len())?;
+    let mut tickets = Vec::with_capacity(alloc, passes.len())?;
     let mut k = 0;
     for pass in passes {
-        tickets.push_reserved(ticket(board, words, k, pass)?);
+        tickets.push_reserved(ticket(share, k, pass)?);
         k += 1;
     }
     Ok(tickets)
 }
 
 /// A lock with nothing behind it, and a ticket for each of its passes, in order. Each word has the attributes of a pass. `limit`
-/// bounds a batch.
+/// bounds a batch. A lock of 64 passes takes less than 12 KiB of memory: its callers sleep, where they do, in places of their own.
 pub fn open(alloc: Global, words: &[u64], form: Form, limit: u16) -> Result<Vec<Ticket>, NoMemory>
     requires some { 0 < length words.now }
     requires few { length words.now ≤ 64 }
@@ -81,7 +69,18 @@ pub fn open(alloc: Global, words: &[u64], form: Form, limit: u16) -> Result<Vec<
         AreOpened (record { limit = limit; form = form }) words.now v.items) }
 {
     let attrs = attrs_of(alloc, words)?;
-    let (board, passes) = shfl_table::open(alloc, attrs.as_slice(), form, limit, Vec::new(alloc))?;
-    let board = shared(alloc, board)?;
-    deal(alloc, &board, words, passes)
+    let (board, passes) = open_with_sleepers(
+        alloc,
+        attrs.as_slice(),
+        form,
+        limit,
+        Vec::new(alloc),
+        0,
+    )?;
+    let share = Share {
+        board: shared(alloc, board)?,
+        words: shared(alloc, Vec::from_slice(alloc, words)?)?,
+        policy: None,
+    };
+    deal(alloc, &shared(alloc, share)?, passes)
 }

@@ -6,14 +6,15 @@ ghost use Rattle.shfl_policy.specs.Loading.{IsLoaded, IsLoadError};
 ghost use Rattle.shfl_ticket.specs.Tickets.{answer_to};
 ghost use Rattle.shfl_ticket.specs.Attached.{Attaches, given, source_of};
 
-use crate::boxes::boxed;
-use crate::ticket::Ticket;
+use crate::boxes::shared;
+use crate::ticket::{Share, Ticket};
 use bpf_isa::Profile;
 use policy_source::PolicySource;
 use shfl_core::Ask;
 use shfl_line::{Attr, Chooser};
 use shfl_policy::{LoadError, Policy, load};
 use std::alloc::Global;
+use std::sync::Arc;
 
 // The bytes of a program; where there are none, there is no program.
 fn bytes_of(alloc: Global, bytes: &[u8]) -> Result<Option<Vec<u8>>, LoadError>
@@ -41,24 +42,36 @@ fn answer_of(policy: &Policy, anchor: &Attr, question: Ask) -> bool
     }
 }
 
-// The policy of these programs, in a block of its own.
-fn loaded(
-    alloc: Global,
-    profile: Profile,
-    should: &[u8],
-    skip: &[u8],
-) -> Result<Box<Policy, Global>, LoadError>
-    ensures loaded { IfOk result (λ p.
-        IsLoaded 0 profile (source_of should.now skip.now) p.value) }
+// The policy of these programs.
+fn loaded(alloc: Global, profile: Profile, should: &[u8], skip: &[u8]) -> Result<Policy, LoadError>
+    ensures loaded { IfOk result (IsLoaded 0 profile (source_of should.now skip.now)) }
     ensures bad { IfErr result (IsLoadError profile (source_of should.now skip.now)) }
 {
     let should = bytes_of(alloc, should)?;
     let skip = bytes_of(alloc, skip)?;
-    let policy = load(alloc, 0, profile, &PolicySource { should, skip })?;
-    match boxed(alloc, policy) {
-        Ok(policy) => Ok(policy),
-        Err(_) => Err(LoadError::NoMemory),
-    }
+    load(alloc, 0, profile, &PolicySource { should, skip })
+}
+
+// The same lock with this policy.
+fn with_policy(
+    alloc: Global,
+    share: &Share,
+    policy: Option<Policy>,
+) -> Result<Arc<Share, Global>, shfl_line::NoMemory>
+    ensures board { IfOk result (λ s. s.value.board.value ≡ share.now.board.value) }
+    ensures words { IfOk result (λ s. s.value.words.value ≡ share.now.words.value) }
+    ensures policy { IfOk result (λ s. s.value.policy ≡ policy) }
+{
+    let board = Arc::try_clone(&share.board)?;
+    let words = Arc::try_clone(&share.words)?;
+    shared(
+        alloc,
+        Share {
+            board,
+            words,
+            policy,
+        },
+    )
 }
 
 impl Ticket {
@@ -76,8 +89,14 @@ impl Ticket {
         ensures err { IfErr result (IsLoadError profile (source_of should.now skip.now)) }
         ensures unchanged { IfErr result (λ _. self.new ≡ self.old) }
     {
-        self.policy = Some(loaded(alloc, profile, should, skip)?);
-        Ok(())
+        let policy = loaded(alloc, profile, should, skip)?;
+        match with_policy(alloc, &self.share, Some(policy)) {
+            Ok(share) => {
+                self.share = share;
+                Ok(())
+            }
+            Err(_) => Err(LoadError::NoMemory),
+        }
     }
 
     /// What the attached policy answers to what the next step asks; no, where nothing is asked or no policy is attached.
@@ -85,9 +104,9 @@ impl Ticket {
         ensures { result ≡ answer_to self.now.policy self.now.attr
             (waiting.ask self.now.board.rules self.now.own) }
     {
-        match &self.policy {
+        match &self.share.policy {
             None => false,
-            Some(policy) => answer_of(policy, &self.attr, self.pass.ask()),
+            Some(policy) => answer_of(policy, &self.attr(), self.pass.ask()),
         }
     }
 }

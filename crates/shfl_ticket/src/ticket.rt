@@ -1,5 +1,6 @@
-//! A pass with its share of the board, its attributes and its policy.
-ghost use Rattle.std.specs.Prelude.{◌≡◌, None};
+//! A pass, and what it shares with the other passes of its lock.
+ghost use Rattle.std.specs.Prelude.{◌≡◌, ◌<◌, length, slice_index};
+ghost use Rattle.shfl_line.specs.Words.{attr_of};
 ghost use Rattle.shfl_core.specs.Plan as plan;
 ghost use Rattle.shfl_core.specs.Waiting as waiting;
 ghost use Rattle.shfl_ticket.specs.Tickets.{ticket_of};
@@ -12,39 +13,59 @@ use std::alloc::Global;
 use std::marker::Model;
 use std::sync::Arc;
 
+/// What tickets of one lock have in common. One that has a policy attached has a share of its own, over the same board.
+#[derive(Drop)]
+pub(crate) struct Share {
+    pub board: Arc<SharedBoard<()>, Global>,
+    // The attributes of each pass, as words.
+    pub words: Arc<Vec<u64>, Global>,
+    pub policy: Option<Policy>,
+}
+
 /// A caller's right to use a lock. The lock lives as long as one of its tickets.
 #[derive(Drop)]
 pub struct Ticket {
-    pub(crate) board: Arc<SharedBoard<()>, Global>,
+    pub(crate) share: Arc<Share, Global>,
     pub(crate) pass: Pass<()>,
-    pub(crate) attr: Attr,
-    pub(crate) policy: Option<Box<Policy, Global>>,
 }
 
+// A lock has up to 64 of them, each in a block of its own.
+const _: () = prove!(size_of::<Ticket>() <= 88);
+
 impl Model for Ticket {
-    ghost use Rattle.std.specs.Prelude.{◌≡◌, [], option_map};
+    ghost use Rattle.std.specs.Prelude.{◌≡◌, ◌<◌, length, slice_index};
+    ghost use Rattle.shfl_line.specs.Words.{attr_of};
     ghost use Rattle.shfl_ticket.specs.Tickets.{TicketModel, ticket_of};
 
     ghost Value = { TicketModel };
 
-    ghost view = { λ t. ticket_of t.pass t.attr (option_map (λ b. b.value) t.policy) };
+    ghost view = { λ t. ticket_of t.pass
+        (attr_of (slice_index t.share.value.words.value.items t.pass.own.reg.me))
+        t.share.value.policy };
 
-    ghost invariant = { λ t. (t.pass.board ≡ t.board.value.id) × (t.pass.board.table.slots ≡ 0) };
+    ghost invariant = { λ t. (t.pass.board ≡ t.share.value.board.value.id)
+        × (t.pass.board.table.slots ≡ 0)
+        × (t.pass.own.reg.me < length t.share.value.words.value.items) };
 }
 
 impl Ticket {
-    /// A pass of this board, with no policy.
-    pub(crate) fn new(board: Arc<SharedBoard<()>, Global>, pass: Pass<()>, attr: Attr) -> Ticket
-        requires board { pass.board ≡ board.value.id }
+    /// A pass of this board.
+    pub(crate) fn new(share: Arc<Share, Global>, pass: Pass<()>) -> Ticket
+        requires board { pass.board ≡ share.value.board.value.id }
         requires no_values { pass.board.table.slots ≡ 0 }
-        ensures { result ≡ ticket_of pass attr None }
+        requires place { pass.own.reg.me < length share.value.words.value.items }
+        ensures { result ≡ ticket_of pass
+            (attr_of (slice_index share.value.words.value.items pass.own.reg.me))
+            share.value.policy }
     {
-        Ticket {
-            board,
-            pass,
-            attr,
-            policy: None,
-        }
+        Ticket { share, pass }
+    }
+
+    /// The attributes of the pass.
+    pub(crate) fn attr(&self) -> Attr
+        ensures { result ≡ self.now.attr }
+    {
+        Attr::unpack(self.share.words.as_slice()[self.pass.number() as usize])
     }
 
     /// The pass's place among those of its lock, from 0 on.

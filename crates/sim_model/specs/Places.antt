@@ -21,7 +21,7 @@ close_place (Bell p) = 4 * p + 5
 
 -- a line for the lock word, one for the tail word, and one for the words of each pass
 abbrev pub apart_line : Word → ℕ
-apart_line word = index word / 16
+apart_line word = index word / 10
 
 -- the same, but that the tail word shares the lock word's
 abbrev pub joined_line : Word → ℕ

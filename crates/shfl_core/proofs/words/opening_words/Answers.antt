@@ -17,7 +17,7 @@ loop-attr-preserved c = let i = c.loop-attr.invariant in let h : c.loop-attr.att
     let a : Attr = get_or c.args.attrs.now c.loop-attr.attr-index none in
     let here : a ≡ get_or c.args.attrs.now c.loop-attr.attr-index a = get_or_default c.args.attrs.now c.loop-attr.attr-index none a h in record {
       number = ap (λ n. n + 1) i.number;
-      words = (λ j. set c.loop-attr.list.items ((c.index.ensures ∙ ap (λ n. 16 * n + 34) i.number) j) (c.pack.ensures.word j))
+      words = (λ j. set c.loop-attr.list.items ((c.index.ensures ∙ ap (λ n. 10 * n + 22) i.number) j) (c.pack.ensures.word j))
           ∙ one-more-word c.args.attrs.now c.loop-attr.attr-index a c.loop-attr.list.items h here i.words;
       long = i.long;
     }

@@ -6,5 +6,5 @@ abbrev pub invariant-loop-attr : goal.invariant-loop-attr
 invariant-loop-attr l = record {
   number : l.pass ≡ l.attr-index;
   words : l.list.items ≡ opened_to l.attrs l.attr-index;
-  long : vec_len l.list ≡ 16 * length l.attrs + 32;
+  long : vec_len l.list ≡ 10 * length l.attrs + 20;
 }

@@ -9,7 +9,7 @@ use Rattle.shfl_table.specs.Histories.{initial_state_of}
 use Rattle.shfl_table.specs.declared.view.Opening.{Opening}
 use Rattle.shfl_table.proofs.First.{opens-first, words-are, count-is}
 use Rattle.std.proofs.lemmas.List.{length-map}
-use Rattle.shfl_table.proofs.opening.open.Goals as goal
+use Rattle.shfl_table.proofs.opening.open_with_sleepers.Goals as goal
 
 pub new-requires : goal.new-requires
 new-requires g c = let r : Rules = record { limit = c.args.limit; form = c.args.form } in let may : MayOpen r c.args.attrs.now = record { limit = c.requires.limited; some = c.requires.some; few = c.requires.few } in let V : Type 0 = g.row.V.Denot in
