@@ -1,5 +1,5 @@
 -- Where a test of rows in order changes, found by the first rows of the blocks and then in one block.
-use Rattle.std.proofs.Common.{◌≡◌, ℕ, zero, suc, ◌+◌, ◌-◌, ◌<◌, ◌≤◌, Bool, true, false, List, [], ◌∷◌, ◌++◌, take, drop, length, get_or, sym, refl, ap, ◌∙◌, subst, inl, inr, arith}
+use Rattle.std.proofs.Common.{◌≡◌, ℕ, zero, suc, ◌+◌, ◌-◌, ◌/◌, ◌<◌, ◌≤◌, Bool, true, false, cond, List, [], ◌∷◌, ◌++◌, take, drop, length, get_or, sym, refl, ap, ◌∙◌, subst, inl, inr, arith}
 use Rattle.std.specs.List.{All, AllWithin}
 use Rattle.std.specs.List.Sorted.{IsPartitionedBy, IsPartitionPoint}
 use Rattle.std.proofs.lemmas.Bool.{cases_lt, false≢true}
@@ -162,3 +162,26 @@ module _ {X : Type 0} (p : X → Bool) where
   tail_parted [] tail any is some parted = absurd (omega arith)
   tail_parted (xs ∷ xss) tail any is some parted =
       subst (IsPartitionedBy (begins_with p)) (sym is) (firsts_parted xss (subst (All HasSome) is some) (parted_behind xs (joins xss) parted))
+
+  -- the elements before base pass, and those behind the next size ones don't
+  pub record Narrowed (xs : List X) (base size : ℕ) : Type 0 where
+    pub within : base + size ≤ length xs
+    pub before : AllWithin (λ x. p x ≡ true) xs 0 base
+    pub behind : AllWithin (λ x. p x ≡ false) xs (base + size) (length xs)
+
+  pub narrowed_none : (xs : List X) → Narrowed xs 0 (length xs)
+  narrowed_none xs = record { within = omega arith; before = λ k d from below. absurd (omega arith); behind = λ k d from below. absurd (omega arith) }
+
+  -- a look at the last element of the first half
+  pub narrowed_half : (xs : List X) (b : Bool) (base size : ℕ) → IsPartitionedBy p xs → 0 < size → Narrowed xs base size
+      → ((d : X) → p (get_or xs (base + (size - size / 2) - 1) d) ≡ b) → Narrowed xs (base + cond b (size - size / 2) 0) (size / 2)
+  narrowed_half xs true base size parted some known look = record {
+    within = omega (arith, known.within);
+    before = λ k d from below. parted k (base + (size - size / 2) - 1) d (omega arith) (omega (arith, known.within)) (look d);
+    behind = λ k d from below. known.behind k d (omega arith) below;
+  }
+  narrowed_half xs false base size parted some known look = record {
+    within = omega (arith, known.within);
+    before = λ k d from below. known.before k d from (omega arith);
+    behind = λ k d from below. false_or _ (λ passes. false≢true (sym (look d) ∙ parted (base + (size - size / 2) - 1) k d (omega arith) below passes));
+  }

@@ -1,6 +1,7 @@
 //! Where rows in blocks are, which stand in order of directory and name.
-ghost use Rattle.std.specs.Prelude.{◌≡◌, ◌+◌, ◌<◌, ◌^◌, length, Bool, true};
+ghost use Rattle.std.specs.Prelude.{◌≡◌, ◌+◌, ◌<◌, ◌≤◌, ◌^◌, length, Bool, true, false, if◌then◌else◌};
 ghost use Rattle.std.specs.List.{slice_get};
+ghost use Rattle.std.specs.List.Sorted.{IsPartitionedBy, IsPartitionPoint};
 ghost use Rattle.dir_table.specs.Blocks.{joined, rows_before, is_below, begins_with, AreFilled, IsGap, IsCut};
 ghost use Rattle.dir_table.specs.Rows.{AreInOrder};
 
@@ -11,7 +12,7 @@ use crate::calls::DirRow;
 fn is_below(row: &DirRow, dir: u8, name: u64) -> bool
     ensures { result ≡ is_below (dir, name) row.now }
 {
-    (row.dir, u64::from(row.name)).cmp(&(dir, name)).is_lt()
+    (row.dir < dir) | ((row.dir == dir) & (u64::from(row.name) < name))
 }
 
 // Whether the first row of the block is below.
@@ -24,6 +25,33 @@ fn begins_below(block: &Block, dir: u8, name: u64) -> bool
     }
 }
 
+// The count where it passes, or none: without a branch.
+fn count_if(passes: bool, count: usize) -> usize
+    ensures { result ≡ (if passes then count else 0) }
+{
+    count * usize::from(passes)
+}
+
+// How many of the blocks, which stand in order, begin below. No step branches on what it finds, since no processor could foretell it.
+fn begun_below(blocks: &[Block], dir: u8, name: u64) -> usize
+    requires { IsPartitionedBy (begins_with (is_below (dir, name))) blocks.now }
+    ensures within { result ≤ length blocks.now }
+    ensures point { IsPartitionPoint
+        (λ rows. begins_with (is_below (dir, name)) rows ≡ true)
+        (λ rows. begins_with (is_below (dir, name)) rows ≡ false) blocks.now result }
+{
+    let mut begun = 0;
+    let mut left = blocks.len();
+    while left > 0 {
+        let half = left - left / 2;
+        let last = begun + half - 1;
+        let below = begins_below(&blocks[last], dir, name);
+        begun += count_if(below, half);
+        left /= 2;
+    }
+    begun
+}
+
 /// Where the rows begin that are not below. It is the end of a block, and not the start of the next one.
 pub fn cut(blocks: &[Block], dir: u8, name: u64) -> Spot
     requires filled { AreFilled blocks.now }
@@ -32,7 +60,7 @@ pub fn cut(blocks: &[Block], dir: u8, name: u64) -> Spot
     ensures cut { IsCut (joined blocks.now) (dir, name) (rows_before blocks.now result) }
     ensures start { result.at ≡ 0 → rows_before blocks.now result ≡ 0 }
 {
-    let block = blocks[1..].partition_point(|block| begins_below(block, dir, name));
+    let block = begun_below(&blocks[1..], dir, name);
     let rows = blocks[block].as_slice();
     let at = rows.partition_point(|row| is_below(row, dir, name));
     Spot { block, at }
