@@ -1,7 +1,9 @@
 //! The top call: words and bytes in, a status, a report and an error line out.
-ghost use Rattle.std.specs.Prelude.{◌≡◌, ◌≢◌, [], map, string_bytes, codes, Some, None, IfOk};
+ghost use Rattle.std.specs.Prelude.{◌≡◌, ◌≢◌, ◌+◌, [], map, string_bytes, codes, Some, None, IfOk};
 ghost use Rattle.syncord_app.specs.declared.commands.Command.TheVariants.{Line, Verify, Replay, Shards, Pool, Bulk, Assemble, Disassemble};
 ghost use Rattle.bpf_isa.specs.declared.insn.Profile.{Profile as ProfileValue};
+ghost use Rattle.syn_outer.specs.Causes.{CallsAtMost};
+ghost use Rattle.syncord_endings.specs.Endings.{most_bytes};
 ghost use Rattle.syncord_endings.specs.Traffic.{through, Takes, Told};
 ghost use Rattle.syncord_line.specs.Reports as line;
 ghost use Rattle.syncord_verify.specs.Verdicts.{Verifies};
@@ -33,6 +35,7 @@ use trace_text::{NoMemory, Trace};
 /// Does what the words behind the program's name say, and answers the status. `replay`, `shards`, `pool` and `bulk` run a thread for
 /// each worker of their trace and wait for them all: what is said of them here is said if the call returns. `gate` is where a test can
 /// hold a worker.
+#[tactic(auto, using(crate::proofs::Unread::calls_stay))]
 pub fn syncord<Rt: Threads + Wait + Sync, R: Source, W: Sink, E: Sink, G: Gate + Sync>(
     rt: &Rt,
     alloc: Global,
@@ -53,6 +56,9 @@ pub fn syncord<Rt: Threads + Wait + Sync, R: Source, W: Sink, E: Sink, G: Gate +
     // With each other status than 0 and 4 nothing is written.
     ensures silent { result ≢ 0 → result ≢ 4 → Takes
         (through W.held W.faults out.old out.new) [] }
+
+    // No command reads oftener than once a byte and once for the end.
+    ensures reads { CallsAtMost (most_bytes + 1) (R.calls src.old) (R.calls src.new) }
 
     // `line` reports a schedule, or ends otherwise with its cause.
     ensures line { command_in (map string_bytes words.now) ≡ Some Line →

@@ -1,6 +1,8 @@
 //! The commands as calls.
+ghost use Rattle.std.specs.Prelude.{◌+◌};
+ghost use Rattle.syn_outer.specs.Causes.{CallsAtMost};
 ghost use Rattle.syncord_endings.specs.Traffic.{through};
-ghost use Rattle.syncord_endings.specs.Endings.{Answers, Decides};
+ghost use Rattle.syncord_endings.specs.Endings.{Answers, Decides, most_bytes};
 ghost use Rattle.syncord_verify.specs.Verdicts.{IsNoProgram};
 ghost use Rattle.syncord_asm.specs.Assemblies as assembly;
 ghost use Rattle.syncord_asm.specs.Listings as listing;
@@ -64,6 +66,7 @@ pub fn run_asm<R: Source, W: Sink, E: Sink>(
     ensures complete { Decides (assembly.Refuses profile)
         (through R.left R.faults src.old src.new)
         (through W.held W.faults out.old out.new) result }
+    ensures reads { CallsAtMost (most_bytes + 1) (R.calls src.old) (R.calls src.new) }
 {
     perform(&Assemble { profile }, alloc, src, out, err)
 }
@@ -83,6 +86,7 @@ pub fn run_disasm<R: Source, W: Sink, E: Sink>(
     ensures complete { Decides (IsNoProgram profile)
         (through R.left R.faults src.old src.new)
         (through W.held W.faults out.old out.new) result }
+    ensures reads { CallsAtMost (most_bytes + 1) (R.calls src.old) (R.calls src.new) }
 {
     perform(&Disassemble { profile }, alloc, src, out, err)
 }

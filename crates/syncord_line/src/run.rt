@@ -1,6 +1,8 @@
 //! The command as a call.
+ghost use Rattle.std.specs.Prelude.{◌+◌};
+ghost use Rattle.syn_outer.specs.Causes.{CallsAtMost};
 ghost use Rattle.syncord_endings.specs.Traffic.{through};
-ghost use Rattle.syncord_endings.specs.Endings.{Answers, Decides};
+ghost use Rattle.syncord_endings.specs.Endings.{Answers, Decides, most_bytes};
 ghost use Rattle.syncord_line.specs.Reports.{Reports, Refuses};
 
 use crate::line::line;
@@ -38,6 +40,7 @@ pub fn run_line<R: Source, W: Sink, E: Sink>(
     ensures complete { Decides Refuses
         (through R.left R.faults src.old src.new)
         (through W.held W.faults out.old out.new) result }
+    ensures reads { CallsAtMost (most_bytes + 1) (R.calls src.old) (R.calls src.new) }
 {
     perform(&Line, alloc, src, out, err)
 }

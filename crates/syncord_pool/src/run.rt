@@ -1,6 +1,8 @@
 //! The command `pool` as a call.
+ghost use Rattle.std.specs.Prelude.{◌+◌};
+ghost use Rattle.syn_outer.specs.Causes.{CallsAtMost};
 ghost use Rattle.syncord_endings.specs.Traffic.{through};
-ghost use Rattle.syncord_endings.specs.Endings.{Ends, Answers, Decides};
+ghost use Rattle.syncord_endings.specs.Endings.{Ends, Answers, Decides, most_bytes};
 ghost use Rattle.syncord_pool.specs.Runs.{TakesEach, LeavesRuns};
 ghost use Rattle.syncord_pool.specs.Reports.{Reports, Refuses};
 
@@ -20,9 +22,10 @@ fn ending<F: Fn(Global, &Trace) -> Result<PoolRun, NoMemory>, R: Source, W: Sink
 ) -> Ending
     requires takes { TakesEach (F.pre runner.now) (λ t. t.now) }
     requires leaves { LeavesRuns (F.post runner.now) (λ t. t.now) }
-    ensures { Ends Reports Refuses
+    ensures ends { Ends Reports Refuses
         (through R.left R.faults src.old src.new)
         (through W.held W.faults out.old out.new) result }
+    ensures reads { CallsAtMost (most_bytes + 1) (R.calls src.old) (R.calls src.new) }
 {
     let bytes = match read_all(alloc, src, MOST_BYTES) {
         Ok(bytes) => bytes,
@@ -58,6 +61,7 @@ pub fn run_pool<F: Fn(Global, &Trace) -> Result<PoolRun, NoMemory>, R: Source, W
     ensures complete { Decides Refuses
         (through R.left R.faults src.old src.new)
         (through W.held W.faults out.old out.new) result }
+    ensures reads { CallsAtMost (most_bytes + 1) (R.calls src.old) (R.calls src.new) }
 {
     let ending = ending(runner, alloc, src, out);
     tell_ending(err, ending);

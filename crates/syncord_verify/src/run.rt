@@ -1,6 +1,8 @@
 //! The command as a call.
+ghost use Rattle.std.specs.Prelude.{◌+◌};
+ghost use Rattle.syn_outer.specs.Causes.{CallsAtMost};
 ghost use Rattle.syncord_endings.specs.Traffic.{through};
-ghost use Rattle.syncord_endings.specs.Endings.{Answers, Decides};
+ghost use Rattle.syncord_endings.specs.Endings.{Answers, Decides, most_bytes};
 ghost use Rattle.syncord_verify.specs.Verdicts.{Reports, Refuses};
 
 use crate::report::verdict;
@@ -42,6 +44,7 @@ pub fn run_verify<R: Source, W: Sink, E: Sink>(
     ensures complete { Decides (Refuses profile)
         (through R.left R.faults src.old src.new)
         (through W.held W.faults out.old out.new) result }
+    ensures reads { CallsAtMost (most_bytes + 1) (R.calls src.old) (R.calls src.new) }
 {
     perform(&Verify { profile }, alloc, src, out, err)
 }
