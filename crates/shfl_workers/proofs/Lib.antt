@@ -6,9 +6,11 @@ pub mod Loading
 pub mod Merging
 pub mod Starting
 pub mod Numbered
+pub mod Histories
 pub mod Ending
 pub mod Ran
 pub mod MadeOnce
 pub mod ShardEnding
+pub mod CellEnding
 pub mod Publishing
 pub mod Opening

@@ -73,35 +73,3 @@ made_few [] = omega arith
 made_few (c ∷ cs) =
     let e : length (made_in (c ∷ cs)) ≡ length (made_by c.worker c.act) + length (made_in cs) = length-append (made_by c.worker c.act) (made_in cs) in
     let one = made_few_by c.worker c.act in let rest = made_few cs in omega (arith, e, one, rest)
-
--- where those of each worker are such, all are
-pub all_of_each : (P : DirCall → Type 0) (ms : List Made) → ((k : ℕ) → AllByRecursion P (of_worker k ms)) → AllByRecursion (λ m. P m.call) ms
-all_of_each P [] each = tt
-all_of_each P (m ∷ ms) each = (
-  (subst (AllByRecursion P) (own_first m.worker m ms refl) (each m.worker)).0,
-  all_of_each P ms (λ k. elim (cases_eq m.worker k) [
-    | inl same ↦ (subst (AllByRecursion P) (own_first k m ms same) (each k)).1
-    | inr not ↦ subst (AllByRecursion P) (other_first k m ms not) (each k)
-  ]),
-)
-
-each_of_all : (P : DirCall → Type 0) (k : ℕ) (ms : List Made) → AllByRecursion (λ m. P m.call) ms → AllByRecursion P (of_worker k ms)
-each_of_all P k [] all = tt
-each_of_all P k (m ∷ ms) all = elim (cases_eq m.worker k) [
-  | inl same ↦ subst (AllByRecursion P) (sym (own_first k m ms same)) (all.0, each_of_all P k ms all.1)
-  | inr not ↦ subst (AllByRecursion P) (sym (other_first k m ms not)) (each_of_all P k ms all.1)
-]
-
-module _ (workers names policies : ℕ) where
-  admitted_with : (worker : ℕ) (act : TraceAct) (rest : List Made) → IsActOf names policies worker act → AllByRecursion (λ m. IsAdmitted names m.call) rest
-      → AllByRecursion (λ m. IsAdmitted names m.call) (made_by worker act ++ rest)
-  admitted_with worker (does.Dir call) rest may all = (may, all)
-  admitted_with worker (does.Attach policy) rest may all = all
-
-  admitted_in : (calls : List TraceCall) → AllByRecursion (IsCallOf workers names policies) calls → AllByRecursion (λ m. IsAdmitted names m.call) (made_in calls)
-  admitted_in [] all = tt
-  admitted_in (c ∷ cs) all = admitted_with c.worker c.act (made_in cs) all.0.act (admitted_in cs all.1)
-
-  -- a worker's calls are admitted
-  pub admitted_each : (calls : List TraceCall) (k : ℕ) → AllByRecursion (IsCallOf workers names policies) calls → AllByRecursion (IsAdmitted names) (of_worker k (made_in calls))
-  admitted_each calls k all = each_of_all (IsAdmitted names) k (made_in calls) (admitted_in calls all)

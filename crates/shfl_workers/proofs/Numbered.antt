@@ -1,4 +1,4 @@
--- Activities that stand at the places of their numbers.
+-- Passes that stand at the places of their numbers.
 use Rattle.std.proofs.Common.{◌≡◌, ℕ, zero, suc, ◌<◌, List, [], ◌∷◌, map, length, get_or, slice_get, Some, All, sym, refl, ap, ◌∙◌, subst, arith}
 use Rattle.std.specs.List.{Contains}
 use Rattle.std.proofs.lemmas.List.{get_or-map}
@@ -6,7 +6,12 @@ use Rattle.std.proofs.lemmas.List.Elements.{All-map, Contains-get_or}
 use Rattle.std.proofs.Math.ListN.{length-map}
 use Rattle.policy_versions.proofs.Indexed.{some_same}
 use Rattle.shfl_workers.specs.declared.activity.Activity.{Activity}
-use Rattle.shfl_workers.specs.Activities.{AreNumbered}
+use Rattle.shfl_workers.specs.Activities.{IsAt, AreNumbered}
+use Rattle.shfl_workers.specs.Passes.{AtEachPlace, IsDone}
+use Rattle.dir_table.specs.declared.calls.DirCall.{DirCall}
+use Rattle.trace_text.specs.declared.trace.TraceCall.{TraceCall}
+use Rattle.trace_text.specs.Histories.{made_in, of_worker}
+use Rattle.policy_versions.specs.Places.{RegistryId}
 
 -- an element that is there is the one of its place
 pub at_index : {X : Type 0} (xs : List X) (i : ℕ) (x d : X) → slice_get xs i ≡ Some x → (i < length xs) × (get_or xs i d ≡ x)
@@ -29,28 +34,48 @@ of_each f P (x ∷ xs) all i y e =
 abbrev pub pass_of : {Pass : Type 0} → Activity Pass → Pass
 pass_of a = a.pass
 
-module _ {Pass : Type 0} (number : Pass → ℕ) where
-  pub number_of : (all : List (Activity Pass)) (i : ℕ) (p : Pass) → AreNumbered number all → slice_get (map (λ a. a.pass) all) i ≡ Some p → number p ≡ i
-  number_of [] i p numbered e = absurd (cc)
-  number_of (a ∷ rest) i p numbered e =
-      let r = at_index (map pass_of (a ∷ rest)) i p a.pass e in
-      let lt : i < length (a ∷ rest) = (let l = length-map (a ∷ rest) pass_of in let b = r.0 in omega (arith, l, b)) in
-      ap number (sym r.1 ∙ get_or-map pass_of (a ∷ rest) i a a.pass lt) ∙ numbered i a lt
+-- an element stands at each place
+pub element_at : {X : Type 0} (xs : List X) (i : ℕ) → i < length xs → (x : X) × (slice_get xs i ≡ Some x)
+element_at [] i lt = absurd (omega (arith, lt))
+element_at (y ∷ ys) zero lt = (y, refl)
+element_at (y ∷ ys) (suc i) lt = element_at ys i (omega (arith, lt))
 
-  numbers_in : (all : List (Activity Pass)) (k : ℕ) (d : Activity Pass) → AreNumbered number all → k < length all
-      → slice_get (map number (map (λ a. a.pass) all)) k ≡ Some k
-  numbers_in [] k d numbered lt = absurd (omega arith)
-  numbers_in (a ∷ rest) k d numbered lt =
-      let ps = map pass_of (a ∷ rest) in let l = length-map (a ∷ rest) pass_of in let m = length-map ps number in
-      there (map number ps) k k (omega (arith, lt, l, m))
-      ∙ ap Some (get_or-map number ps k a.pass k (omega (arith, lt, l)) ∙ ap number (get_or-map pass_of (a ∷ rest) k a a.pass lt) ∙ numbered k a lt)
+-- what is true of all is true of the one at a place
+pub of_all : {X : Type 0} (P : X → Type 0) (xs : List X) → All P xs → (i : ℕ) (x : X) → slice_get xs i ≡ Some x → P x
+of_all P xs all i x e = let r = at_index xs i x x e in subst P r.1 (all i x r.0)
 
-  -- the passes are all of so many
-  pub everyone : (all : List (Activity Pass)) (count : ℕ) → AreNumbered number all → length all ≡ count
-      → (k : ℕ) → k < count → Contains (map number (map (λ a. a.pass) all)) k
-  everyone [] count numbered many k lt = absurd (omega (arith, lt, many))
-  everyone (a ∷ rest) count numbered many k lt =
-      let within : k < length (a ∷ rest) = omega (arith, lt, many) in
-      let here = numbers_in (a ∷ rest) k a numbered within in
-      let r = at_index (map number (map pass_of (a ∷ rest))) k k k here in
-      subst (Contains (map number (map pass_of (a ∷ rest)))) r.1 (Contains-get_or (map number (map pass_of (a ∷ rest))) k k r.0)
+-- where each element is that of its place, and those are such, each is
+pub each_place : {X : Type 0} (P : ℕ → X → Type 0) (f : ℕ → X) (xs : List X) → ((k : ℕ) → k < length xs → slice_get xs k ≡ Some (f k)) → ((k : ℕ) → k < length xs → P k (f k)) → AtEachPlace P xs
+each_place P f xs are each k x e = let r = at_index xs k x x e in subst (P k) (some_same (f k) x (sym (are k r.0) ∙ e)) (each k r.0)
+
+module _ {Pass : Type 0} (is_pass : Pass → Type 0) (number : Pass → ℕ) (made : Pass → List DirCall → Type 0) (calls : List TraceCall) where
+  -- workers that have no call ahead have made theirs
+  pub have_made : (left : Pass → ℕ) (registry : RegistryId) (all : List (Activity Pass)) → AreNumbered number all → All (IsAt is_pass number made left registry calls []) all
+      → AtEachPlace (IsDone is_pass number made calls) (map (λ a. a.pass) all)
+  have_made left registry [] numbered at k p e = absurd (cc)
+  have_made left registry (a ∷ rest) numbered at k p e =
+      let r = at_index (map pass_of (a ∷ rest)) k p a.pass e in
+      let lt : k < length (a ∷ rest) = (let l = length-map (a ∷ rest) pass_of in let b = r.0 in omega (arith, l, b)) in
+      let here = get_or (a ∷ rest) k a in let is_at = at k a lt in let n = numbered k a lt in
+      subst (IsDone is_pass number made calls k) (sym (get_or-map pass_of (a ∷ rest) k a a.pass lt) ∙ r.1)
+      (record {
+        of_dir = is_at.of_dir;
+        number_is = n;
+        has_made = subst (λ w. made here.pass (of_worker w (made_in calls))) n is_at.progress.has_made;
+      })
+
+  module _ (ps : List Pass) (done : AtEachPlace (IsDone is_pass number made calls) ps) where
+    -- each is a pass of the directory
+    pub each_of_dir : All is_pass ps
+    each_of_dir k d lt = (done k (get_or ps k d) (there ps k d lt)).of_dir
+
+    -- none stands there twice
+    pub once : (i j : ℕ) (p q : Pass) → slice_get ps i ≡ Some p → slice_get ps j ≡ Some q → number p ≡ number q → i ≡ j
+    once i j p q at_i at_j same = sym (done i p at_i).number_is ∙ same ∙ (done j q at_j).number_is
+
+    -- they are all passes of so many
+    pub everyone : (count : ℕ) → length ps ≡ count → (k : ℕ) → k < count → Contains (map number ps) k
+    everyone count many k lt =
+        let p = element_at ps k (omega (arith, lt, many)) in let r = at_index ps k p.0 p.0 p.1 in
+        let there' : k < length (map number ps) = (let l = length-map ps number in let b = r.0 in omega (arith, l, b)) in
+        subst (Contains (map number ps)) (get_or-map number ps k p.0 k r.0 ∙ ap number r.1 ∙ (done k p.0 p.1).number_is) (Contains-get_or (map number ps) k k there')

@@ -5,7 +5,7 @@ use Rattle.dir_table.specs.Numbers.{state_numbers}
 use Rattle.trace_text.specs.declared.trace.Trace.{Trace}
 use Rattle.trace_text.specs.Histories.{beginning}
 use Rattle.rw_cell.specs.RwCells.{first_state}
-use Rattle.shfl_workers.specs.Stages.{directory_for}
+use Rattle.shfl_workers.specs.Opened.{directory_for}
 
 module _ (t : Trace) where
   -- each is in the state of the first

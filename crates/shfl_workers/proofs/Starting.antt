@@ -11,6 +11,7 @@ use Rattle.shfl_workers.specs.declared.attaching.Attaching.{Attaching}
 use Rattle.shfl_workers.specs.Activities.{Joined, IsAt}
 use Rattle.shfl_workers.specs.Attaching.{Attached}
 use Rattle.shfl_workers.specs.Shares.{share_of}
+use Rattle.shfl_workers.specs.Passes.{AtEachPlace, IsReady}
 
 -- what the activity at a place has
 record IsJoinedAt {Pass : Type 0} (ps : List Pass) (us : List PassModel) (first : Option Attaching) (k : ℕ) (a : Activity Pass) : Type 0 where
@@ -42,34 +43,30 @@ joined_count (p ∷ ps) (u ∷ us) first [] j = absurd j
 joined_count (p ∷ ps) (u ∷ us) first (a ∷ all) j = ap suc (joined_count ps us None all j.1)
 
 module _ {Pass : Type 0} (number : Pass → ℕ) (is_pass : Pass → Type 0) (made : Pass → List DirCall → Type 0) (left : Pass → ℕ)
-    (registry : RegistryId) (calls : List TraceCall) (count : ℕ) (fresh : ℕ → Pass)
-    (of_dir : (k : ℕ) → is_pass (fresh k)) (number_is : (k : ℕ) → number (fresh k) ≡ k) (none_made : (k : ℕ) → made (fresh k) []) (left_is : (k : ℕ) → left (fresh k) ≡ share_of calls k)
+    (registry : RegistryId) (calls : List TraceCall) (count : ℕ)
     (ps : List Pass) (us : List PassModel) (first : Attaching) (all : List (Activity Pass)) (joined : Joined ps us (Some first) all) (many : length ps ≡ count)
-    (passes : (k : ℕ) → k < count → slice_get ps k ≡ Some (fresh k)) (users : AreFresh registry count us)
+    (ready : AtEachPlace (IsReady is_pass number made left calls) ps) (users : AreFresh registry count us)
     (first_attached : Attached registry [] (attached_in calls) first.publisher first.copies.items) where
-  the_pass : (k : ℕ) (d : Activity Pass) → k < length all → (get_or all k d).pass ≡ fresh k
-  the_pass k d lt =
-      let n = joined_count ps us (Some first) all joined in
-      some_same _ _ (sym (joined_at ps us (Some first) all k d joined lt).pass ∙ passes k (omega (arith, lt, n, many)))
+  is_ready : (k : ℕ) (d : Activity Pass) → k < length all → IsReady is_pass number made left calls k (get_or all k d).pass
+  is_ready k d lt = ready k (get_or all k d).pass (joined_at ps us (Some first) all k d joined lt).pass
 
   pub starts_numbered : (k : ℕ) (d : Activity Pass) → k < length all → number (get_or all k d).pass ≡ k
-  starts_numbered k d lt = ap number (the_pass k d lt) ∙ number_is k
+  starts_numbered k d lt = (is_ready k d lt).number_is
 
   pub starts_at : (k : ℕ) (d : Activity Pass) → k < length all → IsAt is_pass number made left registry [] calls (get_or all k d)
   starts_at k d lt =
       let n = joined_count ps us (Some first) all joined in
       let within : k < count = omega (arith, lt, n, many) in
-      let is = the_pass k d lt in
       let at = joined_at ps us (Some first) all k d joined lt in
       let user = some_same _ _ (sym at.user ∙ users k within) in
+      let r = is_ready k d lt in
       record {
-        of_dir = subst is_pass (sym is) (of_dir k);
+        of_dir = r.of_dir;
         closed = subst (IsClosed registry) (sym user) (refl, refl);
         progress = record {
-          has_made = subst (λ p. made p []) (sym is) (none_made k);
-          enough = (let e : left (get_or all k d).pass ≡ share_of calls k = ap left is ∙ left_is k in let w = starts_numbered k d lt in
-              subst (λ w. share_of calls w ≤ left (get_or all k d).pass) (sym w) (omega (arith, e)));
+          has_made = r.none_made;
+          enough = (let e = r.left_is in subst (λ w. share_of calls w ≤ left (get_or all k d).pass) (sym r.number_is) (omega (arith, e)));
           attached = λ zeroth. subst (λ o. IsSomeAnd o (λ a. Attached registry [] (attached_in calls) a.publisher a.copies.items))
-              (sym (at.attaching (sym (starts_numbered k d lt) ∙ zeroth))) first_attached;
+              (sym (at.attaching (sym r.number_is ∙ zeroth))) first_attached;
         };
       }

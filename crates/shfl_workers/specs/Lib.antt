@@ -5,5 +5,7 @@ pub mod Progress
 pub mod Activities
 pub mod RwDirs
 pub mod ShardDirs
-pub mod Stages
-pub mod ShardStages
+pub mod Passes
+pub mod CellDirs
+pub mod Opened
+pub mod Prevailing

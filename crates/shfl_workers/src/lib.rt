@@ -3,14 +3,16 @@
 
 mod activity;
 mod attaching;
+mod cell_dir;
 mod chooser;
+mod empty_dir;
 mod policies;
+mod prevailing;
 mod run;
 #[cfg(test)]
 mod run_tests;
 mod rw_dir;
 mod shard_dir;
-mod shards_run;
 #[cfg(test)]
 mod shards_tests;
 mod shared_dir;
@@ -23,8 +25,8 @@ pub use activity::{Activity, join, run_all, take_apart};
 pub use attaching::{Attaching, copies_of};
 pub use chooser::UsingChooser;
 pub use policies::{load_all, load_one};
-pub use run::{Outcome, run_trace};
-pub use shards_run::run_shards;
+pub use prevailing::do_writes_prevail;
+pub use run::{Outcome, run_shards, run_trace};
 pub use shared_dir::SharedDir;
 pub use shares::shares_of;
 pub use worker::work;

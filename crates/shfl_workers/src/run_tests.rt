@@ -1,7 +1,10 @@
 //! Traces that are run by threads.
-use crate::{Outcome, run_trace};
-use dir_table::DirReply;
+use crate::run::run_on;
+use crate::{Outcome, do_writes_prevail, run_trace};
+use dir_table::{Dir, DirReply};
+use rw_cell::RwCell;
 use std::alloc::Global;
+use std::process::Abort;
 use std::sync::Wait;
 use std::sync::atomic::{AtomicU64, Ordering};
 use std::test::Fail;
@@ -24,6 +27,10 @@ const ATTACHED: &[u8] =
 /// Four workers on two sockets, each of whom makes a name, looks for it and counts; worker 3 drops what it made.
 pub(crate) const FOUR_WORKERS: &[u8] =
     b"syncord-trace 1\nworker 0 0 0 0\nworker 0 0 0 0\nworker 1 0 0 0\nworker 1 0 0 0\npolicy none - -\npolicy socket 61120000000000006111040000000000b7000000010000001d21010000000000b7000000000000009500000000000000 -\ncalls\n0 attach socket\n0 make 5 a\n0 find 5 a\n0 attach none\n0 count 5\n1 make 5 a\n1 find 5 a\n1 next 5\n2 make 5 a\n2 find 5 a\n2 count 6\n3 make 6 b\n3 drop 6 b\n3 count 6\n";
+
+// Two workers who look for a name that nobody makes.
+const TWO_READERS: &[u8] =
+    b"syncord-trace 1\nworker 0 0 0 0\nworker 0 0 0 0\npolicy none - -\ncalls\n0 find 0 a\n1 find 0 a\n";
 
 /// Lets worker 0 hold the lock until the others have queued in their order and worker 1 has ended its round.
 #[derive(Drop)]
@@ -108,6 +115,17 @@ fn run_text<G: Gate + Sync, R: Threads + Wait + Sync>(
     Ok(run_trace(rt, alloc, &trace, gate)?)
 }
 
+// The same with a copy of the directory for each worker, whatever the calls are.
+fn run_text_on_copies<G: Gate + Sync, R: Threads + Wait + Sync>(
+    rt: &R,
+    alloc: Global,
+    text: &[u8],
+    gate: &G,
+) -> Result<Outcome, Fail> {
+    let trace = read_trace(alloc, text)?;
+    Ok(run_on::<RwCell<Dir>, G, R>(rt, alloc, &trace, gate)?)
+}
+
 /// The workers of a history, in its order.
 pub(crate) fn workers_of(alloc: Global, outcome: &Outcome) -> Result<Vec<u32>, Fail> {
     let mut workers = Vec::new(alloc);
@@ -117,25 +135,102 @@ pub(crate) fn workers_of(alloc: Global, outcome: &Outcome) -> Result<Vec<u32>, F
     Ok(workers)
 }
 
+// Nobody gave up, the queue was ordered by the policy that prefers the own socket, and so much was published.
+fn check_order<R: Abort>(
+    rt: &R,
+    alloc: Global,
+    gate: &QueueGate,
+    outcome: &Outcome,
+    published: &[(u64, u32)],
+) -> Result<(), Fail> {
+    let workers = workers_of(alloc, outcome)?;
+    assert_eq!(rt; gate.gave_up.load(Ordering::SeqCst), 0);
+    assert_eq!(rt; workers.as_slice(), [0, 1, 3, 2, 4].as_slice());
+    assert_eq!(rt; outcome.versions.rows(), published);
+    Ok(())
+}
+
 #[test]
 fn grouped_order(rt: HostRuntime) -> Result<(), Fail> {
     let gate = queue_gate();
     let outcome = run_text(&rt, rt.alloc(), GROUPED, &gate)?;
-    let workers = workers_of(rt.alloc(), &outcome)?;
-    assert_eq!(&rt; gate.gave_up.load(Ordering::SeqCst), 0);
-    assert_eq!(&rt; workers.as_slice(), [0, 1, 3, 2, 4].as_slice());
-    assert_eq!(&rt; outcome.versions.rows().len(), 0);
-    Ok(())
+    check_order(&rt, rt.alloc(), &gate, &outcome, &[])
 }
 
 #[test]
 fn attached_order(rt: HostRuntime) -> Result<(), Fail> {
     let gate = queue_gate();
     let outcome = run_text(&rt, rt.alloc(), ATTACHED, &gate)?;
-    let workers = workers_of(rt.alloc(), &outcome)?;
+    check_order(&rt, rt.alloc(), &gate, &outcome, &[(1, 1)])
+}
+
+#[test]
+fn grouped_order_on_copies(rt: HostRuntime) -> Result<(), Fail> {
+    let gate = queue_gate();
+    let outcome = run_text_on_copies(&rt, rt.alloc(), GROUPED, &gate)?;
+    check_order(&rt, rt.alloc(), &gate, &outcome, &[])
+}
+
+#[test]
+fn attached_order_on_copies(rt: HostRuntime) -> Result<(), Fail> {
+    let gate = queue_gate();
+    let outcome = run_text_on_copies(&rt, rt.alloc(), ATTACHED, &gate)?;
+    check_order(&rt, rt.alloc(), &gate, &outcome, &[(1, 1)])
+}
+
+/// Lets each of two workers hold the lock until the other one holds it too.
+#[derive(Drop)]
+struct ReadersGate {
+    held: [AtomicU64; 2],
+    gave_up: AtomicU64,
+}
+
+impl Gate for ReadersGate {
+    fn at<Rt: Wait>(&self, _rt: &Rt, worker: u32, point: Point) {
+        match (worker, point) {
+            (0, Point::Holding) => {
+                self.held[0].store(1, Ordering::SeqCst);
+                wait_for(&self.held[1], 1, &self.gave_up);
+            }
+            (1, Point::Holding) => {
+                self.held[1].store(1, Ordering::SeqCst);
+                wait_for(&self.held[0], 1, &self.gave_up);
+            }
+            _ => {}
+        }
+    }
+}
+
+#[test]
+fn readers_hold_at_once(rt: HostRuntime) -> Result<(), Fail> {
+    let gate = ReadersGate {
+        held: [AtomicU64::new(0), AtomicU64::new(0)],
+        gave_up: AtomicU64::new(0),
+    };
+    let outcome = run_text(&rt, rt.alloc(), TWO_READERS, &gate)?;
     assert_eq!(&rt; gate.gave_up.load(Ordering::SeqCst), 0);
-    assert_eq!(&rt; workers.as_slice(), [0, 1, 3, 2, 4].as_slice());
-    assert_eq!(&rt; outcome.versions.rows(), [(1, 1)].as_slice());
+    assert_eq!(&rt; outcome.history.len(), 2);
+    assert_eq!(&rt; outcome.dir.count(0), DirReply::Number(0));
+    Ok(())
+}
+
+#[test]
+fn writes_of_four_workers_prevail(rt: HostRuntime) -> Result<(), Fail> {
+    let alloc = rt.alloc();
+    let four = read_trace(alloc, FOUR_WORKERS)?;
+    assert_eq!(&rt; do_writes_prevail(&four), true);
+    let readers = read_trace(alloc, TWO_READERS)?;
+    assert_eq!(&rt; do_writes_prevail(&readers), false);
+    Ok(())
+}
+
+#[test]
+fn four_workers_have_copies(rt: HostRuntime) -> Result<(), Fail> {
+    let outcome = run_text_on_copies(&rt, rt.alloc(), FOUR_WORKERS, &OpenGate)?;
+    assert_eq!(&rt; outcome.history.len(), 12);
+    assert_eq!(&rt; outcome.versions.rows(), [(1, 1), (2, 0)].as_slice());
+    assert_eq!(&rt; outcome.dir.count(5), DirReply::Number(1));
+    assert_eq!(&rt; outcome.dir.count(6), DirReply::Number(0));
     Ok(())
 }
 

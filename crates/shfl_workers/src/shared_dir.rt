@@ -1,19 +1,30 @@
 //! A directory that several workers call, each by a pass of its own.
-ghost use Rattle.std.specs.Prelude.{◌≡◌, ℕ, ◌+◌, ◌<◌, List, [], ◌∷◌, ◌++◌};
+ghost use Rattle.std.specs.Prelude.{◌≡◌, ℕ, ◌+◌, ◌<◌, List, [], ◌∷◌, ◌++◌, map, length, vec_len, IfOk};
 ghost use Rattle.dir_table.specs.declared.calls.DirCall.{DirCall};
 ghost use Rattle.dir_table.specs.Meanings.{IsAdmitted};
+ghost use Rattle.trace_text.specs.Report.{done_of};
+ghost use Rattle.trace_text.specs.Traces.{IsWithin};
+ghost use Rattle.trace_text.specs.Histories.{IsHistoryOf};
+ghost use Rattle.shfl_workers.specs.Passes.{AtEachPlace, IsReady, IsDone};
 
-use dir_table::DirCall;
+use dir_table::{Dir, DirCall};
+use hist_log::Entry;
 use shfl_line::Chooser;
+use std::alloc::Global;
 use std::sync::Wait;
 use syn_outer::Gate;
+use trace_text::{NoMemory, Trace};
 
 /// A directory behind a lock.
-pub trait SharedDir {
+pub trait SharedDir: Drop {
     type Pass: Drop + Send;
 
     ghost use Rattle.std.specs.Prelude.{ℕ, List};
     ghost use Rattle.dir_table.specs.declared.calls.DirCall.{DirCall};
+    ghost use Rattle.trace_text.specs.declared.trace.Trace.{Trace};
+
+    /// It was opened for the calls of this trace, empty.
+    ghost opened: { Trace → Self → Type 0 };
 
     /// The names of its calls are below this number.
     ghost room: { Self → ℕ };
@@ -29,6 +40,17 @@ pub trait SharedDir {
 
     /// How many calls the pass may still make.
     ghost left: { Self.Pass → ℕ };
+
+    /// An empty directory for the calls of a trace, with a pass for each of its workers.
+    fn open(alloc: Global, trace: &Trace) -> Result<(Self, Vec<Self::Pass>), NoMemory>
+    where
+        Self: Sized,
+        requires { IsWithin trace.now }
+        ensures opened { IfOk result (λ r. opened trace.now r.0) }
+        ensures room { IfOk result (λ r. room r.0 ≡ length trace.now.names.items) }
+        ensures count { IfOk result (λ r. vec_len r.1 ≡ length trace.now.workers.items) }
+        ensures passes { IfOk result (λ r. AtEachPlace
+            (IsReady (is_pass r.0) worker made left trace.now.calls.items) r.1.items) };
 
     /// Whose pass it is.
     fn worker_of(pass: &Self::Pass) -> u32
@@ -52,4 +74,20 @@ pub trait SharedDir {
         ensures made { (calls : List DirCall) → made pass.old calls
             → made pass.new (calls ++ call.now ∷ []) }
         ensures home { C.home chooser.new ≡ C.home chooser.old };
+
+    /// A history of the trace whose calls the passes have made, and the directory that it leaves.
+    fn close(
+        self,
+        alloc: Global,
+        trace: &Trace,
+        passes: Vec<Self::Pass>,
+    ) -> Result<(Vec<Entry<Dir>>, Dir), NoMemory>
+    where
+        Self: Sized,
+        requires within { IsWithin trace.now }
+        requires opened { opened trace.now self }
+        requires count { vec_len passes ≡ length trace.now.workers.items }
+        requires passes { AtEachPlace
+            (IsDone (is_pass self) worker made trace.now.calls.items) passes.items }
+        ensures { IfOk result (λ r. IsHistoryOf trace.now (map done_of r.0.items) r.1) };
 }

@@ -1,6 +1,6 @@
 use Rattle.std.proofs.Common.{◌≡◌, All, vec_len}
-use Rattle.shfl_workers.specs.Stages.{directory_for}
-use Rattle.shfl_workers.proofs.run.directories_for.Given as goal
+use Rattle.shfl_workers.specs.Opened.{directory_for}
+use Rattle.shfl_workers.proofs.rw_dir.directories_for.Given as goal
 
 abbrev pub invariant-loop-number : goal.invariant-loop-number
 invariant-loop-number l = record {

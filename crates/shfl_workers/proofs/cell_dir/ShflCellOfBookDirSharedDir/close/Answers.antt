@@ -1,0 +1,26 @@
+use Rattle.std.proofs.Common.{◌≡◌, List, All, length, ap, ◌∙◌, subst, arith}
+use Rattle.dir_table.specs.Numbers.{call_numbers, reply_numbers}
+use Rattle.dir_table.specs.Meanings.{reply_at, state_after}
+use Rattle.hist_log.specs.History.{IsLegal, operations, state_left}
+use Rattle.shfl_workers.proofs.Numbered.{each_of_dir, everyone}
+use Rattle.shfl_workers.proofs.CellEnding.{cell_has_all}
+use Rattle.shfl_workers.proofs.Histories.{is_history}
+use Rattle.shfl_workers.proofs.cell_dir.ShflCellOfBookDirSharedDir.close.Goals as goal
+
+pub close-dir-requires-clause-cell : goal.close-dir-requires-clause-cell
+close-dir-requires-clause-cell c = λ k d lt. (each_of_dir _ _ _ _ c.args.passes.items c.requires.passes k d lt).0
+
+pub close-dir-requires-clause-all : goal.close-dir-requires-clause-all
+close-dir-requires-clause-all c =
+    let n = c.requires.count in let ok = c.args.passes.ok.0 in let w = c.requires.opened.0 in
+    everyone _ _ _ _ c.args.passes.items c.requires.passes c.args.self.count (omega (arith, n, ok, w))
+
+pub returns : goal.returns
+returns c =
+    let t = c.args.trace.now in let e = c.close-dir.ensures in let es = c.close-dir.result.1.items in
+    let many : length c.args.passes.items ≡ length t.workers.items = (let n = c.requires.count in let ok = c.args.passes.ok.0 in omega (arith, n, ok)) in
+    is_history t c.requires.within es
+    (cell_has_all t c.requires.within c.args.self c.args.passes.items many c.requires.opened.0 c.requires.passes es e.seen e.nobody_else)
+    c.close-dir.result.0
+    (subst (λ s. IsLegal reply_at state_after s (operations call_numbers reply_numbers es)) c.requires.opened.1 e.legal)
+    (e.state ∙ ap (λ s. state_left state_after s (operations call_numbers reply_numbers es)) c.requires.opened.1)

@@ -1,0 +1,33 @@
+use Rattle.std.proofs.Common.{◌<◌, ◌≤◌, length, sum, slice_index, slice_index_or, refl, sym, ap, ◌∙◌, subst, arith}
+use Rattle.dir_table.specs.Directory.{Directory}
+use Rattle.dir_table.specs.Numbers.{state_numbers}
+use Rattle.shfl_cell.specs.Cells.{fresh, no_attr}
+use Rattle.shfl_workers.proofs.Numbered.{each_place}
+use Rattle.shfl_workers.proofs.cell_dir.ShflCellOfBookDirSharedDir.open.Goals as goal
+
+pub open-requires-clause-spare : goal.open-requires-clause-spare
+open-requires-clause-spare c =
+    let few = subst (λ l. sum l ≤ length c.args.trace.now.calls.items) (sym c.as_slice-counts.ensures.value) c.in_ok-shares.ensures.few in
+    subst (λ (d : Directory). sum c.as_slice-counts.result.now ≤ d.spare) (sym c.in_ok-dir.ensures) few
+
+pub returns-clause-opened : goal.returns-clause-opened
+returns-clause-opened c =
+    let e = c.in-Ok.ensures.cell in
+    (e.0 ∙ ap length c.as_slice-counts.ensures.value ∙ c.in_ok-shares.ensures.as_many, e.1 ∙ ap state_numbers c.in_ok-dir.ensures)
+
+pub returns-clause-room : goal.returns-clause-room
+returns-clause-room c = ap (λ s. slice_index s 0) (c.in-Ok.ensures.cell.1 ∙ ap state_numbers c.in_ok-dir.ensures)
+
+pub returns-clause-passes : goal.returns-clause-passes
+returns-clause-passes c =
+    let sh = c.in_ok-shares.ensures in let cell = c.in-Ok.opened.0 in let passes = c.in-Ok.opened.1 in
+    let counts = c.as_slice-counts.ensures.value in
+    let n = c.in-Ok.ensures.count in let ok = passes.ok.0 in let many = ap length counts ∙ sh.as_many in
+    each_place _ (λ k. fresh cell k (slice_index c.as_slice-counts.result.now k) (slice_index_or c.as_slice-attrs.result.now k no_attr)) passes.items
+    (λ k lt. c.in-Ok.ensures.passes k (omega (arith, lt, ok, n)))
+    (λ k lt. record {
+      of_dir = (refl, refl);
+      number_is = refl;
+      none_made = refl;
+      left_is = ap (λ l. slice_index l k) counts ∙ sh.each k (omega (arith, lt, ok, n, many));
+    })
