@@ -2,20 +2,26 @@
 #![tactic(auto)]
 
 ghost use Rattle.std.specs.Prelude.{◌≡◌};
-ghost use Rattle.shfl_core.specs.Plan as plan;
-ghost use Rattle.shfl_core.specs.Take as take;
 ghost use Rattle.shfl_core.specs.declared.phase.Nap.TheVariants.{Awake};
-ghost use Rattle.shfl_park.specs.Parking as parking;
 ghost use Rattle.shfl_park.specs.Parking.{parked, Spins};
 
-mod steps;
+mod seen;
 #[cfg(test)]
 mod tests;
 
-use crate::steps::{cleared, is_awake, nap_after, nap_plan, nap_take, with_spin};
-use shfl_core::{Access, Ask, Nap, Phase, Registers, Waiter, Watch};
-use shfl_line::Mode;
+use crate::seen::cleared;
+use shfl_core::asks::{is_moving, is_resting};
+use shfl_core::plans::plan_row;
+use shfl_core::rows::take_row;
+use shfl_core::{Access, Ask, Nap, PassState, Phase, Registers, Rules, Waiter, Watch};
+use shfl_line::{Form, Mode};
 use std::marker::Model;
+
+// Rules of a form that parks. Which form, and the limit, change no operation and no park state.
+const PARKING: Rules = Rules {
+    limit: 1,
+    form: Form::Park,
+};
 
 /// The waiter `inner`, with the steps of parking.
 #[derive(Drop)]
@@ -46,6 +52,17 @@ impl<W: Waiter> Parked<W> {
             nap: Nap::Awake,
         }
     }
+
+    // The phase and the registers of the waiter inside, with this one's park state.
+    fn stands(&self) -> PassState
+        ensures { result ≡ self.now.pass }
+    {
+        PassState {
+            phase: self.inner.phase(),
+            reg: self.inner.registers(),
+            nap: self.nap,
+        }
+    }
 }
 
 impl<W: Waiter> Waiter for Parked<W> {
@@ -56,25 +73,18 @@ impl<W: Waiter> Waiter for Parked<W> {
     }
 
     fn release(&mut self) -> bool {
-        if !is_awake(self.nap) {
-            return false;
-        }
-        self.inner.release()
+        is_resting(self.stands()) && self.inner.release()
     }
 
     fn moving(&self) -> bool {
-        match self.inner.phase() {
-            Phase::Idle => false,
-            Phase::Held => !matches!(self.nap, Nap::Awake),
-            _ => true,
-        }
+        is_moving(self.stands())
     }
 
     fn ask(&self) -> Ask {
-        if !is_awake(self.nap) {
-            return Ask::Nothing;
+        match self.nap {
+            Nap::Awake => self.inner.ask(),
+            _ => Ask::Nothing,
         }
-        self.inner.ask()
     }
 
     fn watch(&self) -> Watch {
@@ -94,29 +104,15 @@ impl<W: Waiter> Waiter for Parked<W> {
     }
 
     fn plan(&self) -> Access {
-        if !is_awake(self.nap) {
-            return nap_plan(self.nap, self.inner.registers().me);
-        }
-        with_spin(
-            self.inner.watch(),
-            self.inner.registers(),
-            self.inner.plan(),
-        )
+        plan_row(PARKING, self.inner.registers().me, self.stands())
     }
 
     fn take(&mut self, found: u64, choice: bool) {
-        if !is_awake(self.nap) {
-            self.nap = nap_take(self.nap, found);
-            return;
+        let pass = self.stands();
+        if let Nap::Awake = self.nap {
+            let seen = cleared(self.inner.plan(), found);
+            self.inner.take(seen, choice);
         }
-        let watch = self.inner.watch();
-        let seen = cleared(self.inner.plan(), found);
-        self.inner.take(seen, choice);
-        self.nap = nap_after(
-            watch,
-            found,
-            self.inner.phase(),
-            self.inner.registers().batch,
-        );
+        self.nap = take_row(PARKING, pass.reg.me, pass, found, choice).nap;
     }
 }
