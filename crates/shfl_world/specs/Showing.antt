@@ -41,3 +41,15 @@ pub record Sees (old new : Glance) (p : ℕ) (q : PassState) (node : NodeState) 
   pub flagged : new.flagged ≡ first_found old.flagged (is_queued q && node.shuffler) p
   pub linkers : (a : ℕ) → a < 64
       → slice_index new.linkers a ≡ first_found (slice_index old.linkers a) (is_linking q.phase && (q.reg.before == a)) p
+
+-- what a pass in the queue is doing was seen, and not what its state word says
+pub record SeesQueued (old new : Glance) (p : ℕ) (q : PassState) : Type 0 where
+  pub fore : new.fore ≡ first_found old.fore (is_fore q) p
+  pub relinker : new.relinker ≡ first_found old.relinker (has_hand q.phase) p
+  pub walker : new.walker ≡ first_found old.walker (is_round q.phase) p
+  pub linkers : (a : ℕ) → a < 64
+      → slice_index new.linkers a ≡ first_found (slice_index old.linkers a) (is_linking q.phase && (q.reg.before == a)) p
+  -- the others stay
+  pub granter : new.granter ≡ old.granter
+  pub called : new.called ≡ old.called
+  pub flagged : new.flagged ≡ old.flagged

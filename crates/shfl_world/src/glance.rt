@@ -1,7 +1,9 @@
 //! What a scan of the passes finds: by whom the rest of a line state is shown.
 ghost use Rattle.std.specs.Prelude.{◌≡◌, ◌<◌, true};
 ghost use Rattle.shfl_core.specs.Phases as phases;
+ghost use Rattle.shfl_core.specs.ShownLine.{is_ready};
 ghost use Rattle.shfl_core.specs.Worlds.{World};
+ghost use Rattle.shfl_world.specs.Showing as showing;
 
 use crate::phases::{has_hand, is_fore, is_linking, is_queued, is_round};
 use shfl_core::{PassState, Phase};
@@ -30,7 +32,7 @@ pub struct Glance {
 }
 
 impl Glance {
-    ghost use Rattle.shfl_world.specs.Showing.{Finds, Sees};
+    ghost use Rattle.shfl_world.specs.Showing.{Finds, Sees, SeesQueued};
 
     /// Nobody was seen yet.
     pub fn nobody() -> Glance
@@ -53,22 +55,64 @@ impl Glance {
         requires linked { phases.is_linking own.phase ≡ true → own.reg.before < 64 }
         ensures { Sees self.old self.new pass own node }
     {
-        let queued = is_queued(own);
-        let grants = matches!(own.phase, Phase::Ready);
-        self.granter = first_found(self.granter, grants, pass);
+        if is_queued(own) {
+            self.see_word(pass, node);
+            self.see_queued(pass, own);
+        } else {
+            self.see_away(pass, own);
+        }
+    }
+
+    // Sees a pass that isn't in the queue.
+    #[tactic(auto, using(crate::proofs::Seeing::not_found))]
+    fn see_away(&mut self, pass: u32, own: PassState)
+        requires few { pass < 64 }
+        ensures { self.new ≡ record self.old {
+          granter = showing.first_found self.old.granter (is_ready own.phase) pass;
+        } }
+    {
+        if matches!(own.phase, Phase::Ready) {
+            self.granter = first_found(self.granter, true, pass);
+        }
+    }
+
+    // Sees what the state word of a pass in the queue says.
+    #[tactic(auto, using(crate::proofs::Seeing::not_found))]
+    fn see_word(&mut self, pass: u32, node: NodeState)
+        requires few { pass < 64 }
+        ensures { self.new ≡ record self.old {
+          called = showing.first_found self.old.called node.ready pass;
+          flagged = showing.first_found self.old.flagged node.shuffler pass;
+        } }
+    {
+        if node.ready {
+            self.called = first_found(self.called, true, pass);
+        }
+        if node.shuffler {
+            self.flagged = first_found(self.flagged, true, pass);
+        }
+    }
+
+    // Sees what a pass in the queue is doing.
+    #[tactic(auto, using(crate::proofs::Seeing::not_found))]
+    fn see_queued(&mut self, pass: u32, own: PassState)
+        requires few { pass < 64 }
+        requires linked { phases.is_linking own.phase ≡ true → own.reg.before < 64 }
+        ensures { SeesQueued self.old self.new pass own }
+    {
+        // Most look at their state words, and nothing else is found by them.
+        if matches!(own.phase, Phase::Look) {
+            return;
+        }
         self.fore = first_found(self.fore, is_fore(own), pass);
-        self.called = first_found(self.called, queued && node.ready, pass);
         self.relinker = first_found(self.relinker, has_hand(own.phase), pass);
         self.walker = first_found(self.walker, is_round(own.phase), pass);
-        self.flagged = first_found(self.flagged, queued && node.shuffler, pass);
         if is_linking(own.phase) {
             let before = own.reg.before as usize;
             self.linkers[before] = first_found(self.linkers[before], true, pass);
         }
     }
 }
-
-ghost use Rattle.shfl_world.specs.Showing as showing;
 
 fn first_found(found: u32, test: bool, pass: u32) -> u32
     requires { pass < 64 }
