@@ -6,6 +6,7 @@ mod error;
 mod events;
 mod front;
 mod laws;
+mod parked_text;
 mod passes;
 mod queue_text;
 mod read;

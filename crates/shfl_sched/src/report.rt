@@ -1,19 +1,38 @@
 //! The lines of a line report, written behind what stands there.
-ghost use Rattle.std.specs.Prelude.{◌≡◌, ◌≤◌, ◌++◌, length, OnOk};
+ghost use Rattle.std.specs.Prelude.{◌≡◌, ◌≤◌, ◌++◌, [], true, None, length, codes, OnOk};
 ghost use Rattle.shfl_core.specs.ShownLine.{shown_line};
-ghost use Rattle.shfl_sched.specs.ReportParts.{parked_text};
+ghost use Rattle.shfl_line.specs.declared.events.Role.TheVariants.{Nobody};
+ghost use Rattle.shfl_sched.specs.ReportParts.{queue_text, hand_text, role_text};
 ghost use Rattle.shfl_sched.specs.Report.{version_text, sizes_text, heading_text, event_text, state_text, asleep_text, row, totals_text};
 
+use crate::parked_text::ParkedText;
 use crate::queue_text::QueueText;
 use crate::report_parts::{
-    act_name, answer_name, form_name, push_hand, push_hold, push_number, push_role,
+    form_name, push_act, push_answer, push_hand, push_hold, push_number, push_role,
 };
 use crate::schedule::{Event, Schedule};
 use bpf_isa::Profile;
 use policy_text::push_version;
 use shfl_core::Board;
-use shfl_line::{Form, LineState, NoMemory};
-use std::alloc::AllocError;
+use shfl_line::{Form, LineState, NoMemory, Role};
+use std::alloc::{AllocError, Global};
+
+/// What is kept from one row to the next.
+#[derive(Drop)]
+pub struct RowTexts {
+    queue: QueueText,
+    parked: ParkedText,
+}
+
+impl RowTexts {
+    /// No row was written yet.
+    pub fn nothing(alloc: Global) -> RowTexts {
+        RowTexts {
+            queue: QueueText::nothing(alloc),
+            parked: ParkedText::nothing(alloc),
+        }
+    }
+}
 
 #[tactic(auto, unfolding(crate::specs::Report::version_text))]
 fn push_name(out: &mut Vec<u8>, version: u8, profile: Profile) -> Result<(), NoMemory>
@@ -58,12 +77,39 @@ fn push_event(
     ensures { OnOk result (out.new.items ≡ out.old.items ++ event_text number event admitted) }
 {
     push_number(out, u64::from(number))?;
-    out.extend_from_slice(b" ")?;
-    out.extend_from_slice(act_name(event.act))?;
-    out.extend_from_slice(b" ")?;
+    push_act(out, event.act)?;
     push_number(out, u64::from(event.pass))?;
-    out.extend_from_slice(b" ")?;
-    out.extend_from_slice(answer_name(admitted))
+    push_answer(out, admitted)
+}
+
+// Whether nobody waits, and nobody is detached or shuffles.
+fn is_quiet(state: &LineState) -> bool
+    ensures line { result ≡ true → state.now.line ≡ [] }
+    ensures hand { result ≡ true → state.now.hand ≡ None }
+    ensures role { result ≡ true → state.now.role ≡ Nobody }
+{
+    state.line().is_empty() && state.hand().is_none() && matches!(*state.role(), Role::Nobody)
+}
+
+// The queue, the detached waiter and the shuffler.
+fn push_waiting(
+    out: &mut Vec<u8>,
+    state: &LineState,
+    queue: &mut QueueText,
+) -> Result<(), AllocError>
+    ensures { let s = state.now in OnOk result (out.new.items
+        ≡ out.old.items ++ codes " line " ++ queue_text s
+        ++ codes " hand " ++ hand_text s.hand ++ codes " role " ++ role_text s.role) }
+{
+    if is_quiet(state) {
+        return out.extend_from_slice(b" line - hand - role -");
+    }
+    out.extend_from_slice(b" line ")?;
+    queue.push(out, state)?;
+    out.extend_from_slice(b" hand ")?;
+    push_hand(out, state.hand())?;
+    out.extend_from_slice(b" role ")?;
+    push_role(out, *state.role())
 }
 
 #[tactic(auto, unfolding(crate::specs::Report::state_text))]
@@ -79,34 +125,7 @@ fn push_state(
     push_number(out, word)?;
     out.extend_from_slice(b" hold ")?;
     push_hold(out, state.hold())?;
-    out.extend_from_slice(b" line ")?;
-    queue.push(out, state)?;
-    out.extend_from_slice(b" hand ")?;
-    push_hand(out, state.hand())?;
-    out.extend_from_slice(b" role ")?;
-    push_role(out, *state.role())
-}
-
-/// The parked passes of a lock of so many, with commas between them.
-fn push_parked<B: Board>(out: &mut Vec<u8>, board: &B, passes: u32) -> Result<(), AllocError>
-    requires { length (B.meaning board.now).world.passes ≡ passes }
-    ensures { OnOk result (out.new.items
-        ≡ out.old.items ++ parked_text (B.meaning board.now).world) }
-{
-    let mut none = true;
-    for pass in 0..passes {
-        if board.asleep(pass) {
-            if !none {
-                out.extend_from_slice(b",")?;
-            }
-            push_number(out, u64::from(pass))?;
-            none = false;
-        }
-    }
-    if none {
-        out.extend_from_slice(b"-")?;
-    }
-    Ok(())
+    push_waiting(out, state, queue)
 }
 
 #[tactic(auto, unfolding(crate::specs::Report::asleep_text))]
@@ -115,6 +134,7 @@ fn push_asleep<B: Board>(
     form: Form,
     board: &B,
     passes: u32,
+    parked: &mut ParkedText,
 ) -> Result<(), AllocError>
     requires { length (B.meaning board.now).world.passes ≡ passes }
     ensures { OnOk result (out.new.items
@@ -124,7 +144,7 @@ fn push_asleep<B: Board>(
         Form::Spin | Form::Rw => Ok(()),
         Form::Park | Form::RwPark => {
             out.extend_from_slice(b" asleep ")?;
-            push_parked(out, board, passes)
+            parked.push(out, board, passes)
         }
     }
 }
@@ -139,7 +159,7 @@ pub fn push_row<B: Board>(
     admitted: bool,
     board: &mut B,
     state: &LineState,
-    queue: &mut QueueText,
+    texts: &mut RowTexts,
 ) -> Result<(), AllocError>
     requires few { length (B.meaning board.old).world.passes ≤ 64 }
     requires shown { state.now ≡ shown_line (B.meaning board.old).world }
@@ -148,8 +168,14 @@ pub fn push_row<B: Board>(
     ensures unchanged { B.meaning board.new ≡ B.meaning board.old }
 {
     push_event(out, number, event, admitted)?;
-    push_state(out, board.word(), state, queue)?;
-    push_asleep(out, form, board, state.mark().len() as u32)?;
+    push_state(out, board.word(), state, &mut texts.queue)?;
+    push_asleep(
+        out,
+        form,
+        board,
+        state.mark().len() as u32,
+        &mut texts.parked,
+    )?;
     out.extend_from_slice(b"\n")
 }
 

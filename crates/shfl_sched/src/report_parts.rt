@@ -1,5 +1,5 @@
 //! The texts of a line report's parts, written behind what stands there.
-ghost use Rattle.std.specs.Prelude.{◌≡◌, ◌++◌, ◌<◌, ℕ, length, map, OnOk, decimal};
+ghost use Rattle.std.specs.Prelude.{◌≡◌, ◌++◌, ◌+◌, ◌<◌, ◌≤◌, ℕ, length, map, OnOk, codes, decimal};
 ghost use Rattle.shfl_sched.specs.ReportParts.{form_text, act_text, answer_text, mode_text, hand_text, role_text, listed, holder_text, waiter_text};
 
 use crate::schedule::Act;
@@ -18,42 +18,102 @@ pub fn form_name(form: Form) -> &'static [u8]
     }
 }
 
-pub fn act_name(act: Act) -> &'static [u8]
-    ensures { result.now ≡ act_text act }
+// Each of the next three writes pieces whose lengths are known where it is compiled, so that they are stored and not copied.
+
+/// Writes the act between blanks.
+pub fn push_act(out: &mut Vec<u8>, act: Act) -> Result<(), AllocError>
+    ensures { OnOk result (out.new.items
+        ≡ out.old.items ++ codes " " ++ act_text act ++ codes " ") }
 {
     match act {
-        Act::Write => b"write",
-        Act::Read => b"read",
-        Act::Free => b"free",
-        Act::Step => b"step",
+        Act::Write => out.extend_from_slice(b" write "),
+        Act::Read => out.extend_from_slice(b" read "),
+        Act::Free => out.extend_from_slice(b" free "),
+        Act::Step => out.extend_from_slice(b" step "),
     }
 }
 
-pub fn answer_name(admitted: bool) -> &'static [u8]
-    ensures { result.now ≡ answer_text admitted }
+/// Writes the answer behind a blank.
+pub fn push_answer(out: &mut Vec<u8>, admitted: bool) -> Result<(), AllocError>
+    ensures { OnOk result (out.new.items ≡ out.old.items ++ codes " " ++ answer_text admitted) }
 {
-    if admitted { b"yes" } else { b"no" }
+    if admitted {
+        out.extend_from_slice(b" yes")
+    } else {
+        out.extend_from_slice(b" no")
+    }
 }
 
-fn mode_name(mode: Mode) -> &'static [u8]
-    ensures { result.now ≡ mode_text mode }
+fn push_mode(out: &mut Vec<u8>, mode: Mode) -> Result<(), AllocError>
+    ensures { OnOk result (out.new.items ≡ out.old.items ++ mode_text mode) }
 {
     match mode {
-        Mode::Write => b"w",
-        Mode::Read => b"r",
+        Mode::Write => out.extend_from_slice(b"w"),
+        Mode::Read => out.extend_from_slice(b"r"),
     }
 }
 
-/// Writes a number in decimal; those below a hundred, which are the most, without a detour.
+fn digit(n: u64) -> u8
+    requires { n < 10 }
+    ensures { result ≡ 48 + n }
+{
+    b'0' + n as u8
+}
+
+#[tactic(auto, using(crate::proofs::Decimals::digit_rules))]
+fn push_three(out: &mut Vec<u8>, n: u64) -> Result<(), AllocError>
+    requires { (100 ≤ n) × (n < 1000) }
+    ensures { OnOk result (out.new.items ≡ out.old.items ++ decimal n) }
+{
+    out.extend_from_slice(&[digit(n / 10 / 10), digit(n / 10 % 10), digit(n % 10)])
+}
+
+#[tactic(auto, using(crate::proofs::Decimals::digit_rules))]
+fn push_four(out: &mut Vec<u8>, n: u64) -> Result<(), AllocError>
+    requires { (1000 ≤ n) × (n < 10000) }
+    ensures { OnOk result (out.new.items ≡ out.old.items ++ decimal n) }
+{
+    out.extend_from_slice(&[
+        digit(n / 10 / 10 / 10),
+        digit(n / 10 / 10 % 10),
+        digit(n / 10 % 10),
+        digit(n % 10),
+    ])
+}
+
+#[tactic(auto, using(crate::proofs::Decimals::digit_rules))]
+fn push_five(out: &mut Vec<u8>, n: u64) -> Result<(), AllocError>
+    requires { (10000 ≤ n) × (n < 100000) }
+    ensures { OnOk result (out.new.items ≡ out.old.items ++ decimal n) }
+{
+    out.extend_from_slice(&[
+        digit(n / 10 / 10 / 10 / 10),
+        digit(n / 10 / 10 / 10 % 10),
+        digit(n / 10 / 10 % 10),
+        digit(n / 10 % 10),
+        digit(n % 10),
+    ])
+}
+
+/// Writes a number in decimal; those of at most five digits, which are the most, without a detour.
 #[tactic(auto, using(crate::proofs::Decimals::digit_rules))]
 pub fn push_number(out: &mut Vec<u8>, n: u64) -> Result<(), AllocError>
     ensures { OnOk result (out.new.items ≡ out.old.items ++ decimal n) }
 {
     if n < 10 {
-        return out.extend_from_slice(&[b'0' + n as u8]);
+        return out.extend_from_slice(&[digit(n)]);
     }
     if n < 100 {
-        return out.extend_from_slice(&[b'0' + (n / 10) as u8, b'0' + (n % 10) as u8]);
+        return out.extend_from_slice(&[digit(n / 10), digit(n % 10)]);
+    }
+    if n < 1_000 {
+        return push_three(out, n);
+    }
+    if n < 10_000 {
+        return push_four(out, n);
+    }
+    if n < 100_000 {
+        return push_five(out, n);
     }
     push_decimal(out, n)
 }
@@ -61,7 +121,7 @@ pub fn push_number(out: &mut Vec<u8>, n: u64) -> Result<(), AllocError>
 fn push_holder(out: &mut Vec<u8>, holder: (u32, Mode)) -> Result<(), AllocError>
     ensures { OnOk result (out.new.items ≡ out.old.items ++ holder_text holder) }
 {
-    out.extend_from_slice(mode_name(holder.1))?;
+    push_mode(out, holder.1)?;
     push_number(out, u64::from(holder.0))
 }
 
@@ -102,6 +162,22 @@ pub fn push_queue(out: &mut Vec<u8>, marks: &[u16], line: &[u32]) -> Result<(), 
     for pass in others {
         out.extend_from_slice(b",")?;
         push_waiter(out, marks, *pass)?;
+    }
+    Ok(())
+}
+
+/// The passes, with commas between them.
+pub fn push_passes(out: &mut Vec<u8>, passes: &[u32]) -> Result<(), AllocError>
+    ensures { OnOk result (out.new.items
+        ≡ out.old.items ++ listed (map decimal passes.now)) }
+{
+    let Some((first, others)) = passes.split_first() else {
+        return out.extend_from_slice(b"-");
+    };
+    push_number(out, u64::from(*first))?;
+    for pass in others {
+        out.extend_from_slice(b",")?;
+        push_number(out, u64::from(*pass))?;
     }
     Ok(())
 }

@@ -9,8 +9,7 @@ ghost use Rattle.shfl_sched.specs.Schedules.{IsWithin, IsEventOf};
 ghost use Rattle.shfl_sched.specs.Run.{rules_of, setup_of, choice_at, move_in, lock_after};
 ghost use Rattle.shfl_sched.specs.Report.{line_report};
 
-use crate::queue_text::QueueText;
-use crate::report::{push_heading, push_row, push_totals};
+use crate::report::{RowTexts, push_heading, push_row, push_totals};
 use crate::schedule::{Act, Event, Rule, Schedule};
 use shfl_core::{Ask, Board};
 use shfl_line::{Attr, Chooser, LineState, Mode, NoMemory};
@@ -106,7 +105,7 @@ pub fn run_schedule<B: Board>(
     push_heading(&mut text, schedule)?;
     let mut state = LineState::open(alloc, schedule.passes.len() as u32)?;
     board.show(&mut state);
-    let mut queue = QueueText::nothing(alloc);
+    let mut texts = RowTexts::nothing(alloc);
     let mut yes: u32 = 0;
     let mut no: u32 = 0;
     for event in &schedule.events {
@@ -119,7 +118,7 @@ pub fn run_schedule<B: Board>(
             admitted,
             board,
             &state,
-            &mut queue,
+            &mut texts,
         )?;
         if admitted {
             yes += 1;
