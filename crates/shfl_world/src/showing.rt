@@ -7,7 +7,7 @@ ghost use Rattle.shfl_core.specs.Words.{look};
 ghost use Rattle.shfl_line.specs.Line.{empty, holds};
 ghost use Rattle.shfl_line.specs.Words.{state_of};
 ghost use Rattle.shfl_world.specs.LawfulLock.{IsLawfulLock};
-ghost use Rattle.shfl_world.specs.Showing.{FindsAll};
+ghost use Rattle.shfl_world.specs.Showing.{Finds, FindsAll};
 
 use crate::glance::Glance;
 use crate::phases::is_holding;
@@ -45,21 +45,20 @@ fn show_holder(out: &mut LineState, pass: u32, own: PassState)
     }
 }
 
-// Shows the holders, and finds by whom the rest is shown.
-fn scan<S: Sight>(lock: &S, out: &mut LineState) -> Glance
+// Shows the holders, and finds by whom the rest is shown. What is found is written in place, since a move of it would be a copy.
+fn scan<S: Sight>(lock: &S, out: &mut LineState, found: &mut Glance)
     requires lawful { IsLawfulLock (S.meaning lock.now) }
     requires blank { out.old ≡ empty (length (S.meaning lock.now).world.passes) }
+    requires nobody { Finds (S.meaning lock.now).world 0 found.old }
     ensures hold { out.new
         ≡ record out.old { hold = (shown_line (S.meaning lock.now).world).hold } }
-    ensures found { FindsAll (S.meaning lock.now) result }
+    ensures found { FindsAll (S.meaning lock.now) found.new }
 {
-    let mut found = Glance::nobody();
     for pass in 0..count_of(lock) {
         let own = lock.stands(pass);
         show_holder(out, pass, own);
         found.see(pass, own, node_of(lock, pass));
     }
-    found
 }
 
 // The queue's head plus 1, or 0.
@@ -148,7 +147,8 @@ pub fn show<S: Sight>(lock: &S, out: &mut LineState)
     ensures { out.new ≡ shown_line (S.meaning lock.now).world }
 {
     out.clear();
-    let found = scan(lock, out);
+    let mut found = Glance::nobody();
+    scan(lock, out, &mut found);
     show_queue(lock, &found, out);
     out.set(detached(lock, &found), role(&found));
 }
