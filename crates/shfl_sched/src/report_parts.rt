@@ -95,14 +95,12 @@ fn push_five(out: &mut Vec<u8>, n: u64) -> Result<(), AllocError>
     ])
 }
 
-/// Writes a number in decimal; those of at most five digits, which are the most, without a detour.
+// Writes a number of two digits or more; those of at most five, which are the most, without a detour.
 #[tactic(auto, using(crate::proofs::Decimals::digit_rules))]
-pub fn push_number(out: &mut Vec<u8>, n: u64) -> Result<(), AllocError>
+fn push_long(out: &mut Vec<u8>, n: u64) -> Result<(), AllocError>
+    requires { 10 ≤ n }
     ensures { OnOk result (out.new.items ≡ out.old.items ++ decimal n) }
 {
-    if n < 10 {
-        return out.extend_from_slice(&[digit(n)]);
-    }
     if n < 100 {
         return out.extend_from_slice(&[digit(n / 10), digit(n % 10)]);
     }
@@ -116,6 +114,18 @@ pub fn push_number(out: &mut Vec<u8>, n: u64) -> Result<(), AllocError>
         return push_five(out, n);
     }
     push_decimal(out, n)
+}
+
+/// Writes a number in decimal.
+#[tactic(auto, using(crate::proofs::Decimals::digit_rules))]
+#[inline(always)]
+pub fn push_number(out: &mut Vec<u8>, n: u64) -> Result<(), AllocError>
+    ensures { OnOk result (out.new.items ≡ out.old.items ++ decimal n) }
+{
+    if n < 10 {
+        return out.extend_from_slice(&[digit(n)]);
+    }
+    push_long(out, n)
 }
 
 fn push_holder(out: &mut Vec<u8>, holder: (u32, Mode)) -> Result<(), AllocError>
