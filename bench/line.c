@@ -161,10 +161,11 @@ static void read_events(void)
 	}
 }
 
-int main(void)
+int main(int count, char **words)
 {
 	unsigned yes = 0;
 
+	whole = count == 2 && strcmp(words[1], "whole") == 0;
 	read_input();
 	read_front();
 	read_passes();

@@ -46,6 +46,9 @@ extern unsigned tail, next[PASSES];
 
 extern const char *const form_names[];
 
+// The report is kept until it is whole, and nothing of it is written where memory runs out.
+extern bool whole;
+
 static inline bool parks(void)
 {
 	return form == FORM_PARK || form == FORM_RW_PARK;

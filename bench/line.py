@@ -54,9 +54,9 @@ def compare_examples(program, peer, examples):
 
 
 def side_by_side(program, peer, text):
-    """The best of eleven runs of each, in turn, so that what else the machine does falls on both."""
-    pairs = [(best([program, "line"], text, 1), best([peer], text, 1)) for _ in range(11)]
-    return [(min(r[0] for r in runs), min(r[1] for r in runs), max(r[2] for r in runs), runs[0][3]) for runs in zip(*pairs)]
+    """The best of eleven runs of each, in turn, so that what else the machine does falls on all."""
+    turns = [[best(words, text, 1) for words in ([program, "line"], [peer], [peer, "whole"])] for _ in range(11)]
+    return [(min(r[0] for r in runs), min(r[1] for r in runs), max(r[2] for r in runs), runs[0][3]) for runs in zip(*turns)]
 
 
 def main(room, program, examples):
@@ -67,10 +67,11 @@ def main(room, program, examples):
         path = f"{room}/schedule"
         with open(path, "w") as document:
             document.write(text)
-        ours, theirs = side_by_side(program, peer, path)
-        if ours[3] != theirs[3]:
-            sys.exit(f"{what}: the two programs write different bytes")
-        row(what, ours, theirs)
+        ours, pieces, whole = side_by_side(program, peer, path)
+        if not ours[3] == pieces[3] == whole[3]:
+            sys.exit(f"{what}: the programs write different bytes")
+        row(what, ours, pieces)
+        row("    beside one that keeps it whole", ours, whole)
 
 
 main(*sys.argv[1:])

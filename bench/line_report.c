@@ -17,10 +17,12 @@ static const uint8_t traits[PHASES] = {
 	[MAKE_READY] = HOLDS, [OPEN] = HOLDS, [HOLD] = HOLDS, [RELEASE] = HOLDS, [READ_RELEASE] = HOLDS,
 };
 
-// A row has no more bytes than ROW, and the buffer is written out where another might not fit.
+// A row has no more bytes than ROW. Where another might not fit, the buffer is written out, or, where the whole is kept, made longer.
 #define ROW 2048
-static char buffer[65536 + ROW];
-static char *out = buffer;
+static char first[65536 + ROW];
+static char *buffer = first, *out = first;
+static size_t room = 65536;
+bool whole;
 
 static void flush(void)
 {
@@ -29,6 +31,25 @@ static void flush(void)
 	if (fwrite(buffer, 1, length, stdout) != length)
 		exit(4);
 	out = buffer;
+}
+
+static void make_room(void)
+{
+	size_t length = out - buffer;
+	char *longer;
+
+	if (!whole) {
+		flush();
+		return;
+	}
+	room *= 2;
+	longer = realloc(buffer == first ? NULL : buffer, room + ROW);
+	if (!longer)
+		exit(5);
+	if (buffer == first)
+		memcpy(longer, first, length);
+	buffer = longer;
+	out = longer + length;
 }
 
 static inline void put(const char *text)
@@ -181,8 +202,8 @@ void put_row(unsigned number, struct event e, bool admitted)
 		put_asleep();
 	}
 	put_char('\n');
-	if (out >= buffer + 65536)
-		flush();
+	if (out >= buffer + room)
+		make_room();
 }
 
 void put_heading(void)
