@@ -1,5 +1,9 @@
 pub mod Shapes
 pub mod Sorting
+pub mod Placing
+pub mod Gathering
+pub mod InOrder
+pub mod OtherPlaces
 pub mod PolicyLoop
 pub mod CallLoop
 pub mod Sections

@@ -1,16 +1,14 @@
--- Names in order: what a search among them finds, and how a loop keeps each once.
-use Rattle.std.proofs.Common.{◌≡◌, ◌≢◌, ℕ, zero, suc, ◌+◌, ◌-◌, ◌<◌, ◌≤◌, ◌⊎◌, inl, inr, List, [], ◌∷◌, ◌++◌, length, map, get_or, take, false, Option, Some, None, Result, Ok, Err, refl, sym, ap, ◌∙◌, subst, arith, length-append}
-use Rattle.std.specs.Prelude.{All, Contains, IfOk, OnSome}
-use Rattle.std.specs.List.{HoldsAt, AllWithin}
-use Rattle.std.specs.List.Sorted.{IsSorted, IsSortedBy, IsPermutation}
-use Rattle.std.proofs.lemmas.List.Sorted.{IsPermutation-sym, IsPermutation-map, Contains-permutation}
+-- Names in order: how a loop keeps each once.
+use Rattle.std.proofs.Common.{◌≡◌, ℕ, zero, suc, ◌+◌, ◌-◌, ◌<◌, ◌≤◌, ◌⊎◌, inl, inr, List, [], ◌∷◌, ◌++◌, length, map, get_or, take, false, Option, Some, None, Result, Ok, Err, refl, sym, ap, ◌∙◌, subst, arith, length-append}
+use Rattle.std.specs.Prelude.{Contains, IfOk, OnSome}
+use Rattle.std.specs.List.Sorted.{IsSorted, IsSortedBy}
 use Rattle.std.specs.Ordering.{nat_cmp, is_lt, ordering_reverse}
 use Rattle.std.specs.Cmp.Lexicographic.{slice_cmp}
 use Rattle.std.specs.declared.cmp.Ordering.{Ordering}
 use Rattle.std.specs.declared.cmp.Ordering.TheVariants.{Less, Equal, Greater}
-use Rattle.std.proofs.lemmas.Cmp.{nat_list_cmp_total, tied_itself}
+use Rattle.std.proofs.lemmas.Cmp.{nat_list_cmp_total}
 use Rattle.std.proofs.lemmas.Map.Lookups.{exact_bytes}
-use Rattle.std.proofs.lemmas.List.{take_more, get_or-map, get_or_read_under}
+use Rattle.std.proofs.lemmas.List.{take_more, get_or-map}
 use Rattle.std.proofs.lemmas.Bool.{cases_lt}
 use Rattle.std.proofs.lemmas.List.Elements.{Contains-append_left, Contains-append_right, Contains-append_cases}
 use Rattle.std.proofs.Math.ListN.{get_or-append}
@@ -20,44 +18,6 @@ use Rattle.trace_text.specs.Names.{AreRisingBy, EndsWith, SameMembers}
 
 abbrev cmp : List ℕ → List ℕ → Ordering
 cmp a b = slice_cmp nat_cmp a b
-
--- ---- searching
-
-module _ {X : Type 0} (bytes : X → List ℕ) (xs : List X) where
-  -- the name in the middle is less than the one that is sought, and so are those before it
-  pub less_up_to : AreRisingBy bytes xs → (x : List ℕ) (i : ℕ) → i < length xs → HoldsAt (λ y. cmp (bytes y) x ≡ Less) xs i → AllWithin (λ y. cmp (bytes y) x ≡ Less) xs 0 (i + 1)
-  less_up_to rising x i lt here k d low high = by_place (cases_lt k i)
-    where
-      by_place : (k < i) ⊎ (i ≤ k) → cmp (bytes (get_or xs k d)) x ≡ Less
-      by_place (inl below) = nat_list_cmp_total.trans (bytes (get_or xs k d)) (bytes (get_or xs i d)) x (rising k i d below lt) (here d)
-      by_place (inr above) = let e : k ≡ i = omega arith in rw e (here d)
-
-  -- the name in the middle is greater, and so are those behind it
-  pub greater_from : AreRisingBy bytes xs → (x : List ℕ) (i : ℕ) → i < length xs → HoldsAt (λ y. cmp (bytes y) x ≡ Greater) xs i → AllWithin (λ y. cmp (bytes y) x ≡ Greater) xs i (length xs)
-  greater_from rising x i lt here k d low high = by_place (cases_lt i k)
-    where
-      back : cmp x (bytes (get_or xs i d)) ≡ Less
-      back = nat_list_cmp_total.antisymm x (bytes (get_or xs i d)) ∙ ap ordering_reverse (here d)
-
-      by_place : (i < k) ⊎ (k ≤ i) → cmp (bytes (get_or xs k d)) x ≡ Greater
-      by_place (inl above) =
-          let less = nat_list_cmp_total.trans x (bytes (get_or xs i d)) (bytes (get_or xs k d)) back (rising i k d above high) in
-          nat_list_cmp_total.antisymm (bytes (get_or xs k d)) x ∙ ap ordering_reverse less
-      by_place (inr below) = let e : k ≡ i = omega arith in rw e (here d)
-
-  pub place-found : (x : List ℕ) (i : ℕ) → HoldsAt (λ y. cmp (bytes y) x ≡ Equal) xs i → HoldsAt (λ y. bytes y ≡ x) xs i
-  place-found x i h = λ d. exact_bytes (bytes (get_or xs i d)) x (h d)
-
-  -- all are less or greater
-  pub place-absent : (x : List ℕ) (low high : ℕ) → high ≤ low → AllWithin (λ y. cmp (bytes y) x ≡ Less) xs 0 low → AllWithin (λ y. cmp (bytes y) x ≡ Greater) xs high (length xs) → All (λ y. bytes y ≢ x) xs
-  place-absent x low high over less greater = λ i d lt e. by_side i d lt e (cases_lt i low)
-    where
-      equal : (i : ℕ) (d : X) → bytes (get_or xs i d) ≡ x → cmp (bytes (get_or xs i d)) x ≡ Equal
-      equal i d e = ap (λ (y : List ℕ). cmp y x) e ∙ tied_itself nat_list_cmp_total x
-
-      by_side : (i : ℕ) (d : X) → i < length xs → bytes (get_or xs i d) ≡ x → (i < low) ⊎ (low ≤ i) → ⊥
-      by_side i d lt e (inl h) = let l = less i d (omega arith) h in let q = equal i d e in cc
-      by_side i d lt e (inr h) = let g = greater i d (omega arith) lt in let q = equal i d e in cc
 
 -- ---- keeping each once
 
@@ -198,13 +158,6 @@ sorted-map bytes (x ∷ xs) h k d low high =
     let long = length-map (x ∷ xs) bytes in
     rw (get_or-map bytes (x ∷ xs) (k + 1) x d (omega (arith, long, high)), get_or-map bytes (x ∷ xs) k x d (omega (arith, long, high))) (h k x low (omega (arith, long, high)))
 
-pub same-permutation : (ns ms ks : List (List ℕ)) → IsPermutation ns ms → SameMembers ms ks → SameMembers ns ks
-same-permutation ns ms ks p s n = (λ h. (s n).0 (Contains-permutation ns ms n p h), λ h. Contains-permutation ms ns n (IsPermutation-sym ns ms p) ((s n).1 h))
-
--- what holds of the element that was read holds at its place
-pub holds-at : {X : Type 0} (P : X → Type 0) (xs : List X) (i : ℕ) (x : X) → x ≡ get_or xs i x → i < length xs → P x → HoldsAt P xs i
-holds-at P xs i x is lt h = λ d. subst P (get_or_read_under xs i (length xs) x d is lt refl) h
-
 -- the bytes of the element at i
 pub bytes_at : {X : Type 0} (bytes : X → List ℕ) (xs : List X) (i : ℕ) (d : X) → i < length xs → get_or (map bytes xs) i [] ≡ bytes (get_or xs i d)
 bytes_at bytes xs i d lt = get_or-map bytes xs i d [] lt
@@ -224,23 +177,14 @@ module _ {X Y : Type 0} (bytes : X → List ℕ) (now : Y → List ℕ) (parts :
   pub all-same : (kept : List X) (i : ℕ) → length parts ≤ i → Keeps bytes (map now parts) i kept → SameMembers (map now parts) (map bytes kept)
   all-same kept i all k = keeps-all bytes (map now parts) kept i (omega (arith, length-map parts now)) k
 
-pub same-permuted : {Y : Type 0} (now : Y → List ℕ) (some others : List Y) (ks : List (List ℕ)) → IsPermutation some others → SameMembers (map now others) ks → SameMembers (map now some) ks
-same-permuted now some others ks p s = same-permutation (map now some) (map now others) ks (IsPermutation-map now some others p) s
-
 pub ok_then : {V E : Type 0} (r : Result V E) (P Q : V → Type 0) → ((v : V) → P v → Q v) → IfOk r P → IfOk r Q
 ok_then (Ok v) P Q f h = f v h
 ok_then (Err e) P Q f h = tt
 
+pub ok_both : {V E : Type 0} (r : Result V E) (P Q R : V → Type 0) → ((v : V) → P v → Q v → R v) → IfOk r P → IfOk r Q → IfOk r R
+ok_both (Ok v) P Q R f h k = f v h k
+ok_both (Err e) P Q R f h k = tt
+
 pub ok_some : {X : Type 0} {P : Type 0} (o : Option X) (x : X) → o ≡ Some x → OnSome o P → P
 ok_some (Some y) x e h = h
 ok_some None x e h = cc
-
-pub at_holds : {X : Type 0} (bytes : X → List ℕ) (xs : List X) (k : ℕ) (n : List ℕ) → k < length xs → HoldsAt (λ y. bytes y ≡ n) xs k → get_or (map bytes xs) k [] ≡ n
-at_holds bytes [] k n lt h = absurd (omega (arith, lt))
-at_holds bytes (x ∷ xs) k n lt h = bytes_at bytes (x ∷ xs) k x lt ∙ h x
-
-pub absent-contains : {X : Type 0} (bytes : X → List ℕ) (xs : List X) (n : List ℕ) → All (λ y. bytes y ≢ n) xs → Contains (map bytes xs) n → ⊥
-absent-contains bytes [] n h (k, lt, e) = absurd (omega (arith, lt))
-absent-contains bytes (x ∷ xs) n h (k, lt, e) =
-    let inside : k < length (x ∷ xs) = omega (arith, lt, length-map (x ∷ xs) bytes) in
-    h k x inside (sym (get_or-map bytes (x ∷ xs) k x n inside) ∙ e)

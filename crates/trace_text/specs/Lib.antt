@@ -7,6 +7,7 @@ pub mod Limits
 pub mod Spelled
 pub mod Names
 pub mod Traces
+pub mod Places
 pub mod InMemory
 pub mod Errors
 pub mod Report

@@ -5,8 +5,7 @@ ghost use Rattle.trace_text.specs.Names.{AreRisingBy, SameMembers};
 ghost use Rattle.trace_text.specs.Spelled.{call_names, call_said, act_said};
 ghost use Rattle.trace_text.specs.Traces.{document_of, names_of, policy_of, name_at, IsWithin};
 
-use crate::names::distinct;
-use crate::numbering::{names_in, numbered};
+use crate::numbering::number_calls;
 use crate::spelled::{SpelledAct, SpelledCall};
 use crate::trace::{NamedSource, Trace};
 use bpf_isa::Profile;
@@ -42,11 +41,9 @@ pub fn generate(alloc: Global, seed: u64, workers: u32, calls: u32) -> Result<Tr
     let table = name_table(alloc)?;
     let policies = both_policies(alloc)?;
     let spelled = spelled_calls(alloc, &table, seed, workers, calls)?;
-    let names = distinct(alloc, names_in(alloc, spelled.as_slice())?)?;
-    let calls = numbered(
+    let numbered = number_calls(
         alloc,
         workers as usize,
-        names.as_slice(),
         policies.as_slice(),
         spelled.as_slice(),
     )?;
@@ -55,8 +52,8 @@ pub fn generate(alloc: Global, seed: u64, workers: u32, calls: u32) -> Result<Tr
         profile: Profile::One,
         workers: attributes(alloc, workers)?,
         policies,
-        names,
-        calls,
+        names: numbered.names,
+        calls: numbered.calls,
     })
 }
 

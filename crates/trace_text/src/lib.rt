@@ -3,14 +3,18 @@
 
 mod calls;
 mod error;
+mod gathered;
+#[cfg(test)]
+mod gathered_tests;
 #[cfg(test)]
 mod generated_tests;
 mod generator;
 mod laws;
-mod names;
 mod numbering;
+mod ordered;
 mod policies;
 mod read;
+mod renumbering;
 mod reports;
 mod shape;
 mod spelled;

@@ -1,70 +1,23 @@
-ghost use Rattle.std.specs.Prelude.{◌≡◌, ◌<◌, ◌≤◌, ◌+◌, ◌*◌, ◌++◌, ◌^◌, ℕ, [], List, length, map, true, IfOk, OnOk, MatchOption, IfSome, Contains};
+//! The calls of a trace by the places of their names and policies.
+ghost use Rattle.std.specs.Prelude.{◌≡◌, ◌<◌, ◌≤◌, ◌*◌, [], ◌∷◌, List, length, map, true, IfOk, OnOk, MatchOption, IfSome};
 ghost use Rattle.std.specs.List.{AllByRecursion};
+ghost use Rattle.trace_text.specs.Document.{rename};
 ghost use Rattle.trace_text.specs.Names.{AreRisingBy, SameMembers};
 ghost use Rattle.trace_text.specs.Lines.{is_declared, is_in_range, may_do, is_attach};
+ghost use Rattle.trace_text.specs.Places.{ArePutBehind};
 ghost use Rattle.trace_text.specs.Spelled.{act_said, call_said, MayBe, act_names, call_names};
 ghost use Rattle.trace_text.specs.Traces.{policy_of, name_at, dir_act, act_of, call_of, IsActOf, IsCallOf};
 ghost use Rattle.dir_table.specs.Meanings.{IsAdmitted};
 
-use crate::names::place_of;
+use crate::gathered::Gathered;
+use crate::ordered::put_in_order;
+use crate::renumbering::renumber;
 use crate::spelled::{SpelledAct, SpelledCall};
 use crate::trace::{NamedSource, TraceAct, TraceCall};
 use dir_table::DirCall;
 use doc_text::is_same;
 use policy_text::NoMemory;
 use std::alloc::Global;
-
-fn push_names<'a>(names: &mut Vec<&'a [u8]>, act: &SpelledAct<'a>) -> Result<(), NoMemory>
-    ensures names { OnOk result
-        (map (λ n. n.now) names.new.items
-        ≡ map (λ n. n.now) names.old.items ++ act_names (act_said act.now)) }
-    ensures few { length names.new.items ≤ length names.old.items + 2 }
-{
-    match act {
-        SpelledAct::Make { name, .. } => names.push(*name)?,
-        SpelledAct::Drop { name, .. } => names.push(*name)?,
-        SpelledAct::Rename { name, to_name, .. } => {
-            names.push(*name)?;
-            names.push(*to_name)?;
-        }
-        SpelledAct::Find { name, .. } => names.push(*name)?,
-        SpelledAct::Count { .. } => {}
-        SpelledAct::Next { after: None, .. } => {}
-        SpelledAct::Next {
-            after: Some(name),
-            ..
-        } => names.push(*name)?,
-        SpelledAct::Attach { .. } => {}
-    }
-    Ok(())
-}
-
-/// The names of the directory in the calls, in their order.
-pub fn names_in<'a>(alloc: Global, calls: &[SpelledCall<'a>]) -> Result<Vec<&'a [u8]>, NoMemory>
-    ensures names { IfOk result (λ v. map (λ n. n.now) v.items
-        ≡ call_names (map call_said calls.now)) }
-    ensures few { IfOk result (λ v. length v.items ≤ 2 * length calls.now) }
-{
-    let mut names: Vec<&'a [u8]> = Vec::new(alloc);
-    for call in calls {
-        push_names(&mut names, &call.act)?;
-    }
-    Ok(names)
-}
-
-// The place of a name that is there.
-fn name_place(names: &[Vec<u8>], name: &[u8]) -> u32
-    requires rising { AreRisingBy (λ n. n.items) names.now }
-    requires known { Contains (map (λ n. n.items) names.now) name.now }
-    requires few { length names.now < 2 ^ 32 }
-    ensures within { result < length names.now }
-    ensures found { name_at (map (λ n. n.items) names.now) result ≡ name.now }
-{
-    match place_of(names, name) {
-        Some(k) => k as u32,
-        None => unreachable!(),
-    }
-}
 
 // The place of a policy that is declared.
 fn policy_place(policies: &[NamedSource], name: &[u8]) -> u32
@@ -81,114 +34,173 @@ fn policy_place(policies: &[NamedSource], name: &[u8]) -> u32
     unreachable!()
 }
 
-// A call on the directory, by the places of its names.
-fn dir_call(names: &[Vec<u8>], act: &SpelledAct) -> Option<DirCall>
-    requires rising { AreRisingBy (λ n. n.items) names.now }
-    requires known { AllByRecursion (Contains (map (λ n. n.items) names.now))
-        (act_names (act_said act.now)) }
-    requires few { length names.now < 2 ^ 32 }
-    requires ranged { is_in_range (act_said act.now) ≡ true }
-    ensures said { MatchOption result
-        (is_attach (act_said act.now) ≡ true)
-        (λ c. dir_act (map (λ n. n.items) names.now) c ≡ act_said act.now) }
-    ensures admitted { IfSome result (IsAdmitted (length names.now)) }
+// The new name of a call that renames, and the call.
+fn renames<'a>(
+    names: &mut Gathered<'a>,
+    dirs: (u8, u8),
+    name: &'a [u8],
+    to_name: &'a [u8],
+) -> Result<DirCall, NoMemory>
+    requires few { length names.old < 4294967294 }
+    requires ranged { (dirs.0 < 64) × (dirs.1 < 64) }
+    ensures said { IfOk result (λ c.
+        dir_act names.new c ≡ rename dirs.0 name.now dirs.1 to_name.now) }
+    ensures admitted { IfOk result (IsAdmitted (length names.new)) }
+    ensures put { ArePutBehind names.old (name.now ∷ to_name.now ∷ []) names.new }
 {
-    match act {
-        SpelledAct::Make { dir, name } => Some(DirCall::Make {
+    let place = names.place(name)?;
+    let to_place = names.place(to_name)?;
+    Ok(DirCall::Rename {
+        dir: dirs.0,
+        name: place,
+        to_dir: dirs.1,
+        to_name: to_place,
+    })
+}
+
+// A call on the directory, by the places of its names, which are put behind the others where they are new.
+fn dir_call<'a>(names: &mut Gathered<'a>, act: &SpelledAct<'a>) -> Result<Option<DirCall>, NoMemory>
+    requires few { length names.old < 4294967294 }
+    requires ranged { is_in_range (act_said act.now) ≡ true }
+    ensures said { IfOk result (λ o. MatchOption o
+        (is_attach (act_said act.now) ≡ true)
+        (λ c. dir_act names.new c ≡ act_said act.now)) }
+    ensures admitted { IfOk result (λ o. IfSome o (IsAdmitted (length names.new))) }
+    ensures put { ArePutBehind names.old (act_names (act_said act.now)) names.new }
+{
+    let call = match act {
+        SpelledAct::Make { dir, name } => DirCall::Make {
             dir: *dir,
-            name: name_place(names, name),
-        }),
-        SpelledAct::Drop { dir, name } => Some(DirCall::Drop {
+            name: names.place(name)?,
+        },
+        SpelledAct::Drop { dir, name } => DirCall::Drop {
             dir: *dir,
-            name: name_place(names, name),
-        }),
+            name: names.place(name)?,
+        },
         SpelledAct::Rename {
             dir,
             name,
             to_dir,
             to_name,
-        } => Some(DirCall::Rename {
+        } => renames(names, (*dir, *to_dir), name, to_name)?,
+        SpelledAct::Find { dir, name } => DirCall::Find {
             dir: *dir,
-            name: name_place(names, name),
-            to_dir: *to_dir,
-            to_name: name_place(names, to_name),
-        }),
-        SpelledAct::Find { dir, name } => Some(DirCall::Find {
-            dir: *dir,
-            name: name_place(names, name),
-        }),
-        SpelledAct::Count { dir } => Some(DirCall::Count { dir: *dir }),
-        SpelledAct::Next { dir, after: None } => Some(DirCall::Next {
+            name: names.place(name)?,
+        },
+        SpelledAct::Count { dir } => DirCall::Count { dir: *dir },
+        SpelledAct::Next { dir, after: None } => DirCall::Next {
             dir: *dir,
             after: None,
-        }),
+        },
         SpelledAct::Next {
             dir,
             after: Some(name),
-        } => Some(DirCall::Next {
+        } => DirCall::Next {
             dir: *dir,
-            after: Some(name_place(names, name)),
-        }),
-        SpelledAct::Attach { .. } => None,
-    }
+            after: Some(names.place(name)?),
+        },
+        SpelledAct::Attach { .. } => return Ok(None),
+    };
+    Ok(Some(call))
 }
 
 // What a worker does, by places.
-fn numbered_act(
-    names: &[Vec<u8>],
+fn numbered_act<'a>(
+    names: &mut Gathered<'a>,
     policies: &[NamedSource],
     worker: u32,
-    act: &SpelledAct,
-) -> TraceAct
-    requires rising { AreRisingBy (λ n. n.items) names.now }
-    requires known { AllByRecursion (Contains (map (λ n. n.items) names.now))
-        (act_names (act_said act.now)) }
-    requires few { length names.now < 2 ^ 32 }
+    act: &SpelledAct<'a>,
+) -> Result<TraceAct, NoMemory>
+    requires few { length names.old < 4294967294 }
     requires declared { may_do (map policy_of policies.now) worker (act_said act.now) ≡ true }
     requires few_policies { length policies.now ≤ 64 }
     requires ranged { is_in_range (act_said act.now) ≡ true }
-    ensures said { act_of (map (λ n. n.items) names.now)
-        (map (λ p. p.name.items) policies.now) result
-        ≡ act_said act.now }
-    ensures named { IsActOf (length names.now) (length policies.now) worker result }
+    ensures said { IfOk result (λ a.
+        act_of names.new (map (λ p. p.name.items) policies.now) a ≡ act_said act.now) }
+    ensures named { IfOk result (IsActOf (length names.new) (length policies.now) worker) }
+    ensures put { ArePutBehind names.old (act_names (act_said act.now)) names.new }
 {
     match act {
-        SpelledAct::Attach { name } => TraceAct::Attach(policy_place(policies, name)),
-        _ => match dir_call(names, act) {
-            Some(call) => TraceAct::Dir(call),
+        SpelledAct::Attach { name } => Ok(TraceAct::Attach(policy_place(policies, name))),
+        _ => match dir_call(names, act)? {
+            Some(call) => Ok(TraceAct::Dir(call)),
             None => unreachable!(),
         },
     }
 }
 
-/// The calls by the places of their names and policies.
-pub fn numbered(
+// The calls by the places of their names as they were gathered.
+fn gathered_calls<'a>(
     alloc: Global,
     workers: usize,
-    names: &[Vec<u8>],
+    names: &mut Gathered<'a>,
     policies: &[NamedSource],
-    calls: &[SpelledCall],
+    calls: &[SpelledCall<'a>],
 ) -> Result<Vec<TraceCall>, NoMemory>
-    requires rising { AreRisingBy (λ n. n.items) names.now }
-    requires known { AllByRecursion (Contains (map (λ n. n.items) names.now))
-        (call_names (map call_said calls.now)) }
-    requires few { length names.now < 2 ^ 32 }
+    requires empty { names.old ≡ [] }
+    requires few { length calls.now ≤ 65536 }
     requires declared { AllByRecursion (MayBe workers (map policy_of policies.now)) calls.now }
     requires few_policies { length policies.now ≤ 64 }
     ensures said { IfOk result (λ v.
-        map (call_of (map (λ n. n.items) names.now) (map (λ p. p.name.items) policies.now)) v.items
+        map (call_of names.new (map (λ p. p.name.items) policies.now)) v.items
         ≡ map call_said calls.now) }
     ensures named { IfOk result (λ v.
-        AllByRecursion (IsCallOf workers (length names.now) (length policies.now)) v.items) }
+        AllByRecursion (IsCallOf workers (length names.new) (length policies.now)) v.items) }
+    ensures same { OnOk result (SameMembers (call_names (map call_said calls.now)) names.new) }
+    ensures few { OnOk result (length names.new ≤ 2 * length calls.now) }
 {
     let _ = workers;
-    let mut numbered: Vec<TraceCall> = Vec::new(alloc);
+    let mut numbered: Vec<TraceCall> = Vec::with_capacity(alloc, calls.len())?;
     for call in calls {
-        let act = numbered_act(names, policies, call.worker, &call.act);
-        numbered.push(TraceCall {
+        let act = numbered_act(names, policies, call.worker, &call.act)?;
+        numbered.push_reserved(TraceCall {
             worker: call.worker,
             act,
-        })?;
+        });
     }
     Ok(numbered)
+}
+
+/// Calls by the places of their names, and the names in order of their bytes, each once.
+#[derive(Drop)]
+pub struct Numbered {
+    pub names: Vec<Vec<u8>>,
+    pub calls: Vec<TraceCall>,
+}
+
+/// The calls by the places of their names and policies.
+pub fn number_calls<'a>(
+    alloc: Global,
+    workers: usize,
+    policies: &[NamedSource],
+    calls: &[SpelledCall<'a>],
+) -> Result<Numbered, NoMemory>
+    requires few { length calls.now ≤ 65536 }
+    requires declared { AllByRecursion (MayBe workers (map policy_of policies.now)) calls.now }
+    requires few_policies { length policies.now ≤ 64 }
+    ensures said { IfOk result (λ n.
+        map (call_of (map (λ n. n.items) n.names.items) (map (λ p. p.name.items) policies.now))
+        n.calls.items
+        ≡ map call_said calls.now) }
+    ensures named { IfOk result (λ n. AllByRecursion
+        (IsCallOf workers (length n.names.items) (length policies.now)) n.calls.items) }
+    ensures rising { IfOk result (λ n. AreRisingBy (λ n. n.items) n.names.items) }
+    ensures same { IfOk result (λ n. SameMembers
+        (call_names (map call_said calls.now)) (map (λ n. n.items) n.names.items)) }
+    ensures few { IfOk result (λ n. length n.names.items ≤ 2 * length calls.now) }
+{
+    let mut gathered = Gathered::nobody(alloc, 2 * calls.len())?;
+    let mut numbered = gathered_calls(alloc, workers, &mut gathered, policies, calls)?;
+    let found = gathered.names();
+    let ordered = put_in_order(alloc, found.as_slice())?;
+    renumber(
+        workers,
+        policies.len(),
+        ordered.places.as_slice(),
+        &mut numbered,
+    );
+    Ok(Numbered {
+        names: ordered.names,
+        calls: numbered,
+    })
 }

@@ -13,8 +13,7 @@ ghost use Rattle.trace_text.specs.Traces.{document_of, names_of, IsWithin};
 
 use crate::calls::calls_of;
 use crate::error::TraceError;
-use crate::names::distinct;
-use crate::numbering::{names_in, numbered};
+use crate::numbering::number_calls;
 use crate::policies::policies_of;
 use crate::trace::Trace;
 use crate::workers::workers_of;
@@ -46,21 +45,14 @@ fn trace_of(alloc: Global, bytes: &[u8]) -> Result<Trace, TraceError>
     let (policies, rest) = policies_of(alloc, profile, rest, line)?;
     let line = line + policies.len() as u32;
     let calls = calls_of(alloc, workers.len(), policies.as_slice(), rest, line)?;
-    let names = distinct(alloc, names_in(alloc, calls.as_slice())?)?;
-    let calls = numbered(
-        alloc,
-        workers.len(),
-        names.as_slice(),
-        policies.as_slice(),
-        calls.as_slice(),
-    )?;
+    let numbered = number_calls(alloc, workers.len(), policies.as_slice(), calls.as_slice())?;
     Ok(Trace {
         version,
         profile,
         workers,
         policies,
-        names,
-        calls,
+        names: numbered.names,
+        calls: numbered.calls,
     })
 }
 

@@ -1,0 +1,13 @@
+use Rattle.std.proofs.Common.{◌≡◌, ◌≤◌, map, length}
+use Rattle.std.specs.List.{AllWithin}
+use Rattle.trace_text.specs.Places.{IsTold}
+use Rattle.trace_text.proofs.Sorting.{Keeps}
+use Rattle.trace_text.proofs.ordered.each_once.Given as goal
+
+abbrev pub invariant-loop-own : goal.invariant-loop-own
+invariant-loop-own l = record {
+  keeps : Keeps (λ n. n.items) (map (λ p. p.name.now) l.sorted) l.own-index l.names.items;
+  few : length l.names.items ≤ l.own-index;
+  many : length l.places.items ≡ l.count;
+  told : AllWithin (IsTold (map (λ n. n.items) l.names.items) l.places.items) l.sorted 0 l.own-index;
+}

@@ -1,0 +1,136 @@
+//! Names as calls say them, each put once where a few looks find it again.
+ghost use Rattle.std.specs.Prelude.{◌≡◌, ◌<◌, ◌≤◌, ◌+◌, [], ◌∷◌, length, IfOk, MatchResult, IsTrue, map};
+ghost use Rattle.trace_text.specs.Places.{ArePutBehind, StandsAt};
+
+use policy_text::NoMemory;
+use std::alloc::Global;
+use std::marker::Model;
+
+// A name counts as new after so many looks: names that somebody chose take no more of them.
+const LOOKS: u32 = 8;
+
+// What an empty slot says.
+const NOBODY: u32 = u32::MAX;
+
+/// A guess: a name with this sum may stand at this place. Whoever asks compares the names.
+#[derive(Clone, Copy, Debug, PartialEq, Eq)]
+struct Slot {
+    sum: u32,
+    place: u32,
+}
+
+/// Names in the order in which they were first said. A name may stand at two places, where the looks didn't find it.
+#[derive(Drop)]
+pub struct Gathered<'a> {
+    names: Vec<&'a [u8]>,
+    slots: Vec<Slot>,
+}
+
+impl<'a> Model for Gathered<'a> {
+    ghost use Rattle.std.specs.Prelude.{◌<◌, ◌^◌, ℕ, List, length, map};
+
+    ghost Value = { List (List ℕ) };
+
+    ghost view = { λ g. map (λ n. n.now) g.names.items };
+
+    ghost invariant = { λ g. (0 < length g.slots.items) × (length g.slots.items < 2 ^ 32) };
+}
+
+// A number that goes by the last sixteen bytes of a name, and by how long it is.
+fn sum_of(name: &[u8]) -> u32 {
+    let start = name.len().saturating_sub(16);
+    let mut sum = (name.len() % 256) as u32;
+    for byte in &name[start..] {
+        sum = (sum ^ u32::from(*byte)).wrapping_mul(0x0100_0193);
+    }
+    sum.wrapping_mul(0x9e37_79b1)
+}
+
+// Where the looks for a sum begin, among so many slots.
+fn first_slot(sum: u32, count: usize) -> usize
+    requires some { 0 < count }
+    requires few { count < 4294967296 }
+    ensures { result < count }
+{
+    (u64::from(sum) * count as u64 / 0x1_0000_0000) as usize
+}
+
+// Whether the name stands at the place.
+fn stands_at(names: &[&[u8]], place: u32, name: &[u8]) -> bool
+    ensures { IsTrue result → StandsAt (map (λ n. n.now) names.now) place name.now }
+{
+    let place = place as usize;
+    if place >= names.len() {
+        return false;
+    }
+    let found = names[place];
+    found == name
+}
+
+// The place of the name, or else the slot that is to tell it.
+fn look_for(slots: &[Slot], names: &[&[u8]], sum: u32, name: &[u8]) -> Result<u32, usize>
+    requires some { 0 < length slots.now }
+    requires few { length slots.now < 4294967296 }
+    ensures { MatchResult result
+        (λ k. StandsAt (map (λ n. n.now) names.now) k name.now)
+        (λ slot. slot < length slots.now) }
+{
+    let mut at = first_slot(sum, slots.len());
+    let mut looks = 0;
+    while looks < LOOKS {
+        let slot = slots[at];
+        if slot.place == NOBODY {
+            return Err(at);
+        }
+        if slot.sum == sum && stands_at(names, slot.place, name) {
+            return Ok(slot.place);
+        }
+        at = if at + 1 < slots.len() { at + 1 } else { 0 };
+        looks += 1;
+    }
+    Err(at)
+}
+
+impl<'a> Gathered<'a> {
+    /// No names yet; room for the guesses of so many.
+    pub fn nobody(alloc: Global, names: usize) -> Result<Gathered<'a>, NoMemory>
+        requires { names ≤ 131072 }
+        ensures { IfOk result (λ g. g ≡ []) }
+    {
+        let empty = Slot {
+            sum: 0,
+            place: NOBODY,
+        };
+        Ok(Gathered {
+            names: Vec::new(alloc),
+            slots: Vec::from_elem(alloc, empty, names + 1)?,
+        })
+    }
+
+    /// The place of a name, which is put behind the others unless it is found.
+    #[tactic(auto, using(crate::proofs::Placing::none_put, crate::proofs::Placing::one_put, crate::proofs::Placing::stands_last))]
+    pub fn place(&mut self, name: &'a [u8]) -> Result<u32, NoMemory>
+        requires few { length self.old < 4294967295 }
+        ensures stands { IfOk result (λ k. StandsAt self.new k name.now) }
+        ensures put { ArePutBehind self.old (name.now ∷ []) self.new }
+        ensures one { length self.new ≤ length self.old + 1 }
+    {
+        let sum = sum_of(name);
+        match look_for(self.slots.as_slice(), self.names.as_slice(), sum, name) {
+            Ok(place) => Ok(place),
+            Err(slot) => {
+                let place = self.names.len() as u32;
+                self.names.push(name)?;
+                self.slots[slot] = Slot { sum, place };
+                Ok(place)
+            }
+        }
+    }
+
+    /// The names.
+    pub fn names(self) -> Vec<&'a [u8]>
+        ensures { map (λ n. n.now) result.items ≡ self.entry }
+    {
+        self.names
+    }
+}
