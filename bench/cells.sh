@@ -1,6 +1,6 @@
 #!/usr/bin/env bash
-# Times calls of a counter and reads of a directory behind the lock beside a pthread_mutex_t, a pthread_rwlock_t and an MCS lock, side
-# by side. Not a part of the gate. It needs a C compiler and Debian's libck-dev. Words: the parts to run:
+# Times calls of a counter and reads of a directory behind the lock beside a pthread_mutex_t, a pthread_rwlock_t, an MCS lock and a
+# Rust RwLock<BTreeMap>, side by side. Not a part of the gate. It needs a C compiler, rustc and Debian's libck-dev. Words: the parts to run:
 # free, held, counter, many, reads; as given, all. The crates are proved and built before, in a folder that is
 # removed at the end; with CELLS_ROOM set, in that folder, which stays, so that a later run of one part builds nothing. Each
 # figure of several threads is the best of twenty rounds of 65,536 calls (reads: ours 64,000), ours and theirs.
@@ -59,6 +59,7 @@ for part; do
     reads)
         echo '4 threads that look up names in a directory of 1,000'
         peer directory 4 0
+        rustc -O -o "$room/rust-reads" "$top/bench/reads.rs" && echo "RwLock<BTreeMap>: $("$room/rust-reads")"
         for form in rw rw-park; do echo "ours, $form: $("$reads" "$form")"; done
         ;;
     esac
