@@ -1,11 +1,8 @@
 -- Counting attachments call by call.
-use Rattle.std.proofs.Common.{◌≡◌, ℕ, ◌+◌, ◌≤◌, List, [], ◌∷◌, ◌++◌, map, Bool, true, false, cond, refl, ap, arith}
-use Rattle.std.specs.List.{AllByRecursion, fold}
-use Rattle.std.proofs.lemmas.List.{map-append}
-use Rattle.trace_text.specs.declared.spelled.SpelledCall.{SpelledCall}
+use Rattle.std.proofs.Common.{◌≡◌, ℕ, ◌+◌, ◌≤◌, List, [], ◌∷◌, ◌++◌, Bool, true, false, cond, refl, arith}
+use Rattle.std.specs.List.{fold}
 use Rattle.trace_text.specs.Document.{CallLine}
 use Rattle.trace_text.specs.Lines.{is_attach, attach_count}
-use Rattle.trace_text.specs.Spelled.{act_said, call_said}
 
 abbrev counts : ℕ → CallLine → ℕ
 counts n c = n + cond (is_attach c.act) 1 0
@@ -29,13 +26,6 @@ fold-at n (d ∷ ds) more c = fold-at (n + cond (is_attach d.act) 1 0) ds more c
 pub attach_count-at : (done more : List CallLine) (c : CallLine) → attach_count done + cond (is_attach c.act) 1 0 ≤ attach_count (done ++ c ∷ more)
 attach_count-at done more c = fold-at 0 done more c
 
-pub counted-more : (calls : List SpelledCall) (c : SpelledCall) (n : ℕ) → n ≡ attach_count (map call_said calls) → n + cond (is_attach (act_said c.act)) 1 0 ≡ attach_count (map call_said (calls ++ c ∷ []))
-counted-more calls c n e = rw (map-append call_said calls (c ∷ []), attach_count-push (map call_said calls) (call_said c)) (ap (λ (k : ℕ). k + cond (is_attach (act_said c.act)) 1 0) e)
-
 pub small : (b : Bool) → cond b 1 0 ≤ 1
 small true = omega arith
 small false = omega arith
-
-pub all-push : {X : Type 0} (P : X → Type 0) (xs : List X) (x : X) → AllByRecursion P xs → P x → AllByRecursion P (xs ++ x ∷ [])
-all-push P [] x h p = (p, tt)
-all-push P (y ∷ ys) x h p = (h.0, all-push P ys x h.1 p)

@@ -1,9 +1,10 @@
 -- Calls by the places of their names, while these are gathered.
-use Rattle.std.proofs.Common.{◌≡◌, ℕ, zero, suc, ◌+◌, ◌*◌, ◌<◌, ◌≤◌, List, [], ◌∷◌, ◌++◌, length, map, get_or, drop, Some, None, refl, sym, ap, ◌∙◌, subst, arith, length-append}
+use Rattle.std.proofs.Common.{◌≡◌, ℕ, ◌+◌, ◌<◌, List, [], ◌∷◌, ◌++◌, length, map, get_or, Bool, cond, Some, None, refl, sym, ap, ◌∙◌, subst, arith, length-append}
 use Rattle.std.specs.Prelude.{Contains}
 use Rattle.std.specs.List.{AllByRecursion}
-use Rattle.std.proofs.lemmas.List.{get_or_default, append-nil, append_assoc, drop_more, drop_all, map-append}
-use Rattle.std.proofs.lemmas.List.Elements.{Contains-append_left, Contains-append_right}
+use Rattle.std.proofs.lemmas.Grind.{flat_map-append}
+use Rattle.std.proofs.lemmas.List.{get_or_default, append-nil, length-map, map-append}
+use Rattle.std.proofs.lemmas.List.Elements.{All-contains, All-from_recursion, Contains-append_left, Contains-append_right}
 use Rattle.std.proofs.Math.ListN.{get_or-append}
 use Rattle.dir_table.specs.declared.calls.DirCall.{DirCall}
 use Rattle.dir_table.specs.declared.calls.DirCall.TheVariants as call
@@ -12,13 +13,19 @@ use Rattle.dir_table.specs.Meanings.{IsAdmitted}
 use Rattle.trace_text.specs.declared.trace.TraceAct.{TraceAct}
 use Rattle.trace_text.specs.declared.trace.TraceAct.TheVariants as does
 use Rattle.trace_text.specs.declared.trace.TraceCall.{TraceCall}
+use Rattle.trace_text.specs.declared.trace.NamedSource.{NamedSource}
 use Rattle.trace_text.specs.declared.spelled.SpelledCall.{SpelledCall}
+use Rattle.trace_text.specs.declared.call_list.CallList.{CallList}
+use Rattle.trace_text.specs.declared.call_list.Numbered.{Numbered}
 use Rattle.trace_text.specs.Document.{make, drop_name, rename, find, next, CallLine}
+use Rattle.trace_text.specs.CallLists.{list_said, IsListOf, numbered_said}
+use Rattle.trace_text.specs.Lines.{is_attach, attach_count}
 use Rattle.trace_text.specs.Names.{SameMembers}
 use Rattle.trace_text.specs.Spelled.{act_said, call_said, act_names, call_names}
 use Rattle.trace_text.specs.Traces.{name_at, dir_act, act_of, call_of, IsActOf, IsCallOf}
 use Rattle.trace_text.specs.Places.{ArePutBehind}
-use Rattle.trace_text.proofs.Placing.{among-more}
+use Rattle.trace_text.proofs.Placing.{all-behind, all-push, among-more}
+use Rattle.trace_text.proofs.CallLoop.{attach_count-push, small}
 
 -- ---- calls whose names stay
 
@@ -60,60 +67,7 @@ module _ (policies : List (List ℕ)) (names more : List (List ℕ)) where
   each-more workers many [] h = tt
   each-more workers many (c ∷ cs) h = (record { worker = h.0.worker; act = named-more many c.worker c.act h.0.act }, each-more workers many cs h.1)
 
--- ---- one more call
-
--- what the calls before `i` were made of, as all that is gathered stands in `names`
-pub record Gathers (names policies : List (List ℕ)) (workers many : ℕ) (calls : List SpelledCall) (i : ℕ) (done : List TraceCall) : Type 0 where
-  pub rest : map (call_of names policies) done ++ map call_said (drop i calls) ≡ map call_said calls
-  pub named : AllByRecursion (IsCallOf workers (length names) many) done
-  pub among : AllByRecursion (Contains (call_names (map call_said calls))) names
-  pub few : length names ≤ 2 * i
-
-pub gathers-start : (names policies : List (List ℕ)) (workers many : ℕ) (calls : List SpelledCall) → names ≡ [] → Gathers names policies workers many calls 0 []
-gathers-start names policies workers many calls e = record {
-  rest = refl;
-  named = tt;
-  among = subst (AllByRecursion (Contains (call_names (map call_said calls)))) (sym e) tt;
-  few = let none : length names ≡ 0 = ap length e in omega (arith, none);
-}
-
-pub all-behind : {X : Type 0} (P : X → Type 0) (xs ys : List X) → AllByRecursion P xs → AllByRecursion P ys → AllByRecursion P (xs ++ ys)
-all-behind P [] ys h k = k
-all-behind P (x ∷ xs) ys h k = (h.0, all-behind P xs ys h.1 k)
-
--- the names of a call are among the names of all
-act-among : (calls : List SpelledCall) (i : ℕ) (d : SpelledCall) → i < length calls → (n : List ℕ) → Contains (act_names (act_said (get_or calls i d).act)) n → Contains (call_names (map call_said calls)) n
-act-among [] i d lt n h = absurd (omega (arith, lt))
-act-among (c ∷ cs) zero d lt n h = Contains-append_left (act_names (act_said c.act)) (call_names (map call_said cs)) n h
-act-among (c ∷ cs) (suc i) d lt n h = Contains-append_right (act_names (act_said c.act)) (call_names (map call_said cs)) n (act-among cs i d (omega (arith, lt)) n h)
-
-module _ (policies : List (List ℕ)) (workers many : ℕ) (calls : List SpelledCall) (i : ℕ) (d : SpelledCall) (lt : i < length calls) (done : List TraceCall) where
-  abbrev here : SpelledCall
-  here = get_or calls i d
-
-  pub gathers-more : (old new : List (List ℕ)) (a : TraceAct) → here.worker < workers → act_of new policies a ≡ act_said here.act → IsActOf (length new) many here.worker a → ArePutBehind old (act_names (act_said here.act)) new
-      → Gathers old policies workers many calls i done → Gathers new policies workers many calls (i + 1) (done ++ record { worker = here.worker; act = a } ∷ [])
-  gathers-more old new a worker said named put g = record {
-    rest =
-        (λ j. map-append (call_of new policies) done (record { worker = here.worker; act = a } ∷ []) j ++ map call_said (drop (i + 1) calls))
-        ∙ append_assoc (map (call_of new policies) done) (record { worker = here.worker; act = act_of new policies a } ∷ []) (map call_said (drop (i + 1) calls))
-        ∙ (λ j. before j ++ record { worker = here.worker; act = said j } ∷ map call_said (drop (i + 1) calls))
-        ∙ sym (ap (λ (l : List SpelledCall). map (call_of old policies) done ++ map call_said l) (drop_more calls i d lt))
-        ∙ g.rest;
-    named = subst (λ (l : List (List ℕ)). AllByRecursion (IsCallOf workers (length l) many) (done ++ record { worker = here.worker; act = a } ∷ [])) (sym put.is)
-        (all-behind (IsCallOf workers (length (old ++ put.more)) many) done (record { worker = here.worker; act = a } ∷ [])
-        (each-more policies old put.more workers many done g.named)
-        (record { worker = worker; act = subst (λ (l : List (List ℕ)). IsActOf (length l) many here.worker a) put.is named }, tt));
-    among = subst (AllByRecursion (Contains (call_names (map call_said calls)))) (sym put.is)
-        (all-behind (Contains (call_names (map call_said calls))) old put.more g.among
-        (among-more (act_names (act_said here.act)) (call_names (map call_said calls)) put.more (act-among calls i d lt) put.among));
-    few = let long : length new ≡ length old + length put.more = ap length put.is ∙ length-append old put.more in omega (arith, long, put.few, g.few);
-  }
-    where
-      before : map (call_of new policies) done ≡ map (call_of old policies) done
-      before = ap (λ (l : List (List ℕ)). map (call_of l policies) done) put.is ∙ calls-more policies old put.more workers many done g.named
-
--- ---- all calls
+-- ---- the names of calls
 
 at-place : (names : List (List ℕ)) (k : ℕ) → k < length names → Contains names (name_at names k)
 at-place names k lt = (k, lt, get_or_default names k (get_or names k []) [] lt)
@@ -136,17 +90,83 @@ all-names names policies workers many (c ∷ cs) h = all-behind (Contains names)
     by_act (does.Dir k) g = dir-names names k g
     by_act (does.Attach k) g = tt
 
-by-member : (P : List ℕ → Type 0) (ns : List (List ℕ)) (n : List ℕ) → AllByRecursion P ns → Contains ns n → P n
-by-member P [] n h k = absurd (omega (arith, k.1))
-by-member P (m ∷ ms) n h (zero, lt, e) = subst P e h.0
-by-member P (m ∷ ms) n h (suc k, lt, e) = by-member P ms n h.1 (k, omega (arith, lt), e)
+-- ---- a list of calls
 
-module _ (names policies : List (List ℕ)) (workers many : ℕ) (calls : List SpelledCall) (i : ℕ) (done : List TraceCall) (all : length calls ≤ i) where
-  pub gathers-all : Gathers names policies workers many calls i done → map (call_of names policies) done ≡ map call_said calls
-  gathers-all g = sym (append-nil (map (call_of names policies) done)) ∙ ap (λ (l : List SpelledCall). map (call_of names policies) done ++ map call_said l) (sym (drop_all i calls all)) ∙ g.rest
+pub length-said : (policies : List NamedSource) (l : CallList) → length (list_said policies l) ≡ length l.calls.items
+length-said policies l = length-map l.calls.items (call_of l.names (map (λ p. p.name.items) policies))
 
-  pub gathers-same : Gathers names policies workers many calls i done → SameMembers (call_names (map call_said calls)) names
-  gathers-same g n = (
-    λ h. by-member (Contains names) (call_names (map call_said calls)) n (subst (λ (l : List CallLine). AllByRecursion (Contains names) (call_names l)) (gathers-all g) (all-names names policies workers many done g.named)) h,
-    λ h. by-member (Contains (call_names (map call_said calls))) names n g.among h,
-  )
+pub length-numbered : (policies : List NamedSource) (n : Numbered) → length (numbered_said policies n) ≡ length n.calls.items
+length-numbered policies n = length-map n.calls.items (call_of (map (λ n. n.items) n.names.items) (map (λ p. p.name.items) policies))
+
+-- where it says one more
+pub length-more : (policies : List NamedSource) (old new : CallList) (c : CallLine) → list_said policies new ≡ list_said policies old ++ c ∷ [] → length new.calls.items ≡ length old.calls.items + 1
+length-more policies old new c said = omega (arith, length-said policies new, length-said policies old, ap length said, length-append (list_said policies old) (c ∷ []))
+
+pub none-said : (policies : List NamedSource) (l : CallList) → l.calls.items ≡ [] → list_said policies l ≡ []
+none-said policies l e = ap (λ (cs : List TraceCall). map (call_of l.names (map (λ p. p.name.items) policies)) cs) e
+
+pub none_listed : (workers : ℕ) (policies : List NamedSource) (l : CallList) → l.names ≡ [] → l.calls.items ≡ [] → l.attaches ≡ 0 → IsListOf workers policies l
+none_listed workers policies l names calls attaches = record {
+  named = subst (AllByRecursion (IsCallOf workers (length l.names) (length policies))) (sym calls) tt;
+  among = subst (AllByRecursion (Contains (call_names (list_said policies l)))) (sym names) tt;
+  few = let none : length l.names ≡ 0 = ap length names in omega arith;
+  attaches = attaches ∙ sym (ap attach_count (none-said policies l calls));
+  counted = omega arith;
+}
+
+module _ (workers : ℕ) (policies : List NamedSource) (old new : CallList) (call : SpelledCall) (a : TraceAct) (b : Bool) where
+  abbrev of : List (List ℕ)
+  of = map (λ p. p.name.items) policies
+
+  abbrev last : TraceCall
+  last = record { worker = call.worker; act = a }
+
+  -- how the list has one more
+  pub record OneMore : Type 0 where
+    pub said : act_of new.names of a ≡ act_said call.act
+    pub named : IsActOf (length new.names) (length policies) call.worker a
+    pub put : ArePutBehind old.names (act_names (act_said call.act)) new.names
+    pub pushed : new.calls.items ≡ old.calls.items ++ last ∷ []
+    pub attach : b ≡ is_attach (act_said call.act)
+    pub counted : new.attaches ≡ old.attaches + cond b 1 0
+
+  module _ (known : call.worker < workers) (more : OneMore) (before : IsListOf workers policies old) where
+    pub said_more : list_said policies new ≡ list_said policies old ++ call_said call ∷ []
+    said_more =
+        ap (map (call_of new.names of)) more.pushed
+        ∙ map-append (call_of new.names of) old.calls.items (last ∷ [])
+        ∙ (λ j. (ap (λ (l : List (List ℕ)). map (call_of l of) old.calls.items) more.put.is ∙ calls-more of old.names more.put.more workers (length policies) old.calls.items before.named) j ++ record { worker = call.worker; act = more.said j } ∷ [])
+
+    names_more : call_names (list_said policies new) ≡ call_names (list_said policies old) ++ act_names (act_said call.act)
+    names_more =
+        ap call_names said_more
+        ∙ flat_map-append (λ c. act_names c.act) (list_said policies old) (call_said call ∷ [])
+        ∙ ap (λ (l : List (List ℕ)). call_names (list_said policies old) ++ l) (append-nil (act_names (act_said call.act)))
+
+    pub listed_more : IsListOf workers policies new
+    listed_more = record {
+      named = rw (more.pushed, more.put.is) (all-push (IsCallOf workers (length (old.names ++ more.put.more)) (length policies)) old.calls.items last
+          (each-more of old.names more.put.more workers (length policies) old.calls.items before.named)
+          (record { worker = known; act = subst (λ (l : List (List ℕ)). IsActOf (length l) (length policies) call.worker a) more.put.is more.named }));
+      among = subst (AllByRecursion (Contains (call_names (list_said policies new)))) (sym more.put.is)
+          (subst (λ (l : List (List ℕ)). AllByRecursion (Contains l) (old.names ++ more.put.more)) (sym names_more)
+          (all-behind (Contains (call_names (list_said policies old) ++ act_names (act_said call.act))) old.names more.put.more
+          (among-more (call_names (list_said policies old)) (call_names (list_said policies old) ++ act_names (act_said call.act)) old.names (λ n h. Contains-append_left (call_names (list_said policies old)) (act_names (act_said call.act)) n h) before.among)
+          (among-more (act_names (act_said call.act)) (call_names (list_said policies old) ++ act_names (act_said call.act)) more.put.more (λ n h. Contains-append_right (call_names (list_said policies old)) (act_names (act_said call.act)) n h) more.put.among)));
+      few =
+          let long : length new.names ≡ length old.names + length more.put.more = ap length more.put.is ∙ length-append old.names more.put.more in
+          let calls : length new.calls.items ≡ length old.calls.items + 1 = ap length more.pushed ∙ length-append old.calls.items (last ∷ []) in
+          omega (arith, long, calls, more.put.few, before.few);
+      attaches =
+          more.counted ∙ (λ j. before.attaches j + cond (more.attach j) 1 0)
+          ∙ sym (ap attach_count said_more ∙ attach_count-push (list_said policies old) (call_said call));
+      counted =
+          let calls : length new.calls.items ≡ length old.calls.items + 1 = ap length more.pushed ∙ length-append old.calls.items (last ∷ []) in
+          omega (arith, calls, more.counted, small b, before.counted);
+    }
+
+pub same_listed : (workers : ℕ) (policies : List NamedSource) (l : CallList) → IsListOf workers policies l → SameMembers (call_names (list_said policies l)) l.names
+same_listed workers policies l h n = (
+  All-contains (Contains l.names) (call_names (list_said policies l)) n (All-from_recursion (Contains l.names) (call_names (list_said policies l)) (all-names l.names (map (λ p. p.name.items) policies) workers (length policies) l.calls.items h.named)),
+  All-contains (Contains (call_names (list_said policies l))) l.names n (All-from_recursion (Contains (call_names (list_said policies l))) l.names h.among),
+)

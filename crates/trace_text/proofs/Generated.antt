@@ -1,12 +1,13 @@
 -- One worker and one call of the generated trace at a time.
-use Rattle.std.proofs.Common.{◌≡◌, ℕ, zero, suc, ◌+◌, ◌/◌, ◌%◌, ◌<◌, ◌≤◌, Bool, true, false, cond, eqb, ltb, leb, List, [], ◌∷◌, ◌++◌, map, length, refl, sym, ap, ◌∙◌, subst, arith, append_assoc, length-append}
+use Rattle.std.proofs.Common.{◌≡◌, ℕ, zero, suc, ◌+◌, ◌/◌, ◌%◌, ◌<◌, ◌≤◌, Bool, true, false, cond, eqb, ltb, leb, List, [], ◌∷◌, ◌++◌, length, refl, sym, ap, ◌∙◌, arith, append_assoc, length-append}
 use Rattle.std.specs.Prelude.{codes, ◌&&◌}
-use Rattle.std.specs.List.{AllByRecursion}
-use Rattle.std.proofs.lemmas.List.{length-map}
 use Rattle.std.proofs.lemmas.Bool.Decides.{nat_tests}
 use Rattle.std.proofs.Math.Nat.{mul-le-mul_left}
-use Rattle.trace_text.specs.declared.spelled.SpelledCall.{SpelledCall}
-use Rattle.trace_text.specs.Spelled.{call_said, MayBe}
+use Rattle.trace_text.specs.declared.call_list.CallList.{CallList}
+use Rattle.trace_text.specs.declared.trace.NamedSource.{NamedSource}
+use Rattle.trace_text.specs.CallLists.{list_said}
+use Rattle.trace_text.specs.Spelled.{MayBe}
+use Rattle.trace_text.proofs.Gathering.{length-said}
 use Rattle.shfl_line.specs.declared.words.Attr.{Attr}
 use Rattle.trace_text.specs.Document.{Act, attach, CallLine}
 use Rattle.trace_text.specs.Lines.{is_entry, is_in_range, may_do}
@@ -62,16 +63,14 @@ calls_few workers i x (suc n) =
     let both = length-append (attached i) (call_drawn workers i (drawn x) (drawn (drawn x)) third ∷ rest) in
     omega arith
 
-pub spelled_few : {X : Type 0} (said : X → CallLine) (spelled : List X) (workers x calls : ℕ) → calls ≤ 65000 → map said spelled ≡ calls_from workers 0 x calls → length spelled ≤ 65065
-spelled_few said spelled workers x calls most same =
-    let few = calls_few workers 0 x calls in
-    omega (arith, sym (length-map spelled said) ∙ ap length same)
+-- the calls so far are few
+pub listed_few : (policies : List NamedSource) (l : CallList) (rest : List CallLine) (workers x calls : ℕ) → calls ≤ 65000 → list_said policies l ++ rest ≡ calls_from workers 0 x calls → length l.calls.items ≤ 65065
+listed_few policies l rest workers x calls most told = omega (arith, length-append (list_said policies l) rest, ap length told, calls_few workers 0 x calls, length-said policies l)
 
--- a call of a worker that there is, within the ranges, and one that the worker may make
-record MayMake (workers : ℕ) (c : CallLine) : Type 0 where
-  known : c.worker < workers
-  ranged : is_in_range c.act ≡ true
-  may : may_do generated_policies c.worker c.act ≡ true
+pub attached_few : (i : ℕ) → length (attached i) ≤ 1
+attached_few i =
+    let call : CallLine = record { worker = 0; act = attach (cond (eqb (i / 1000 % 2) 0) (codes "none") (codes "socket")) } in
+    elim (eqb (i % 1000) 500) as (λ b. length (cond b (call ∷ []) []) ≤ 1) [ true ↦ omega arith | false ↦ omega arith ]
 
 either_may : (b : Bool) (worker : ℕ) (x y : Act) → may_do generated_policies worker x ≡ true → may_do generated_policies worker y ≡ true → may_do generated_policies worker (cond b x y) ≡ true
 either_may true worker x y first second = first
@@ -117,37 +116,14 @@ drawn_ranged workers worker a b c known few =
     (either_ranged (eqb (a % 8) 5) _ _ here
     (either_ranged (eqb (a % 8) 6) _ _ counted here))))
 
-name_may : (b : Bool) → may_do generated_policies 0 (attach (cond b (codes "none") (codes "socket"))) ≡ true
-name_may true = refl
-name_may false = refl
-
-attached_may : (workers : ℕ) (b first : Bool) (cs : List CallLine) → 0 < workers → AllByRecursion (MayMake workers) cs
-    → AllByRecursion (MayMake workers) (cond b (record { worker = 0; act = attach (cond first (codes "none") (codes "socket")) } ∷ []) [] ++ cs)
-attached_may workers true first cs some may = (record { known = some; ranged = refl; may = name_may first }, may)
-attached_may workers false first cs some may = may
-
-calls_may : (workers i x n : ℕ) → 0 < workers → workers ≤ 16 → AllByRecursion (MayMake workers) (calls_from workers i x n)
-unfolding calls_from
-calls_may workers i x zero some few = tt
-calls_may workers i x (suc n) some few =
-    let third = drawn (drawn (drawn x)) in
+pub drawn_call_may : (workers i first second third : ℕ) → 0 < workers → workers ≤ 16 → MayBe workers generated_policies (call_drawn workers i first second third)
+drawn_call_may workers i first second third some few =
     let known : i % workers < workers = omega arith in
-    attached_may workers (eqb (i % 1000) 500) (eqb (i / 1000 % 2) 0) (call_drawn workers i (drawn x) (drawn (drawn x)) third ∷ calls_from workers (suc i) third n) some (
-      record {
-        known = known;
-        ranged = drawn_ranged workers (i % workers) (number_of (drawn x)) (number_of (drawn (drawn x))) (number_of third) known few;
-        may = drawn_may workers (i % workers) (number_of (drawn x)) (number_of (drawn (drawn x))) (number_of third);
-      },
-      calls_may workers (suc i) third n some few,
-    )
-
-spelled_each : (workers : ℕ) (cs : List SpelledCall) → AllByRecursion (MayMake workers) (map call_said cs) → AllByRecursion (MayBe workers generated_policies) cs
-spelled_each workers [] may = may
-spelled_each workers (c ∷ cs) may = (record { known = may.0.known; ranged = may.0.ranged; may = may.0.may }, spelled_each workers cs may.1)
-
-pub spelled_may : (spelled : List SpelledCall) (workers x calls : ℕ) → 0 < workers → workers ≤ 16 → map call_said spelled ≡ calls_from workers 0 x calls
-    → AllByRecursion (MayBe workers generated_policies) spelled
-spelled_may spelled workers x calls some few same = spelled_each workers spelled (subst (AllByRecursion (MayMake workers)) (sym same) (calls_may workers 0 x calls some few))
+    record {
+      known = known;
+      ranged = drawn_ranged workers (i % workers) (number_of first) (number_of second) (number_of third) known few;
+      may = drawn_may workers (i % workers) (number_of first) (number_of second) (number_of third);
+    }
 
 -- as many as are wanted
 pub workers_many : (w n : ℕ) → length (workers_from w n) ≡ n

@@ -4,6 +4,7 @@ use Rattle.std.specs.Prelude.{All, Contains, slice_index}
 use Rattle.std.specs.List.{AllWithin}
 use Rattle.std.specs.List.Sorted.{IsSorted, IsSortedBy, IsPermutation}
 use Rattle.std.proofs.lemmas.List.{length-map, get_or-map, get_or_default, get_or-set_same, get_or-set_other}
+use Rattle.std.proofs.lemmas.List.Elements.{All-contains}
 use Rattle.std.proofs.lemmas.List.Sorted.{All-permutation, Contains-permutation}
 use Rattle.std.proofs.lemmas.Bool.{cases_lt, cases_eq}
 use Rattle.std.proofs.Math.ListN.{get_or-append}
@@ -56,14 +57,11 @@ placed-permuted names ps qs p a = record {
   whole = λ k lt. (let w = a.whole k lt in (w.0, Contains-permutation ps qs w.0 p w.1, w.2));
 }
 
-at-member : (P : Placed → Type 0) (ps : List Placed) (p : Placed) → All P ps → Contains ps p → P p
-at-member P ps p h (k, lt, e) = subst P e (h k p lt)
-
 -- the same place is of the same name
 pub placed-apart : (names : List (List ℕ)) (ps : List Placed) → ArePlaced names ps → HaveOneName ps
 placed-apart names ps a p q inp inq e =
-    let s = at-member (λ x. StandsAt names x.place x.name.now) ps p a.each inp in
-    let t = at-member (λ x. StandsAt names x.place x.name.now) ps q a.each inq in
+    let s = All-contains (λ x. StandsAt names x.place x.name.now) ps p a.each inp in
+    let t = All-contains (λ x. StandsAt names x.place x.name.now) ps q a.each inq in
     sym s.1 ∙ ap (name_at names) e ∙ t.1
 
 pub placed-within : (names : List (List ℕ)) (ps : List Placed) (n : ℕ) → n ≡ length names → ArePlaced names ps → All (λ p. p.place < n) ps
@@ -78,7 +76,7 @@ placed-same names ps a n = (to, from)
     to : Contains names n → Contains (map (λ p. p.name.now) ps) n
     to (k, lt, e) =
         let w = a.whole k lt in
-        let s = at-member (λ x. StandsAt names x.place x.name.now) ps w.0 a.each w.1 in
+        let s = All-contains (λ x. StandsAt names x.place x.name.now) ps w.0 a.each w.1 in
         let is : w.0.name.now ≡ n = sym s.1 ∙ ap (name_at names) w.2 ∙ get_or_default names k [] n lt ∙ e in
         (w.1.0, omega (arith, w.1.1, length-map ps name), get_or-map (λ p. p.name.now) ps w.1.0 w.0 n w.1.1 ∙ ap (λ (p : Placed). p.name.now) w.1.2 ∙ is)
 
@@ -140,7 +138,7 @@ told-places names others ps places many a told = record { many = many; each = λ
   where
     by_name : (k : ℕ) → k < length names → (p : Placed) × Contains ps p × (p.place ≡ k) → StandsAt others (slice_index places k) (name_at names k)
     by_name k lt (p, within, e) =
-        let s = at-member (IsTold others places) ps p told within in
-        let t = at-member (λ x. StandsAt names x.place x.name.now) ps p a.each within in
+        let s = All-contains (IsTold others places) ps p told within in
+        let t = All-contains (λ x. StandsAt names x.place x.name.now) ps p a.each within in
         let name : p.name.now ≡ name_at names k = sym t.1 ∙ ap (name_at names) e in
         subst (λ (j : ℕ). StandsAt others (slice_index places j) (name_at names k)) e (subst (λ (n : List ℕ). StandsAt others (slice_index places p.place) n) name s)

@@ -1,11 +1,11 @@
 pub mod Shapes
 pub mod Sorting
 pub mod Placing
+pub mod CallLoop
 pub mod Gathering
 pub mod InOrder
 pub mod OtherPlaces
 pub mod PolicyLoop
-pub mod CallLoop
 pub mod Sections
 pub mod WorkerLines
 pub mod PolicyNames

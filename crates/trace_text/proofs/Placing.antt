@@ -28,9 +28,12 @@ none_put old from = record { more = []; few = omega arith; among = tt; is = sym 
 pub one_put : (old : List (List ℕ)) (name : List ℕ) → ArePutBehind old (name ∷ []) (old ++ name ∷ [])
 one_put old name = record { more = name ∷ []; few = omega arith; among = ((0, omega arith, refl), tt); is = refl }
 
-both-among : (from first second : List (List ℕ)) → AllByRecursion (Contains from) first → AllByRecursion (Contains from) second → AllByRecursion (Contains from) (first ++ second)
-both-among from [] second h k = k
-both-among from (n ∷ ns) second h k = (h.0, both-among from ns second h.1 k)
+pub all-behind : {X : Type 0} (P : X → Type 0) (xs ys : List X) → AllByRecursion P xs → AllByRecursion P ys → AllByRecursion P (xs ++ ys)
+all-behind P [] ys h k = k
+all-behind P (x ∷ xs) ys h k = (h.0, all-behind P xs ys h.1 k)
+
+pub all-push : {X : Type 0} (P : X → Type 0) (xs : List X) (x : X) → AllByRecursion P xs → P x → AllByRecursion P (xs ++ x ∷ [])
+all-push P xs x h p = all-behind P xs (x ∷ []) h (p, tt)
 
 pub among-more : (from others ns : List (List ℕ)) → ((n : List ℕ) → Contains from n → Contains others n) → AllByRecursion (Contains from) ns → AllByRecursion (Contains others) ns
 among-more from others [] f h = tt
@@ -44,7 +47,7 @@ two_put old between new n m one two a b = record {
       let first : length between ≡ length old + length a.more = ap length a.is ∙ length-append old a.more in
       let second : length new ≡ length between + length b.more = ap length b.is ∙ length-append between b.more in
       omega (arith, first, second, one, two, length-append a.more b.more);
-  among = both-among (n ∷ m ∷ []) a.more b.more
+  among = all-behind (Contains (n ∷ m ∷ [])) a.more b.more
       (among-more (n ∷ []) (n ∷ m ∷ []) a.more (λ x h. Contains-append_left (n ∷ []) (m ∷ []) x h) a.among)
       (among-more (m ∷ []) (n ∷ m ∷ []) b.more (λ x h. Contains-append_right (n ∷ []) (m ∷ []) x h) b.among);
   is = b.is ∙ ap (λ (l : List (List ℕ)). l ++ b.more) a.is ∙ append_assoc old a.more b.more;

@@ -8,6 +8,7 @@ pub mod Spelled
 pub mod Names
 pub mod Traces
 pub mod Places
+pub mod CallLists
 pub mod InMemory
 pub mod Errors
 pub mod Report

@@ -20,10 +20,10 @@ abbrev pub call_said : SpelledCall → CallLine
 call_said c = record { worker = c.worker; act = act_said c.act }
 
 -- a call of a worker that there is, within the ranges, and one that the worker may make
-pub record MayBe (workers : ℕ) (policies : List PolicyLine) (c : SpelledCall) : Type 0 where
+pub record MayBe (workers : ℕ) (policies : List PolicyLine) (c : CallLine) : Type 0 where
   pub known : c.worker < workers
-  pub ranged : is_in_range (act_said c.act) ≡ true
-  pub may : may_do policies c.worker (act_said c.act) ≡ true
+  pub ranged : is_in_range c.act ≡ true
+  pub may : may_do policies c.worker c.act ≡ true
 
 -- the names of the directory in a call
 abbrev pub act_names : Act → List (List ℕ)

@@ -1,11 +1,12 @@
 //! The trace that a seed makes.
 ghost use Rattle.std.specs.Prelude.{◌≡◌, ◌<◌, ◌≤◌, ◌+◌, ◌*◌, ◌/◌, ◌%◌, ℕ, List, [], ◌∷◌, ◌++◌, map, length, IfOk, OnOk, Some, None, slice_get};
+ghost use Rattle.trace_text.specs.CallLists.{list_said, IsListOf};
 ghost use Rattle.trace_text.specs.Generator.{states, drawn, number_of, name_of, dir_of, act_drawn, attached, call_drawn, calls_from, attr_of, workers_from, same_socket, generated_policies, generated};
 ghost use Rattle.trace_text.specs.Names.{AreRisingBy, SameMembers};
-ghost use Rattle.trace_text.specs.Spelled.{call_names, call_said, act_said};
+ghost use Rattle.trace_text.specs.Spelled.{call_names, act_said};
 ghost use Rattle.trace_text.specs.Traces.{document_of, names_of, policy_of, name_at, IsWithin};
 
-use crate::numbering::number_calls;
+use crate::call_list::CallList;
 use crate::spelled::{SpelledAct, SpelledCall};
 use crate::trace::{NamedSource, Trace};
 use bpf_isa::Profile;
@@ -40,13 +41,8 @@ pub fn generate(alloc: Global, seed: u64, workers: u32, calls: u32) -> Result<Tr
 {
     let table = name_table(alloc)?;
     let policies = both_policies(alloc)?;
-    let spelled = spelled_calls(alloc, &table, seed, workers, calls)?;
-    let numbered = number_calls(
-        alloc,
-        workers as usize,
-        policies.as_slice(),
-        spelled.as_slice(),
-    )?;
+    let list = drawn_calls(alloc, &table, policies.as_slice(), seed, workers, calls)?;
+    let numbered = list.finish(alloc, workers as usize, policies.as_slice())?;
     Ok(Trace {
         version: 1,
         profile: Profile::One,
@@ -135,40 +131,53 @@ fn attributes(alloc: Global, workers: u32) -> Result<Vec<Attr>, NoMemory>
 }
 
 // The calls of the seed, in order, with the attachments between them.
-fn spelled_calls<'a>(
+fn drawn_calls<'a>(
     alloc: Global,
     table: &'a [Vec<u8>],
+    policies: &[NamedSource],
     seed: u64,
     workers: u32,
     calls: u32,
-) -> Result<Vec<SpelledCall<'a>>, NoMemory>
+) -> Result<CallList<'a>, NoMemory>
     requires some { 0 < workers }
     requires few_workers { workers ≤ 16 }
     requires few_calls { calls ≤ 65000 }
+    requires policies { map policy_of policies.now ≡ generated_policies }
     requires as_many { length table.now ≡ 64 }
     requires names { (k : ℕ) → k < 64 → name_at (map (λ n. n.items) table.now) k ≡ name_of k }
-    ensures { IfOk result (λ v.
-        map call_said v.items ≡ calls_from workers 0 (seed % states) calls) }
+    ensures said { IfOk result (λ l.
+        list_said policies.now l ≡ calls_from workers 0 (seed % states) calls) }
+    ensures list { IfOk result (IsListOf workers policies.now) }
 {
-    let mut spelled = Vec::new(alloc);
+    let mut list = CallList::open(alloc, calls as usize + 65)?;
     let mut state = seed % STATES;
     for call in 0..calls {
-        push_attachment(&mut spelled, call)?;
+        push_attachment(&mut list, policies, workers, call)?;
         let first = draw(state);
         let second = draw(first);
         let third = draw(second);
         let worker = call % workers;
         let act = drawn_act(table, workers, worker, first, second, third);
-        spelled.push(SpelledCall { worker, act })?;
+        list.push(workers as usize, policies, &SpelledCall { worker, act })?;
         state = third;
     }
-    Ok(spelled)
+    Ok(list)
 }
 
 // The attachment before a call, where there is one.
-fn push_attachment(calls: &mut Vec<SpelledCall>, call: u32) -> Result<(), NoMemory>
-    ensures { OnOk result
-        (map call_said calls.new.items ≡ map call_said calls.old.items ++ attached call) }
+fn push_attachment(
+    list: &mut CallList,
+    policies: &[NamedSource],
+    workers: u32,
+    call: u32,
+) -> Result<(), NoMemory>
+    requires some { 0 < workers }
+    requires few { length list.old.calls.items < 65536 }
+    requires policies { map policy_of policies.now ≡ generated_policies }
+    requires list { IsListOf workers policies.now list.old }
+    ensures said { OnOk result
+        (list_said policies.now list.new ≡ list_said policies.now list.old ++ attached call) }
+    ensures list { OnOk result (IsListOf workers policies.now list.new) }
 {
     if call % 1000 == 500 {
         let name: &[u8] = if (call / 1000) % 2 == 0 {
@@ -176,10 +185,11 @@ fn push_attachment(calls: &mut Vec<SpelledCall>, call: u32) -> Result<(), NoMemo
         } else {
             b"socket"
         };
-        calls.push(SpelledCall {
+        let attachment = SpelledCall {
             worker: 0,
             act: SpelledAct::Attach { name },
-        })?;
+        };
+        list.push(workers as usize, policies, &attachment)?;
     }
     Ok(())
 }

@@ -1,6 +1,7 @@
 //! Traces of calls on the directory: read, written, made, and reported.
 #![tactic(auto)]
 
+mod call_list;
 mod calls;
 mod error;
 mod gathered;

@@ -1,23 +1,18 @@
-//! The calls of a trace by the places of their names and policies.
-ghost use Rattle.std.specs.Prelude.{◌≡◌, ◌<◌, ◌≤◌, ◌*◌, [], ◌∷◌, List, length, map, true, IfOk, OnOk, MatchOption, IfSome};
-ghost use Rattle.std.specs.List.{AllByRecursion};
+//! What a worker does by the places of its names and policies.
+ghost use Rattle.std.specs.Prelude.{◌≡◌, ◌<◌, ◌≤◌, [], ◌∷◌, length, map, true, IfOk, MatchOption, IfSome};
 ghost use Rattle.trace_text.specs.Document.{rename};
-ghost use Rattle.trace_text.specs.Names.{AreRisingBy, SameMembers};
 ghost use Rattle.trace_text.specs.Lines.{is_declared, is_in_range, may_do, is_attach};
 ghost use Rattle.trace_text.specs.Places.{ArePutBehind};
-ghost use Rattle.trace_text.specs.Spelled.{act_said, call_said, MayBe, act_names, call_names};
-ghost use Rattle.trace_text.specs.Traces.{policy_of, name_at, dir_act, act_of, call_of, IsActOf, IsCallOf};
+ghost use Rattle.trace_text.specs.Spelled.{act_said, act_names};
+ghost use Rattle.trace_text.specs.Traces.{policy_of, name_at, dir_act, act_of, IsActOf};
 ghost use Rattle.dir_table.specs.Meanings.{IsAdmitted};
 
 use crate::gathered::Gathered;
-use crate::ordered::put_in_order;
-use crate::renumbering::renumber;
-use crate::spelled::{SpelledAct, SpelledCall};
-use crate::trace::{NamedSource, TraceAct, TraceCall};
+use crate::spelled::SpelledAct;
+use crate::trace::{NamedSource, TraceAct};
 use dir_table::DirCall;
 use doc_text::is_same;
 use policy_text::NoMemory;
-use std::alloc::Global;
 
 // The place of a policy that is declared.
 fn policy_place(policies: &[NamedSource], name: &[u8]) -> u32
@@ -104,8 +99,8 @@ fn dir_call<'a>(names: &mut Gathered<'a>, act: &SpelledAct<'a>) -> Result<Option
     Ok(Some(call))
 }
 
-// What a worker does, by places.
-fn numbered_act<'a>(
+/// What a worker does, by places.
+pub fn numbered_act<'a>(
     names: &mut Gathered<'a>,
     policies: &[NamedSource],
     worker: u32,
@@ -127,80 +122,4 @@ fn numbered_act<'a>(
             None => unreachable!(),
         },
     }
-}
-
-// The calls by the places of their names as they were gathered.
-fn gathered_calls<'a>(
-    alloc: Global,
-    workers: usize,
-    names: &mut Gathered<'a>,
-    policies: &[NamedSource],
-    calls: &[SpelledCall<'a>],
-) -> Result<Vec<TraceCall>, NoMemory>
-    requires empty { names.old ≡ [] }
-    requires few { length calls.now ≤ 65536 }
-    requires declared { AllByRecursion (MayBe workers (map policy_of policies.now)) calls.now }
-    requires few_policies { length policies.now ≤ 64 }
-    ensures said { IfOk result (λ v.
-        map (call_of names.new (map (λ p. p.name.items) policies.now)) v.items
-        ≡ map call_said calls.now) }
-    ensures named { IfOk result (λ v.
-        AllByRecursion (IsCallOf workers (length names.new) (length policies.now)) v.items) }
-    ensures same { OnOk result (SameMembers (call_names (map call_said calls.now)) names.new) }
-    ensures few { OnOk result (length names.new ≤ 2 * length calls.now) }
-{
-    let _ = workers;
-    let mut numbered: Vec<TraceCall> = Vec::with_capacity(alloc, calls.len())?;
-    for call in calls {
-        let act = numbered_act(names, policies, call.worker, &call.act)?;
-        numbered.push_reserved(TraceCall {
-            worker: call.worker,
-            act,
-        });
-    }
-    Ok(numbered)
-}
-
-/// Calls by the places of their names, and the names in order of their bytes, each once.
-#[derive(Drop)]
-pub struct Numbered {
-    pub names: Vec<Vec<u8>>,
-    pub calls: Vec<TraceCall>,
-}
-
-/// The calls by the places of their names and policies.
-pub fn number_calls<'a>(
-    alloc: Global,
-    workers: usize,
-    policies: &[NamedSource],
-    calls: &[SpelledCall<'a>],
-) -> Result<Numbered, NoMemory>
-    requires few { length calls.now ≤ 65536 }
-    requires declared { AllByRecursion (MayBe workers (map policy_of policies.now)) calls.now }
-    requires few_policies { length policies.now ≤ 64 }
-    ensures said { IfOk result (λ n.
-        map (call_of (map (λ n. n.items) n.names.items) (map (λ p. p.name.items) policies.now))
-        n.calls.items
-        ≡ map call_said calls.now) }
-    ensures named { IfOk result (λ n. AllByRecursion
-        (IsCallOf workers (length n.names.items) (length policies.now)) n.calls.items) }
-    ensures rising { IfOk result (λ n. AreRisingBy (λ n. n.items) n.names.items) }
-    ensures same { IfOk result (λ n. SameMembers
-        (call_names (map call_said calls.now)) (map (λ n. n.items) n.names.items)) }
-    ensures few { IfOk result (λ n. length n.names.items ≤ 2 * length calls.now) }
-{
-    let mut gathered = Gathered::nobody(alloc, 2 * calls.len())?;
-    let mut numbered = gathered_calls(alloc, workers, &mut gathered, policies, calls)?;
-    let found = gathered.names();
-    let ordered = put_in_order(alloc, found.as_slice())?;
-    renumber(
-        workers,
-        policies.len(),
-        ordered.places.as_slice(),
-        &mut numbered,
-    );
-    Ok(Numbered {
-        names: ordered.names,
-        calls: numbered,
-    })
 }

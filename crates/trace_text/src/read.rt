@@ -13,7 +13,6 @@ ghost use Rattle.trace_text.specs.Traces.{document_of, names_of, IsWithin};
 
 use crate::calls::calls_of;
 use crate::error::TraceError;
-use crate::numbering::number_calls;
 use crate::policies::policies_of;
 use crate::trace::Trace;
 use crate::workers::workers_of;
@@ -44,8 +43,7 @@ fn trace_of(alloc: Global, bytes: &[u8]) -> Result<Trace, TraceError>
     let line = line + workers.len() as u32;
     let (policies, rest) = policies_of(alloc, profile, rest, line)?;
     let line = line + policies.len() as u32;
-    let calls = calls_of(alloc, workers.len(), policies.as_slice(), rest, line)?;
-    let numbered = number_calls(alloc, workers.len(), policies.as_slice(), calls.as_slice())?;
+    let numbered = calls_of(alloc, workers.len(), policies.as_slice(), rest, line)?;
     Ok(Trace {
         version,
         profile,

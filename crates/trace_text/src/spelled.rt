@@ -1,3 +1,7 @@
+ghost use Rattle.std.specs.Prelude.{◌≡◌};
+ghost use Rattle.trace_text.specs.Lines.{is_attach};
+ghost use Rattle.trace_text.specs.Spelled.{act_said};
+
 /// A call as its line says it, each name a part of the document.
 #[derive(Clone, Copy, Debug, PartialEq, Eq)]
 pub enum SpelledAct<'a> {
@@ -35,4 +39,11 @@ pub enum SpelledAct<'a> {
 pub struct SpelledCall<'a> {
     pub worker: u32,
     pub act: SpelledAct<'a>,
+}
+
+/// Whether a policy is attached.
+pub fn is_attach(act: &SpelledAct) -> bool
+    ensures { result ≡ is_attach (act_said act.now) }
+{
+    matches!(act, SpelledAct::Attach { .. })
 }
