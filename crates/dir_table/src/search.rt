@@ -1,7 +1,8 @@
 //! Where rows in blocks are, which stand in order of directory and name.
-ghost use Rattle.std.specs.Prelude.{◌≡◌, ◌+◌, ◌<◌, ◌≤◌, ◌^◌, length, Bool, true, false, if◌then◌else◌};
+ghost use Rattle.std.specs.Prelude.{◌≡◌, ◌+◌, ◌-◌, ◌<◌, ◌≤◌, ◌^◌, length, slice_index_or, Bool, true, false, if◌then◌else◌};
 ghost use Rattle.std.specs.List.{slice_get};
 ghost use Rattle.std.specs.List.Sorted.{IsPartitionedBy, IsPartitionPoint};
+ghost use Rattle.dir_table.specs.declared.calls.DirRow.{DirRow};
 ghost use Rattle.dir_table.specs.Blocks.{joined, rows_before, is_below, begins_with, AreFilled, IsGap, IsCut};
 ghost use Rattle.dir_table.specs.Rows.{AreInOrder};
 
@@ -66,20 +67,34 @@ pub fn cut(blocks: &[Block], dir: u8, name: u64) -> Spot
     Spot { block, at }
 }
 
-// Whether the rows that are not below begin at the spot, as the rows on both sides of it tell. At the start of a block it isn't looked.
+// Whether the spot is where all rows begin, or behind a row of its block that is below.
+fn is_behind_below(rows: &[DirRow], spot: Spot, dir: u8, name: u64) -> bool
+    requires { spot.at ≤ length rows.now }
+    ensures start { result ≡ true → spot.at ≡ 0 → spot.block ≡ 0 }
+    ensures below { (none : DirRow) → result ≡ true → 0 < spot.at
+        → is_below (dir, name) (slice_index_or rows.now (spot.at - 1) none) ≡ true }
+{
+    if spot.at == 0 {
+        spot.block == 0
+    } else {
+        is_below(&rows[spot.at - 1], dir, name)
+    }
+}
+
+// Whether the rows that are not below begin at the spot, as the rows on both sides of it tell. At the start of a block but the first it isn't looked.
 fn begins_at(blocks: &[Block], spot: Spot, dir: u8, name: u64) -> bool
     requires filled { AreFilled blocks.now }
     requires in_order { AreInOrder (joined blocks.now) }
     ensures gap { result ≡ true → IsGap blocks.now spot }
     ensures cut { result ≡ true
         → IsCut (joined blocks.now) (dir, name) (rows_before blocks.now spot) }
-    ensures inside { result ≡ true → 0 < spot.at }
+    ensures start { result ≡ true → spot.at ≡ 0 → rows_before blocks.now spot ≡ 0 }
 {
-    if spot.block >= blocks.len() || spot.at == 0 {
+    if spot.block >= blocks.len() {
         return false;
     }
     let rows = blocks[spot.block].as_slice();
-    if spot.at > rows.len() || !is_below(&rows[spot.at - 1], dir, name) {
+    if spot.at > rows.len() || !is_behind_below(rows, spot, dir, name) {
         return false;
     }
     match row_from(blocks, spot) {
