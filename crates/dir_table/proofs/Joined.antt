@@ -60,3 +60,20 @@ module _ {X : Type 0} where
   joins-emptied [] k d known empty = absurd (omega arith)
   joins-emptied (xs ∷ xss) zero d known empty = ap (λ l. l ++ joins xss) (sym empty)
   joins-emptied (xs ∷ xss) (suc k) d known empty = ap (λ l. xs ++ l) (joins-emptied xss k d (omega arith) empty)
+
+  -- with one list more
+  pub length-joins_more : (xss : List (List X)) (k : ℕ) (d : List X) → k < length xss → length (joins (take (k + 1) xss)) ≡ before xss k (length (get_or xss k d))
+  length-joins_more xss k d known = ap (λ n. length (joins (take n xss))) {x = k + 1} {y = suc k} (omega arith) ∙ one_more xss k d known
+    where
+      one_more : (xss : List (List X)) (k : ℕ) (d : List X) → k < length xss → length (joins (take (suc k) xss)) ≡ before xss k (length (get_or xss k d))
+      one_more [] k d known = absurd (omega arith)
+      one_more (xs ∷ xss) zero d known = omega (arith, length-append xs [])
+      one_more (xs ∷ xss) (suc k) d known =
+          omega (arith, length-append xs (joins (take (suc k) xss)), length-append xs (joins (take k xss)), one_more xss k d (omega arith))
+
+  -- the lists up to one, and those from there on
+  pub length-joins_parts : (xss : List (List X)) (k : ℕ) → length (joins (take k xss)) + length (joins (drop k xss)) ≡ length (joins xss)
+  length-joins_parts [] zero = omega arith
+  length-joins_parts [] (suc k) = omega arith
+  length-joins_parts (xs ∷ xss) zero = omega arith
+  length-joins_parts (xs ∷ xss) (suc k) = omega (arith, length-append xs (joins (take k xss)), length-append xs (joins xss), length-joins_parts xss k)

@@ -3,6 +3,7 @@ pub mod Cuts
 pub mod Edits
 pub mod Joined
 pub mod Least
+pub mod ListEdits
 pub mod Limits
 pub mod Methods
 pub mod NamesKept
@@ -15,3 +16,4 @@ pub mod Spots
 pub mod Stored
 pub mod Nearby
 pub mod Refused
+pub mod Slots

@@ -1,6 +1,6 @@
 -- Limits of places, and what a cut there says of a directory and its names.
-use Rattle.std.proofs.Common.{◌≡◌, ℕ, zero, suc, ◌+◌, ◌-◌, ◌<◌, ◌≤◌, Bool, true, false, ltb, leb, eqb, List, [], ◌∷◌, length, get_or, Ordering, Some, None, sym, refl, ap, ◌∙◌, subst, inl, inr, arith}
-use Rattle.std.specs.List.{AllWithin, filter}
+use Rattle.std.proofs.Common.{◌≡◌, ℕ, zero, suc, ◌+◌, ◌-◌, ◌<◌, ◌≤◌, true, false, ltb, leb, eqb, List, [], ◌∷◌, length, get_or, Ordering, Some, None, sym, refl, ap, ◌∙◌, subst, inl, inr, arith}
+use Rattle.std.specs.List.{filter}
 use Rattle.std.specs.Ordering.{nat_cmp, is_lt, is_le, ordering_then, ordering_index}
 use Rattle.std.specs.List.Sorted.{IsPartitionedBy}
 use Rattle.std.specs.declared.cmp.Ordering.TheVariants.{Less, Equal, Greater}
@@ -9,12 +9,12 @@ use Rattle.std.proofs.lemmas.Bool.Decides.{nat_tests}
 use Rattle.std.proofs.lemmas.List.Sorted.{searchable_from_sorted}
 use Rattle.dir_table.specs.declared.calls.DirRow.{DirRow}
 use Rattle.dir_table.specs.Names.{Place, place_cmp, entries_of}
-use Rattle.dir_table.specs.Rows.{AreInOrder, IsAt, IsGapFor, BeginAfter}
+use Rattle.dir_table.specs.Rows.{AreInOrder, IsGapFor, BeginAfter}
 use Rattle.dir_table.specs.Blocks.{is_below, IsCut}
 use Rattle.dir_table.proofs.Order.{places_total, places_exact, both_true, reversed, place_of_row, below_at, rise}
 use Rattle.dir_table.proofs.Counts.{count_between}
 use Rattle.dir_table.proofs.Next.{begin_first, begin_later}
-use Rattle.dir_table.proofs.Places.{at_from, gap_from}
+use Rattle.dir_table.proofs.Places.{gap_from}
 
 lt_stays : (r s : Ordering) → ordering_index r ≤ ordering_index s → is_lt s ≡ true → is_lt r ≡ true
 lt_stays Less s below h = refl

@@ -12,6 +12,7 @@ use Rattle.std.proofs.lemmas.Cmp.{on_total, then_total, nat_cmp_total}
 use Rattle.std.proofs.lemmas.Map.Lookups.{exact_pairs, exact_unsigned}
 use Rattle.dir_table.specs.declared.calls.DirRow.{DirRow}
 use Rattle.dir_table.specs.Names.{Place, place_cmp, entry_of, entries_of}
+use Rattle.dir_table.proofs.ListEdits.{map-insert, map-remove}
 
 pub places_total : IsTotalOrder place_cmp
 places_total = then_total (on_total (λ p. p.0) nat_cmp_total) (on_total (λ p. p.1) nat_cmp_total)
@@ -73,13 +74,7 @@ rise (row ∷ next ∷ rows) sorted (suc k) d from in_range =
 
 -- the entries after an edit of the rows
 pub entries-insert : (rows : List DirRow) (i : ℕ) (row : DirRow) → entries_of (insert rows i row) ≡ insert (entries_of rows) i (entry_of row)
-entries-insert [] zero row = refl
-entries-insert [] (suc i) row = refl
-entries-insert (x ∷ rows) zero row = refl
-entries-insert (x ∷ rows) (suc i) row = ap (λ es. entry_of x ∷ es) (entries-insert rows i row)
+entries-insert = map-insert entry_of
 
 pub entries-remove : (rows : List DirRow) (i : ℕ) → entries_of (remove rows i) ≡ remove (entries_of rows) i
-entries-remove [] zero = refl
-entries-remove [] (suc i) = refl
-entries-remove (x ∷ rows) zero = refl
-entries-remove (x ∷ rows) (suc i) = ap (λ es. entry_of x ∷ es) (entries-remove rows i)
+entries-remove = map-remove entry_of

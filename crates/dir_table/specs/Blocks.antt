@@ -1,5 +1,5 @@
 -- Rows in blocks, which are half full or more where many rows were put in.
-use Rattle.std.specs.Prelude.{◌≡◌, ℕ, suc, ◌+◌, ◌-◌, ◌*◌, ◌<◌, ◌≤◌, ◌^◌, List, [], ◌∷◌, take, drop, length, slice_index_or, slice_set, All, IsTrue, Bool, true, false}
+use Rattle.std.specs.Prelude.{◌≡◌, ℕ, suc, ◌+◌, ◌-◌, ◌*◌, ◌<◌, ◌≤◌, ◌^◌, List, [], ◌∷◌, take, drop, length, slice_index_or, slice_set, All, Bool, true, false}
 use Rattle.std.specs.List.{flat_map, sum_by, insert, AllWithin}
 use Rattle.std.specs.Ordering.{is_lt}
 use Rattle.dir_table.specs.declared.calls.DirRow.{DirRow}
@@ -34,10 +34,12 @@ pub record AreFilled (blocks : Blocks) : Type 0 where
   pub some : 0 < length blocks
   pub filled : All (λ rows. 0 < length rows) (drop 1 blocks)
 
--- each of the other blocks has rows, and a count of all rows fits
-pub record AreReadable (first : List DirRow) (others : Blocks) : Type 0 where
-  pub filled : All (λ rows. 0 < length rows) others
-  pub few : length first + length (joined others) < 2 ^ 32
+-- what is left of a first block and of the blocks from `next` on: each of those has rows, and a count of all rows fits
+pub record AreReadable (first : List DirRow) (blocks : Blocks) (next : ℕ) : Type 0 where
+  pub within : next ≤ length blocks
+  pub filled : All (λ rows. 0 < length rows) (drop next blocks)
+  pub few : length (joined blocks) < 2 ^ 32
+  pub fewer : length first + length (joined (drop next blocks)) ≤ length (joined blocks)
 
 -- there is a row at the spot
 pub record IsRow (blocks : Blocks) (spot : Spot) : Type 0 where
@@ -57,16 +59,12 @@ crowding = sum_by (λ rows. length rows - half_room)
 abbrev pub halved : Blocks → ℕ → Blocks
 halved blocks k = insert (slice_set blocks k (take half_room (block_at blocks k))) (suc k) (drop half_room (block_at blocks k))
 
--- what a buffer keeps of its blocks and of those that are free
-pub record AreStored (blocks free : Blocks) (spare capacity free_capacity : ℕ) : Type 0 where
+-- what a buffer keeps of its blocks, where there is memory for `left` more
+pub record AreStored (blocks : Blocks) (spare left : ℕ) : Type 0 where
   pub filled : AreFilled blocks
   pub apart : All (λ rows. length rows < block_room) blocks
-  pub empty : All (λ rows. rows ≡ []) free
   -- 64 rows were put in for each block that a full one gave half of its rows
-  pub reserved : crowding blocks + spare ≤ half_room * length free
-  -- the list of the blocks has memory for all of them, and so has that of the free ones
-  pub listed : length blocks + length free ≤ capacity
-  pub returned : length blocks + length free ≤ free_capacity
+  pub reserved : crowding blocks + spare ≤ half_room * left
 
 -- the row's place is below the limit
 abbrev pub is_below : Place → DirRow → Bool

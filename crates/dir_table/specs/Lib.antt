@@ -7,3 +7,4 @@ pub mod Names
 pub mod Numbers
 pub mod ObjectLaws
 pub mod Rows
+pub mod Slots

@@ -1,11 +1,10 @@
 //! Blocks of rows, and spots in them.
-ghost use Rattle.std.specs.Prelude.{◌≡◌, ◌<◌, ◌≤◌, ◌^◌, [], length, slice_index_or, slice_set, take, drop, IfOk};
+ghost use Rattle.std.specs.Prelude.{◌≡◌, ◌<◌, ◌≤◌, [], length, slice_index_or, slice_set, take, drop};
 ghost use Rattle.std.specs.List.{insert, remove};
-ghost use Rattle.dir_table.specs.Blocks.{block_room, half_room, joined};
+ghost use Rattle.dir_table.specs.Blocks.{block_room, half_room};
 
-use crate::NoMemory;
 use crate::calls::DirRow;
-use std::alloc::Global;
+use arrayvec::ArrayVec;
 use std::marker::Model;
 
 /// How many rows a block has memory for.
@@ -28,41 +27,38 @@ impl Spot {
     }
 }
 
-/// Some rows, and memory for 128 of them.
+/// Up to 128 rows, which lie in the block itself.
 #[derive(Drop)]
 pub struct Block {
-    rows: Vec<DirRow>,
+    rows: ArrayVec<DirRow, 128>,
 }
 
 impl Model for Block {
-    ghost use Rattle.std.specs.Prelude.{◌≤◌, List};
-    ghost use Rattle.std.specs.Vec.{vec_capacity};
+    ghost use Rattle.std.specs.Prelude.{List};
     ghost use Rattle.dir_table.specs.declared.calls.DirRow.{DirRow};
 
     ghost Value = { List DirRow };
 
     ghost view = { λ b. b.rows.items };
-
-    ghost invariant = { λ b. 128 ≤ vec_capacity b.rows };
 }
 
 impl Block {
     /// A block with no row.
-    pub fn new(alloc: Global) -> Result<Block, NoMemory>
-        ensures { IfOk result (λ b. b ≡ []) }
+    pub fn new() -> Block
+        ensures { result ≡ [] }
     {
-        Ok(Block {
-            rows: Vec::with_capacity(alloc, BLOCK_ROOM)?,
-        })
+        Block {
+            rows: ArrayVec::new(),
+        }
     }
 
-    /// The same rows again, in memory of their own.
-    pub fn copy(&self, alloc: Global) -> Result<Block, NoMemory>
-        ensures { IfOk result (λ b. b ≡ self.now) }
+    /// The same rows again.
+    pub fn copy(&self) -> Block
+        ensures { result ≡ self.now }
     {
-        let mut rows = Vec::with_capacity(alloc, BLOCK_ROOM)?;
-        rows.extend_from_slice(self.rows.as_slice())?;
-        Ok(Block { rows })
+        Block {
+            rows: rows_again(self.rows.as_slice()),
+        }
     }
 
     /// The rows.
@@ -77,7 +73,7 @@ impl Block {
         requires { at < length self.old }
         ensures { self.new ≡ slice_set self.old at row }
     {
-        self.rows[at] = row;
+        self.rows.as_mut_slice()[at] = row;
     }
 
     /// Puts a row before the one at `at`.
@@ -86,7 +82,7 @@ impl Block {
         requires room { length self.old < block_room }
         ensures { self.new ≡ insert self.old at row }
     {
-        self.rows.insert(at, row).unwrap();
+        self.rows.insert(at, row);
     }
 
     /// Takes the row at `at` away.
@@ -98,27 +94,24 @@ impl Block {
         self.rows.remove(at)
     }
 
-    /// Moves the upper half of the rows of a full block into one that has none.
-    pub fn split(&mut self, upper: &mut Block)
-        requires full { length self.old ≡ block_room }
-        requires empty { upper.old ≡ [] }
+    /// Moves the upper half of the rows of a full block into one of their own.
+    pub fn split(&mut self) -> Block
+        requires { length self.old ≡ block_room }
         ensures lower { self.new ≡ take half_room self.old }
-        ensures upper { upper.new ≡ drop half_room self.old }
+        ensures upper { result ≡ drop half_room self.old }
     {
-        let rows = &self.rows.as_slice()[HALF_ROOM..];
-        upper.rows.extend_from_slice(rows).unwrap();
+        let upper = rows_again(&self.rows.as_slice()[HALF_ROOM..]);
         self.rows.truncate(HALF_ROOM);
+        Block { rows: upper }
     }
 }
 
-/// How many rows the blocks have.
-pub fn rows_in(blocks: &[Block]) -> usize
-    requires { length (joined blocks.now) < 2 ^ 32 }
-    ensures { result ≡ length (joined blocks.now) }
+// The same rows in memory of a block.
+fn rows_again(rows: &[DirRow]) -> ArrayVec<DirRow, 128>
+    requires { length rows.now ≤ block_room }
+    ensures { result.items ≡ rows.now }
 {
-    let mut count = 0;
-    for block in blocks {
-        count += block.as_slice().len();
-    }
-    count
+    let mut again = ArrayVec::new();
+    again.try_extend_from_slice(rows).unwrap();
+    again
 }

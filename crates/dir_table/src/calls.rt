@@ -54,7 +54,7 @@ pub enum DirReply {
 }
 
 /// A name of a directory, with the number of its file.
-#[derive(Clone, Copy, Debug, PartialEq, Eq)]
+#[derive(Clone, Copy, Debug, Default, PartialEq, Eq)]
 pub struct DirRow {
     pub dir: u8,
     pub name: u32,

@@ -2,6 +2,7 @@
 #![tactic(auto)]
 
 mod block;
+mod block_list;
 mod buffer;
 mod calls;
 mod dir;

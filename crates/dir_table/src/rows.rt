@@ -8,23 +8,25 @@ ghost use Rattle.dir_table.specs.Rows.{AreInOrder, IsAt, IsGapFor, BeginAfter};
 ghost use Rattle.dir_table.specs.Blocks.{joined, rows_before, AreFilled, IsRow, IsGap};
 ghost use Rattle.dir_table.specs.Answers.{comes_after};
 
-use crate::block::{Block, Spot};
+use crate::block::Spot;
+use crate::block_list::BlockList;
 use crate::buffer::RowBuffer;
 use crate::calls::DirRow;
 use crate::search::{cut, cut_near, row_from, row_number};
 
 /// Where the row of the name is, or where it would go: at the spot where it was looked for first, or elsewhere.
-fn place_of(blocks: &[Block], near: Spot, dir: u8, name: u32) -> Result<Spot, Spot>
-    requires filled { AreFilled blocks.now }
-    requires in_order { AreInOrder (joined blocks.now) }
-    ensures row { IfOk result (IsRow blocks.now) }
-    ensures gap { IfErr result (IsGap blocks.now) }
+fn place_of(list: &BlockList, near: Spot, dir: u8, name: u32) -> Result<Spot, Spot>
+    requires filled { AreFilled list.now.blocks }
+    requires in_order { AreInOrder (joined list.now.blocks) }
+    ensures row { IfOk result (IsRow list.now.blocks) }
+    ensures gap { IfErr result (IsGap list.now.blocks) }
     ensures found { IfOk result (λ spot.
-        IsAt (entries_of (joined blocks.now)) (dir, name) (rows_before blocks.now spot)) }
+        IsAt (entries_of (joined list.now.blocks)) (dir, name) (rows_before list.now.blocks spot)) }
     ensures absent { IfErr result (λ spot.
-        IsGapFor (entries_of (joined blocks.now)) (dir, name) (rows_before blocks.now spot)) }
+        IsGapFor (entries_of (joined list.now.blocks)) (dir, name)
+        (rows_before list.now.blocks spot)) }
 {
-    let end = cut_near(blocks, near, dir, u64::from(name) + 1);
+    let end = cut_near(list, near, dir, u64::from(name) + 1);
     if end.at == 0 {
         return Err(end);
     }
@@ -32,7 +34,7 @@ fn place_of(blocks: &[Block], near: Spot, dir: u8, name: u32) -> Result<Spot, Sp
         block: end.block,
         at: end.at - 1,
     };
-    let row = blocks[last.block].as_slice()[last.at];
+    let row = list.rows_of(last.block)[last.at];
     if row.dir == dir && row.name == name {
         Ok(last)
     } else {
@@ -53,9 +55,9 @@ pub fn number_of(rows: &RowBuffer, dir: u8, name: u32) -> Option<u64>
     requires { AreInOrder (joined rows.now.blocks) }
     ensures { result ≡ map_of.find place_cmp (dir, name) (entries_of (joined rows.now.blocks)) }
 {
-    let blocks = rows.blocks();
-    match place_of(blocks, Spot::first(), dir, name) {
-        Ok(spot) => Some(blocks[spot.block].as_slice()[spot.at].ino),
+    let list = rows.blocks();
+    match place_of(list, Spot::first(), dir, name) {
+        Ok(spot) => Some(list.rows_of(spot.block)[spot.at].ino),
         Err(_) => None,
     }
 }
@@ -73,11 +75,11 @@ pub fn add_row(rows: &mut RowBuffer, near: &mut Spot, row: DirRow) -> Option<u64
     ensures spare { rows.old.spare ≤ rows.new.spare + 1 }
     ensures there { OnSome result (rows.new ≡ rows.old) }
 {
-    let blocks = rows.blocks();
-    match place_of(blocks, *near, row.dir, row.name) {
+    let list = rows.blocks();
+    match place_of(list, *near, row.dir, row.name) {
         Ok(spot) => {
             *near = behind(spot);
-            Some(blocks[spot.block].as_slice()[spot.at].ino)
+            Some(list.rows_of(spot.block)[spot.at].ino)
         }
         Err(spot) => {
             *near = spot;
@@ -141,9 +143,9 @@ pub fn count_of(rows: &RowBuffer, dir: u8) -> u32
     ensures { result
         ≡ length (filter (λ e. e.0.0 == dir) (entries_of (joined rows.now.blocks))) }
 {
-    let blocks = rows.blocks();
-    let start = row_number(blocks, cut(blocks, dir, 0));
-    let end = row_number(blocks, cut(blocks, dir + 1, 0));
+    let list = rows.blocks();
+    let start = row_number(list, cut(list, dir, 0));
+    let end = row_number(list, cut(list, dir + 1, 0));
     (end - start) as u32
 }
 
@@ -154,22 +156,23 @@ pub fn next_of(rows: &RowBuffer, dir: u8, after: Option<u32>) -> Option<u32>
         (find (λ e. (e.0.0 == dir) && comes_after after e.0.1)
         (entries_of (joined rows.now.blocks))) }
 {
-    let blocks = rows.blocks();
-    match row_from(blocks, place_after(blocks, dir, after)) {
+    let list = rows.blocks();
+    match row_from(list, place_after(list, dir, after)) {
         Some(row) if row.dir == dir => Some(row.name),
         _ => None,
     }
 }
 
 // Where the names of the directory after this one begin.
-fn place_after(blocks: &[Block], dir: u8, after: Option<u32>) -> Spot
-    requires filled { AreFilled blocks.now }
-    requires in_order { AreInOrder (joined blocks.now) }
-    ensures gap { IsGap blocks.now result }
-    ensures begin { BeginAfter (joined blocks.now) dir after (rows_before blocks.now result) }
+fn place_after(list: &BlockList, dir: u8, after: Option<u32>) -> Spot
+    requires filled { AreFilled list.now.blocks }
+    requires in_order { AreInOrder (joined list.now.blocks) }
+    ensures gap { IsGap list.now.blocks result }
+    ensures begin { BeginAfter (joined list.now.blocks) dir after
+        (rows_before list.now.blocks result) }
 {
     match after {
-        None => cut(blocks, dir, 0),
-        Some(name) => cut(blocks, dir, u64::from(name) + 1),
+        None => cut(list, dir, 0),
+        Some(name) => cut(list, dir, u64::from(name) + 1),
     }
 }

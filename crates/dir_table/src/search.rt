@@ -1,12 +1,13 @@
 //! Where rows in blocks are, which stand in order of directory and name.
-ghost use Rattle.std.specs.Prelude.{◌≡◌, ◌+◌, ◌-◌, ◌<◌, ◌≤◌, ◌^◌, length, slice_index_or, Bool, true, false, if◌then◌else◌};
+ghost use Rattle.std.specs.Prelude.{◌≡◌, ◌+◌, ◌-◌, ◌<◌, ◌≤◌, ◌^◌, length, slice_index_or, drop, Bool, true, false, if◌then◌else◌};
 ghost use Rattle.std.specs.List.{slice_get};
 ghost use Rattle.std.specs.List.Sorted.{IsPartitionedBy, IsPartitionPoint};
 ghost use Rattle.dir_table.specs.declared.calls.DirRow.{DirRow};
 ghost use Rattle.dir_table.specs.Blocks.{joined, rows_before, is_below, begins_with, AreFilled, IsGap, IsCut};
 ghost use Rattle.dir_table.specs.Rows.{AreInOrder};
 
-use crate::block::{Block, Spot, rows_in};
+use crate::block::Spot;
+use crate::block_list::{BlockList, rows_between};
 use crate::calls::DirRow;
 
 // Whether the row is of a lesser directory, or of this one and a name below `name`.
@@ -16,11 +17,11 @@ fn is_below(row: &DirRow, dir: u8, name: u64) -> bool
     (row.dir < dir) | ((row.dir == dir) & (u64::from(row.name) < name))
 }
 
-// Whether the first row of the block is below.
-fn begins_below(block: &Block, dir: u8, name: u64) -> bool
-    ensures { result ≡ begins_with (is_below (dir, name)) block.now }
+// Whether the first of the rows is below.
+fn begins_below(rows: &[DirRow], dir: u8, name: u64) -> bool
+    ensures { result ≡ begins_with (is_below (dir, name)) rows.now }
 {
-    match block.as_slice().first() {
+    match rows.first() {
         Some(row) => is_below(row, dir, name),
         None => false,
     }
@@ -33,20 +34,22 @@ fn count_if(passes: bool, count: usize) -> usize
     count * usize::from(passes)
 }
 
-// How many of the blocks, which stand in order, begin below. No step branches on what it finds, since no processor could foretell it.
-fn begun_below(blocks: &[Block], dir: u8, name: u64) -> usize
-    requires { IsPartitionedBy (begins_with (is_below (dir, name))) blocks.now }
-    ensures within { result ≤ length blocks.now }
+// How many of the blocks but the first, which stand in order, begin below. No step branches on what it finds, since no processor could foretell it.
+fn begun_below(list: &BlockList, dir: u8, name: u64) -> usize
+    requires some { 0 < length list.now.blocks }
+    requires in_order { IsPartitionedBy (begins_with (is_below (dir, name)))
+        (drop 1 list.now.blocks) }
+    ensures within { result ≤ length (drop 1 list.now.blocks) }
     ensures point { IsPartitionPoint
         (λ rows. begins_with (is_below (dir, name)) rows ≡ true)
-        (λ rows. begins_with (is_below (dir, name)) rows ≡ false) blocks.now result }
+        (λ rows. begins_with (is_below (dir, name)) rows ≡ false)
+        (drop 1 list.now.blocks) result }
 {
     let mut begun = 0;
-    let mut left = blocks.len();
+    let mut left = list.len() - 1;
     while left > 0 {
         let half = left - left / 2;
-        let last = begun + half - 1;
-        let below = begins_below(&blocks[last], dir, name);
+        let below = begins_below(list.rows_of(begun + half), dir, name);
         begun += count_if(below, half);
         left /= 2;
     }
@@ -54,15 +57,15 @@ fn begun_below(blocks: &[Block], dir: u8, name: u64) -> usize
 }
 
 /// Where the rows begin that are not below. It is the end of a block, and not the start of the next one.
-pub fn cut(blocks: &[Block], dir: u8, name: u64) -> Spot
-    requires filled { AreFilled blocks.now }
-    requires in_order { AreInOrder (joined blocks.now) }
-    ensures gap { IsGap blocks.now result }
-    ensures cut { IsCut (joined blocks.now) (dir, name) (rows_before blocks.now result) }
-    ensures start { result.at ≡ 0 → rows_before blocks.now result ≡ 0 }
+pub fn cut(list: &BlockList, dir: u8, name: u64) -> Spot
+    requires filled { AreFilled list.now.blocks }
+    requires in_order { AreInOrder (joined list.now.blocks) }
+    ensures gap { IsGap list.now.blocks result }
+    ensures cut { IsCut (joined list.now.blocks) (dir, name) (rows_before list.now.blocks result) }
+    ensures start { result.at ≡ 0 → rows_before list.now.blocks result ≡ 0 }
 {
-    let block = begun_below(&blocks[1..], dir, name);
-    let rows = blocks[block].as_slice();
+    let block = begun_below(list, dir, name);
+    let rows = list.rows_of(block);
     let at = rows.partition_point(|row| is_below(row, dir, name));
     Spot { block, at }
 }
@@ -82,64 +85,63 @@ fn is_behind_below(rows: &[DirRow], spot: Spot, dir: u8, name: u64) -> bool
 }
 
 // Whether the rows that are not below begin at the spot, as the rows on both sides of it tell. At the start of a block but the first it isn't looked.
-fn begins_at(blocks: &[Block], spot: Spot, dir: u8, name: u64) -> bool
-    requires filled { AreFilled blocks.now }
-    requires in_order { AreInOrder (joined blocks.now) }
-    ensures gap { result ≡ true → IsGap blocks.now spot }
+fn begins_at(list: &BlockList, spot: Spot, dir: u8, name: u64) -> bool
+    requires filled { AreFilled list.now.blocks }
+    requires in_order { AreInOrder (joined list.now.blocks) }
+    ensures gap { result ≡ true → IsGap list.now.blocks spot }
     ensures cut { result ≡ true
-        → IsCut (joined blocks.now) (dir, name) (rows_before blocks.now spot) }
-    ensures start { result ≡ true → spot.at ≡ 0 → rows_before blocks.now spot ≡ 0 }
+        → IsCut (joined list.now.blocks) (dir, name) (rows_before list.now.blocks spot) }
+    ensures start { result ≡ true → spot.at ≡ 0 → rows_before list.now.blocks spot ≡ 0 }
 {
-    if spot.block >= blocks.len() {
+    if spot.block >= list.len() {
         return false;
     }
-    let rows = blocks[spot.block].as_slice();
+    let rows = list.rows_of(spot.block);
     if spot.at > rows.len() || !is_behind_below(rows, spot, dir, name) {
         return false;
     }
-    match row_from(blocks, spot) {
+    match row_from(list, spot) {
         Some(row) => !is_below(&row, dir, name),
         None => true,
     }
 }
 
 /// The same as `cut`, which looks at a spot first.
-pub fn cut_near(blocks: &[Block], near: Spot, dir: u8, name: u64) -> Spot
-    requires filled { AreFilled blocks.now }
-    requires in_order { AreInOrder (joined blocks.now) }
-    ensures gap { IsGap blocks.now result }
-    ensures cut { IsCut (joined blocks.now) (dir, name) (rows_before blocks.now result) }
-    ensures start { result.at ≡ 0 → rows_before blocks.now result ≡ 0 }
+pub fn cut_near(list: &BlockList, near: Spot, dir: u8, name: u64) -> Spot
+    requires filled { AreFilled list.now.blocks }
+    requires in_order { AreInOrder (joined list.now.blocks) }
+    ensures gap { IsGap list.now.blocks result }
+    ensures cut { IsCut (joined list.now.blocks) (dir, name) (rows_before list.now.blocks result) }
+    ensures start { result.at ≡ 0 → rows_before list.now.blocks result ≡ 0 }
 {
-    if begins_at(blocks, near, dir, name) {
+    if begins_at(list, near, dir, name) {
         near
     } else {
-        cut(blocks, dir, name)
+        cut(list, dir, name)
     }
 }
 
 /// How many rows stand before the spot.
-pub fn row_number(blocks: &[Block], spot: Spot) -> usize
-    requires gap { IsGap blocks.now spot }
-    requires few { length (joined blocks.now) < 2 ^ 32 }
-    ensures { result ≡ rows_before blocks.now spot }
+pub fn row_number(list: &BlockList, spot: Spot) -> usize
+    requires gap { IsGap list.now.blocks spot }
+    requires few { length (joined list.now.blocks) < 2 ^ 32 }
+    ensures { result ≡ rows_before list.now.blocks spot }
 {
-    rows_in(&blocks[..spot.block]) + spot.at
+    rows_between(list, 0, spot.block) + spot.at
 }
 
 /// The row at the spot, or the one behind it.
-pub fn row_from(blocks: &[Block], spot: Spot) -> Option<DirRow>
-    requires filled { AreFilled blocks.now }
-    requires gap { IsGap blocks.now spot }
-    ensures { result ≡ slice_get (joined blocks.now) (rows_before blocks.now spot) }
+pub fn row_from(list: &BlockList, spot: Spot) -> Option<DirRow>
+    requires filled { AreFilled list.now.blocks }
+    requires gap { IsGap list.now.blocks spot }
+    ensures { result ≡ slice_get (joined list.now.blocks) (rows_before list.now.blocks spot) }
 {
-    let rows = blocks[spot.block].as_slice();
+    let rows = list.rows_of(spot.block);
     if spot.at < rows.len() {
         return Some(rows[spot.at]);
     }
-    let next = spot.block + 1;
-    if next < blocks.len() {
-        blocks[next].as_slice().first().copied()
+    if spot.block < list.len() - 1 {
+        list.rows_of(spot.block + 1).first().copied()
     } else {
         None
     }

@@ -143,8 +143,8 @@ fn names_come_in_at_either_end_and_in_the_middle(rt: HostRuntime) -> Result<(), 
 }
 
 #[test]
-fn blocks_are_divided_and_given_back(rt: HostRuntime) -> Result<(), Fail> {
-    let mut dir = Dir::open(rt.alloc(), 1000, 2000)?;
+fn blocks_are_divided_given_back_and_used_again(rt: HostRuntime) -> Result<(), Fail> {
+    let mut dir = Dir::open(rt.alloc(), 1000, 3000)?;
     for name in 0..1000 {
         makes(&rt, &mut dir, 999 - name, u64::from(name) + 1);
     }
@@ -159,6 +159,14 @@ fn blocks_are_divided_and_given_back(rt: HostRuntime) -> Result<(), Fail> {
     }
     has(&rt, &dir, [row(0, 1000)].as_slice());
     assert_eq!(rt; dir.next(0, Some(0)), DirReply::End);
+    for name in 1..1000 {
+        makes(&rt, &mut dir, name, u64::from(name) + 1000);
+    }
+    let copied = dir.copy(rt.alloc())?;
+    assert_eq!(rt; copied.rows().len(), 1000);
+    for (row, other) in dir.rows().zip(copied.rows()) {
+        assert_eq!(rt; *row, *other);
+    }
     Ok(())
 }
 

@@ -3,7 +3,7 @@ ghost use Rattle.std.specs.Prelude.{◌≡◌, ◌<◌, ◌^◌, length};
 ghost use Rattle.std.specs.Iterator.{YieldsFirstRef, item_count};
 ghost use Rattle.dir_table.specs.Blocks.{joined, AreFilled};
 
-use crate::block::{Block, rows_in};
+use crate::block_list::{BlockList, rows_between};
 use crate::calls::DirRow;
 use std::marker::Model;
 
@@ -11,31 +11,34 @@ use std::marker::Model;
 #[derive(Drop)]
 pub struct Rows<'a> {
     first: &'a [DirRow],
-    others: &'a [Block],
+    list: &'a BlockList,
+    // the blocks from here on are left
+    next: usize,
 }
 
 impl<'a> Model for Rows<'a> {
-    ghost use Rattle.std.specs.Prelude.{List, ◌++◌};
+    ghost use Rattle.std.specs.Prelude.{List, ◌++◌, drop};
     ghost use Rattle.dir_table.specs.declared.calls.DirRow.{DirRow};
     ghost use Rattle.dir_table.specs.Blocks.{joined, AreReadable};
 
     ghost Value = { List DirRow };
 
-    ghost view = { λ r. r.first.now ++ joined r.others.now };
+    ghost view = { λ r. r.first.now ++ joined (drop r.next r.list.now.blocks) };
 
-    ghost invariant = { λ r. AreReadable r.first.now r.others.now };
+    ghost invariant = { λ r. AreReadable r.first.now r.list.now.blocks r.next };
 }
 
 impl<'a> Rows<'a> {
     /// The rows of the blocks.
-    pub(crate) fn of(blocks: &'a [Block]) -> Rows<'a>
-        requires filled { AreFilled blocks.now }
-        requires few { length (joined blocks.now) < 2 ^ 32 }
-        ensures { result ≡ joined blocks.entry.now }
+    pub(crate) fn of(list: &'a BlockList) -> Rows<'a>
+        requires filled { AreFilled list.now.blocks }
+        requires few { length (joined list.now.blocks) < 2 ^ 32 }
+        ensures { result ≡ joined list.entry.now.blocks }
     {
         Rows {
-            first: blocks[0].as_slice(),
-            others: &blocks[1..],
+            first: list.rows_of(0),
+            list,
+            next: 1,
         }
     }
 
@@ -43,7 +46,7 @@ impl<'a> Rows<'a> {
     pub fn len(&self) -> usize
         ensures { result ≡ length self.now }
     {
-        self.first.len() + rows_in(self.others)
+        self.first.len() + rows_between(self.list, self.next, self.list.len())
     }
 }
 
@@ -59,10 +62,12 @@ impl<'a> Iterator for Rows<'a> {
             self.first = rest;
             return Some(row);
         }
-        let (block, others) = self.others.split_first()?;
-        let (row, rest) = block.as_slice().split_first()?;
+        if self.next == self.list.len() {
+            return None;
+        }
+        let (row, rest) = self.list.rows_of(self.next).split_first()?;
         self.first = rest;
-        self.others = others;
+        self.next += 1;
         Some(row)
     }
 }

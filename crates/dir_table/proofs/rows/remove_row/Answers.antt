@@ -39,7 +39,7 @@ returns-in-Ok-clause-one_fewer c =
 
 pub returns-in-Err-clause-number : goal.returns-in-Err-clause-number
 returns-in-Err-clause-number c =
-    sym (find_gap (entries_of (joined c.blocks-2.result.now)) (c.args.dir, c.args.name) _ c.in-Err.ensures.absent)
+    sym (find_gap (entries_of (joined c.blocks-2.result.now.blocks)) (c.args.dir, c.args.name) _ c.in-Err.ensures.absent)
     ∙ ap (λ bs. find place_cmp (c.args.dir, c.args.name) (entries_of (joined bs))) c.blocks-2.ensures.blocks
 
 pub returns-in-Err-clause-removed : goal.returns-in-Err-clause-removed

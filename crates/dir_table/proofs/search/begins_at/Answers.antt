@@ -1,17 +1,16 @@
-use Rattle.std.proofs.Common.{◌≡◌, ◌-◌, ◌<◌, true, [], length, get_or, Some, None, sym, ap, ◌∙◌, arith}
-use Rattle.std.proofs.lemmas.List.{get_or_default}
+use Rattle.std.proofs.Common.{◌≡◌, ◌-◌, ◌<◌, length, get_or, Some, None, sym, ap, ◌∙◌, arith}
 use Rattle.dir_table.specs.Names.{Place}
-use Rattle.dir_table.specs.Blocks.{block_at, is_below}
+use Rattle.dir_table.specs.Blocks.{is_below}
 use Rattle.dir_table.proofs.Nearby.{cut_by_sides, none_before, not_true}
 use Rattle.dir_table.proofs.search.begins_at.Goals as goal
 
 pub returns-in-Some-clause-cut : goal.returns-in-Some-clause-cut
 returns-in-Some-clause-cut c passes =
-    let blocks = c.args.blocks.now in
+    let blocks = c.args.list.now.blocks in
     let spot = c.args.spot in
     let limit : Place = (c.args.dir, c.args.name) in
-    let known : spot.block < length blocks = omega (arith, c.if-spot-blocks.false) in
-    let here : c.as_slice-rows.result.now ≡ block_at blocks spot.block = c.as_slice-rows.ensures ∙ c.index-blocks-spot.is ∙ get_or_default blocks spot.block _ [] known in
+    let known : spot.block < length blocks = omega (arith, c.if-spot-len.false) in
+    let here = c.rows_of-rows.ensures in
     let behind = c.is_behind_below.ensures in
     let is = c.if-not-is_behind_below.false in
     cut_by_sides blocks spot limit c.requires.in_order known (behind.start is) (omega (arith, ap length here, c.if-spot-rows.false))
@@ -22,15 +21,15 @@ returns-in-Some-clause-cut c passes =
     (λ k. is_below limit (same k)) ∙ sym c.is_below.ensures ∙ not_true _ passes)
 
 pub returns-in-Some-clause-start : goal.returns-in-Some-clause-start
-returns-in-Some-clause-start c passes = none_before c.args.blocks.now c.args.spot (c.is_behind_below.ensures.start c.if-not-is_behind_below.false)
+returns-in-Some-clause-start c passes = none_before c.args.list.now.blocks c.args.spot (c.is_behind_below.ensures.start c.if-not-is_behind_below.false)
 
 pub returns-in-None-clause-cut : goal.returns-in-None-clause-cut
 returns-in-None-clause-cut c passes =
-    let blocks = c.args.blocks.now in
+    let blocks = c.args.list.now.blocks in
     let spot = c.args.spot in
     let limit : Place = (c.args.dir, c.args.name) in
-    let known : spot.block < length blocks = omega (arith, c.if-spot-blocks.false) in
-    let here : c.as_slice-rows.result.now ≡ block_at blocks spot.block = c.as_slice-rows.ensures ∙ c.index-blocks-spot.is ∙ get_or_default blocks spot.block _ [] known in
+    let known : spot.block < length blocks = omega (arith, c.if-spot-len.false) in
+    let here = c.rows_of-rows.ensures in
     let behind = c.is_behind_below.ensures in
     let is = c.if-not-is_behind_below.false in
     cut_by_sides blocks spot limit c.requires.in_order known (behind.start is) (omega (arith, ap length here, c.if-spot-rows.false))
@@ -38,4 +37,4 @@ returns-in-None-clause-cut c passes =
     (λ row there. absurd (let none_there : Some row ≡ None = sym there ∙ sym c.row_from.ensures ∙ c.in-None.is in cc))
 
 pub returns-in-None-clause-start : goal.returns-in-None-clause-start
-returns-in-None-clause-start c passes = none_before c.args.blocks.now c.args.spot (c.is_behind_below.ensures.start c.if-not-is_behind_below.false)
+returns-in-None-clause-start c passes = none_before c.args.list.now.blocks c.args.spot (c.is_behind_below.ensures.start c.if-not-is_behind_below.false)

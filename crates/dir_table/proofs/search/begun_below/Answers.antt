@@ -1,17 +1,22 @@
-use Rattle.std.proofs.Common.{◌+◌, ◌-◌, ◌/◌, ◌<◌, length, sym, ap, ◌∙◌, subst, arith}
-use Rattle.std.proofs.lemmas.List.{get_or_default}
+use Rattle.std.proofs.Common.{◌≡◌, ◌+◌, ◌-◌, ◌/◌, ◌<◌, drop, length, get_or, sym, ap, ◌∙◌, subst, arith}
+use Rattle.std.proofs.lemmas.Grind.{get_or_after_one}
+use Rattle.std.proofs.lemmas.List.{get_or_default, length-drop}
 use Rattle.dir_table.specs.Blocks.{is_below, begins_with}
 use Rattle.dir_table.proofs.Cuts.{Narrowed, narrowed_half}
 use Rattle.dir_table.proofs.search.begun_below.Goals as goal
 
 pub loop-left-preserved : goal.loop-left-preserved
 loop-left-preserved c =
-    let blocks = c.args.blocks.now in
+    let blocks = c.args.list.now.blocks in
     let test = begins_with (is_below (c.args.dir, c.args.name)) in
     let begun = c.loop-left.begun in
     let left = c.loop-left.left in
-    let last = begun + (left - left / 2) - 1 in
-    let known : last < length blocks = omega (arith, c.loop-left.invariant.within, c.loop-left-test.true) in
-    let half = narrowed_half test blocks c.begins_below-below.result begun left c.requires c.loop-left-test.true c.loop-left.invariant
-    (λ d. ap test (get_or_default blocks last d _ known ∙ sym c.index-blocks-last.is) ∙ sym c.begins_below-below.ensures) in
-    subst (λ n. Narrowed test blocks (begun + n) (left / 2)) (sym c.count_if-begun.ensures) half
+    let half = left - left / 2 in
+    let known : begun + half < length blocks = omega (arith, c.loop-left.invariant.within, length-drop 1 blocks) in
+    let narrowed = narrowed_half test (drop 1 blocks) c.begins_below-below.result begun left c.requires.in_order c.loop-left-test.true c.loop-left.invariant
+    (λ d.
+    let here : get_or (drop 1 blocks) (begun + half - 1) d ≡ c.rows_of.result.now =
+    get_or_after_one blocks (begun + half - 1) d ∙ ap (λ n. get_or blocks n d) {x = 1 + (begun + half - 1)} {y = begun + half} (omega arith)
+    ∙ get_or_default blocks (begun + half) d _ known ∙ sym c.rows_of.ensures in
+    ap test here ∙ sym c.begins_below-below.ensures) in
+    subst (λ n. Narrowed test (drop 1 blocks) (begun + n) (left / 2)) (sym c.count_if-begun.ensures) narrowed

@@ -1,30 +1,24 @@
-use Rattle.std.proofs.Common.{◌≡◌, ◌<◌, [], set, length, sym, ap, ◌∙◌, subst, arith}
-use Rattle.std.proofs.lemmas.List.{length-set, get_or_default}
-use Rattle.dir_table.specs.Blocks.{joined, rows_before, block_at}
-use Rattle.dir_table.proofs.Joined.{joins-replaced}
-use Rattle.dir_table.proofs.Stored.{stored_changed}
+use Rattle.std.proofs.Common.{◌≡◌, set, length, sym, ap, ◌∙◌, subst, arith}
+use Rattle.std.proofs.lemmas.List.{length-set}
+use Rattle.dir_table.specs.Blocks.{joined, rows_before, block_at, IsRow}
+use Rattle.dir_table.proofs.Stored.{stored_changed, stored_as}
+use Rattle.dir_table.proofs.Edits.{replaced_joined}
 use Rattle.dir_table.proofs.buffer.RowBuffer.replace.Goals as goal
 
 pub invariant_of-self : goal.invariant_of-self
 invariant_of-self c =
-    let blocks = c.self.inside.blocks.items in
-    let k = c.args.spot.block in
-    let same : blocks ≡ c.args.self.now.blocks = ap (λ b. b.blocks) c.self.view_is in
-    let known : k < length blocks = subst (λ bs. k < length bs) (sym same) c.requires.block in
-    let row : c.args.spot.at < length (block_at blocks k) = subst (λ bs. c.args.spot.at < length (block_at bs k)) (sym same) c.requires.row in
-    let here : c.index_mut.result.now ≡ block_at blocks k = c.index_mut.ensures.value ∙ get_or_default blocks k _ [] known in
-    let count : length c.replace.new.self ≡ length (block_at blocks k) = ap length c.replace.ensures ∙ length-set c.index_mut.result.now c.args.spot.at c.args.row ∙ ap length here in
-    stored_changed blocks c.self.inside.free.items c.self.inside.spare _ _ k c.replace.new.self known c.self.invariant (λ _. omega arith) (omega arith)
+    let list = c.self.inside.blocks in
+    let spot = c.args.spot in
+    let there : IsRow list.blocks spot = subst (λ b. IsRow b.blocks spot) (sym c.self.view_is) c.requires in
+    let rows = set (block_at list.blocks spot.block) spot.at c.args.row in
+    let count : length rows ≡ length (block_at list.blocks spot.block) = length-set (block_at list.blocks spot.block) spot.at c.args.row in
+    stored_as _ _ _ _ _ c.replace.ensures.blocks c.replace.ensures.left
+    (stored_changed list.blocks c.self.inside.spare list.left spot.block rows there.block c.self.invariant (λ _. omega (arith, there.row, count)) (omega (arith, count)))
 
 pub returns-clause-rows : goal.returns-clause-rows
 returns-clause-rows c =
-    let blocks = c.self.inside.blocks.items in
+    let blocks = c.self.inside.blocks.blocks in
     let spot = c.args.spot in
-    let k = spot.block in
-    let same : blocks ≡ c.args.self.now.blocks = ap (λ b. b.blocks) c.self.view_is in
-    let known : k < length blocks = subst (λ bs. k < length bs) (sym same) c.requires.block in
-    let row : spot.at < length (block_at blocks k) = subst (λ bs. spot.at < length (block_at bs k)) (sym same) c.requires.row in
-    let here : c.index_mut.result.now ≡ block_at blocks k = c.index_mut.ensures.value ∙ get_or_default blocks k _ [] known in
-    ap (λ rs. joined (set blocks k rs)) (c.replace.ensures ∙ ap (λ rs. set rs spot.at c.args.row) here)
-    ∙ joins-replaced blocks k spot.at c.args.row [] known row
-    ∙ ap (λ bs. set (joined bs) (rows_before bs spot) c.args.row) same
+    let there : IsRow blocks spot = subst (λ b. IsRow b.blocks spot) (sym c.self.view_is) c.requires in
+    ap joined c.replace.ensures.blocks ∙ replaced_joined blocks spot c.args.row there
+    ∙ ap (λ b. set (joined b.blocks) (rows_before b.blocks spot) c.args.row) c.self.view_is

@@ -1,7 +1,6 @@
 use Rattle.std.proofs.Common.{eqb, length, ap, sym, ◌∙◌, arith}
 use Rattle.std.specs.List.{filter}
 use Rattle.dir_table.specs.declared.calls.DirReply.TheVariants.{Number}
-use Rattle.dir_table.specs.Names.{entries_of}
 use Rattle.dir_table.specs.Blocks.{joined}
 use Rattle.dir_table.specs.Answers.{count_in}
 use Rattle.dir_table.proofs.NamesKept.{entries_names}

@@ -1,9 +1,8 @@
 use Rattle.std.proofs.Common.{◌≡◌, ap, sym, ◌∙◌, subst}
 use Rattle.std.specs.Prelude.{◌↔◌, IsNone}
-use Rattle.std.specs.FinMap.{get, find}
+use Rattle.std.specs.FinMap.{get}
 use Rattle.dir_table.specs.declared.calls.DirCall.TheVariants.{Find}
 use Rattle.dir_table.specs.declared.calls.DirReply.TheVariants.{Ino, Absent}
-use Rattle.dir_table.specs.Names.{place_cmp, entries_of}
 use Rattle.dir_table.specs.Blocks.{joined}
 use Rattle.dir_table.specs.Answers.{reply_to, number_reply}
 use Rattle.dir_table.proofs.Methods.{find_reply, find_absent}

@@ -1,6 +1,5 @@
 use Rattle.std.proofs.Common.{ℕ, Option, Some, None, ap, sym, ◌∙◌, subst, refl}
 use Rattle.std.specs.List.{find}
-use Rattle.std.specs.Option.{option_map}
 use Rattle.dir_table.specs.declared.calls.DirReply.{DirReply}
 use Rattle.dir_table.specs.declared.calls.DirReply.TheVariants.{Name, End}
 use Rattle.dir_table.specs.Names.{entries_of}

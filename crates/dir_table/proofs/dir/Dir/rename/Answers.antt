@@ -1,9 +1,8 @@
 use Rattle.std.proofs.Common.{◌≡◌, ◌-◌, cond, Some, None, ap, sym, ◌∙◌, subst, ⊎_elim, arith}
 use Rattle.std.specs.Prelude.{◌↔◌, IsNone}
-use Rattle.std.specs.FinMap.{get, find}
+use Rattle.std.specs.FinMap.{get}
 use Rattle.dir_table.specs.declared.calls.DirCall.TheVariants.{Rename}
 use Rattle.dir_table.specs.declared.calls.DirReply.TheVariants.{Done, Absent}
-use Rattle.dir_table.specs.Names.{place_cmp, entries_of}
 use Rattle.dir_table.specs.Blocks.{joined}
 use Rattle.dir_table.specs.Directory.{spent, IsInRange}
 use Rattle.dir_table.specs.Answers.{reply_to, after}
