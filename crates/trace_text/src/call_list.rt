@@ -38,7 +38,7 @@ impl<'a> CallList<'a> {
             (workers : ℕ) (policies : List NamedSource) → IsListOf workers policies l) }
     {
         Ok(CallList {
-            names: Gathered::nobody(alloc, 2 * count)?,
+            names: Gathered::nobody(alloc, count)?,
             calls: Vec::with_capacity(alloc, count)?,
             attaches: 0,
         })
