@@ -55,6 +55,14 @@ module _ {X : Type 0} where
   pub before_within : (xss : List (List X)) (k j : ℕ) (d : List X) → k < length xss → j ≤ length (get_or xss k d) → before xss k j ≤ length (joins xss)
   before_within xss k j d known within = omega (arith, length-flat_map-take (λ xs. xs) xss k d known)
 
+  -- a place in a list is no later than the lists behind it
+  pub before_earlier : (xss : List (List X)) (k m j : ℕ) (d : List X) → k < m → k < length xss → j ≤ length (get_or xss k d) → before xss k j ≤ length (joins (take m xss))
+  before_earlier [] k m j d earlier known within = absurd (omega arith)
+  before_earlier (xs ∷ xss) k zero j d earlier known within = absurd (omega arith)
+  before_earlier (xs ∷ xss) zero (suc m) j d earlier known within = omega (arith, length-append xs (joins (take m xss)))
+  before_earlier (xs ∷ xss) (suc k) (suc m) j d earlier known within =
+      omega (arith, length-append xs (joins (take k xss)), length-append xs (joins (take m xss)), before_earlier xss k m j d (omega arith) (omega arith) within)
+
   pub before_in_range : (xss : List (List X)) (k j : ℕ) (d : List X) → k < length xss → j < length (get_or xss k d) → before xss k j < length (joins xss)
   before_in_range xss k j d known within = omega (arith, length-flat_map-take (λ xs. xs) xss k d known)
 

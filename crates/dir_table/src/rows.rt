@@ -12,7 +12,7 @@ use crate::block::Spot;
 use crate::block_list::BlockList;
 use crate::buffer::RowBuffer;
 use crate::calls::DirRow;
-use crate::search::{cut, cut_near, row_from, row_number};
+use crate::search::{cut, cut_near, row_from, rows_apart};
 
 /// Where the row of the name is, or where it would go: at the spot where it was looked for first, or elsewhere.
 fn place_of(list: &BlockList, near: Spot, dir: u8, name: u32) -> Result<Spot, Spot>
@@ -144,9 +144,9 @@ pub fn count_of(rows: &RowBuffer, dir: u8) -> u32
         ≡ length (filter (λ e. e.0.0 == dir) (entries_of (joined rows.now.blocks))) }
 {
     let list = rows.blocks();
-    let start = row_number(list, cut(list, dir, 0));
-    let end = row_number(list, cut(list, dir + 1, 0));
-    (end - start) as u32
+    let start = cut(list, dir, 0);
+    let end = cut(list, dir + 1, 0);
+    rows_apart(list, start, end) as u32
 }
 
 /// The first name of the directory after this one.

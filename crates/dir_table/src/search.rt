@@ -121,13 +121,17 @@ pub fn cut_near(list: &BlockList, near: Spot, dir: u8, name: u64) -> Spot
     }
 }
 
-/// How many rows stand before the spot.
-pub fn row_number(list: &BlockList, spot: Spot) -> usize
-    requires gap { IsGap list.now.blocks spot }
+/// How many rows stand from one spot up to another one, and none where that one isn't later.
+pub fn rows_apart(list: &BlockList, start: Spot, end: Spot) -> usize
+    requires start { IsGap list.now.blocks start }
+    requires end { IsGap list.now.blocks end }
     requires few { length (joined list.now.blocks) < 2 ^ 32 }
-    ensures { result ≡ rows_before list.now.blocks spot }
+    ensures { result ≡ rows_before list.now.blocks end - rows_before list.now.blocks start }
 {
-    rows_between(list, 0, spot.block) + spot.at
+    if end.block < start.block {
+        return 0;
+    }
+    (rows_between(list, start.block, end.block) + end.at).saturating_sub(start.at)
 }
 
 /// The row at the spot, or the one behind it.
