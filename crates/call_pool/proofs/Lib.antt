@@ -1,4 +1,5 @@
 mod AllPasses
+mod Crossing
 mod Members
 mod Openings
 mod PoolHistory
