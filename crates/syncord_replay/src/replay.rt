@@ -32,22 +32,23 @@ fn report_of<F: Fn(Global, &Trace) -> Result<Run, NoMemory>>(
     Ok(text)
 }
 
-/// Replays the trace that the bytes are.
+/// Replays the trace that the bytes are, whose memory is given back before the run.
 pub fn replay<F: Fn(Global, &Trace) -> Result<Run, NoMemory>>(
     runner: &F,
     alloc: Global,
-    bytes: &[u8],
+    bytes: Vec<u8>,
 ) -> Result<Vec<u8>, Refusal>
     requires takes { TakesEach (F.pre runner.now) (λ t. t.now) }
     requires leaves { LeavesRuns (F.post runner.now) (λ t. t.now) }
-    ensures report { IfOk result (λ text. Reports bytes.now text.items) }
-    ensures refusal { IfErr result (Due (Refuses bytes.now)) }
+    ensures report { IfOk result (λ text. Reports bytes.items text.items) }
+    ensures refusal { IfErr result (Due (Refuses bytes.items)) }
 {
-    let trace = match read_trace(alloc, bytes) {
+    let trace = match read_trace(alloc, &bytes) {
         Ok(trace) => trace,
         Err(TraceError::Format { line, what }) => return Err(Refusal::Line { line, what }),
         Err(TraceError::NoMemory) => return Err(Refusal::NoMemory),
     };
+    drop(bytes);
     match report_of(runner, alloc, &trace) {
         Ok(text) => Ok(text),
         Err(NoMemory) => Err(Refusal::NoMemory),

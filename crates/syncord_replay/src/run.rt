@@ -33,7 +33,7 @@ fn ending<F: Fn(Global, &Trace) -> Result<Run, NoMemory>, R: Source, W: Sink>(
         Err(ReadError::TooLarge) => return Ending::TooLarge,
         Err(ReadError::NoMemory) => return Ending::NoReport(Refusal::NoMemory),
     };
-    let text = match replay(runner, alloc, &bytes) {
+    let text = match replay(runner, alloc, bytes) {
         Ok(text) => text,
         Err(refusal) => return Ending::NoReport(refusal),
     };
