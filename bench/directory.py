@@ -33,8 +33,11 @@ def calls(kind, count):
         draw.shuffle(order)
         return [make(n) for n in range(half)] + [f"0 rename 5 {name(n)} 4 {name(n)}" for n in order]
     if kind == "counts":
-        # directories of one name each behind a large one, whose count adds up all blocks
+        # a directory of one name behind a large one
         return [make(n) for n in range(half)] + ["0 make 63 last"] + ["0 count 63"] * (half - 1)
+    if kind == "sizes":
+        # a large directory, whose count adds up its blocks
+        return [make(n) for n in range(half)] + ["0 count 5"] * half
     if kind == "nexts":
         return [make(n) for n in range(half)] + [f"0 next 5 {name(draw.randrange(half))}" for _ in range(half)]
     if kind == "long-names":
@@ -55,10 +58,10 @@ def seconds(program, words, text):
 
 
 def main(folder, program, peer):
-    kinds = ["rising", "falling", "random", "middle", "drops", "renames", "counts", "nexts", "long-names"]
+    kinds = ["rising", "falling", "random", "middle", "drops", "renames", "counts", "sizes", "nexts", "long-names"]
     print("trace           calls   ours ms   peer ms   ratio")
     for kind in kinds:
-        first = None
+        first = ()
         for count in (8192, 65536):
             text = os.path.join(folder, "trace")
             with open(text, "w") as out:
@@ -71,8 +74,8 @@ def main(folder, program, peer):
             if best[program][1] != best[peer][1]:
                 sys.exit(f"{kind}: the two programs write different bytes")
             ours, theirs = best[program][0] * 1000, best[peer][0] * 1000
-            growth = f"   {ours / first:.1f} times {first:.0f} ms" if first else ""
-            first = first or ours
+            growth = f"   {ours / first[0]:.1f} times {first[0]:.1f} ms, peer {theirs / first[1]:.1f} times" if first else ""
+            first = first or (ours, theirs)
             print(f"{kind:14} {count:6} {ours:9.1f} {theirs:9.1f} {ours / max(theirs, 0.001):7.2f}{growth}", flush=True)
 
 
