@@ -4,3 +4,4 @@ pub mod Counting
 pub mod Joining
 pub mod Due
 pub mod Loops
+pub mod Decimals

@@ -1,9 +1,7 @@
 -- The first piece of some bytes, and what it says, as a loop finds them.
-use Rattle.std.proofs.Common.{◌≡◌, ◌≢◌, ℕ, zero, suc, ◌+◌, ◌-◌, ◌<◌, ◌≤◌, List, [], ◌∷◌, ◌++◌, length, get_or, take, drop, Bool, true, false, Option, Some, None, refl, sym, ap, subst, ◌∙◌, arith, eq-eqb, eqb, cond}
-use Rattle.std.specs.Option.{option_map}
+use Rattle.std.proofs.Common.{◌≡◌, ◌≢◌, ℕ, zero, suc, ◌<◌, List, [], ◌∷◌, ◌++◌, length, get_or, take, drop, Bool, true, false, Option, Some, None, refl, ap, subst, arith, eq-eqb, eqb, cond}
 use Rattle.std.proofs.lemmas.Bool.{ne_eqb, false≢true}
-use Rattle.std.proofs.lemmas.Bool.Decides.{nat_tests}
-use Rattle.doc_text.specs.Text.{onto, pieces, is_plain, at_end, text_in}
+use Rattle.doc_text.specs.Text.{onto, pieces, is_plain, at_end, text_in, ended, IsPlain, BeginsOddly}
 
 pub same_cond : {A : Type 0} (b : Bool) (x : A) → cond b x x ≡ x
 same_cond true x = refl
@@ -51,12 +49,6 @@ pub pieces_all : (bytes : List ℕ) → bytes ≢ [] → ((k : ℕ) → k < leng
 pieces_all [] some before = absurd (some refl)
 pieces_all (b ∷ bs) some before = pieces_none b bs before
 
-pub low_odd : (b : ℕ) → b < 32 → is_plain b ≡ false
-low_odd b h = grind (arith, nat_tests)
-
-pub high_odd : (b : ℕ) → 126 < b → is_plain b ≡ false
-high_odd b h = grind (arith, nat_tests)
-
 onto-some : (b : ℕ) (ps : List (List ℕ)) → onto b ps ≢ []
 onto-some b [] = λ e. cc
 onto-some b (p ∷ ps) = λ e. cc
@@ -68,3 +60,41 @@ pieces-some (b ∷ bs) some = elim (eqb b 10) as (λ v. cond v ((b ∷ []) ∷ p
 pub pieces-none : (bytes : List ℕ) → length bytes ≡ 0 → pieces bytes ≡ []
 pieces-none [] none = refl
 pieces-none (b ∷ bs) none = absurd (omega (arith, none))
+
+-- a byte that may not stand in a line, before any line feed
+onto-odd : (b : ℕ) (ps : List (List ℕ)) → eqb b 10 ≡ false → is_plain b ≡ false → BeginsOddly (onto b ps)
+onto-odd b [] n odd = rw (n, odd) refl
+onto-odd b (p ∷ ps) n odd = rw (n, odd) refl
+
+onto-none : (b : ℕ) → eqb b 10 ≡ false → BeginsOddly (onto b [])
+onto-none b n = rw n (same_cond {A = Option (List ℕ)} (is_plain b) None)
+
+onto-more : (b : ℕ) (ps : List (List ℕ)) → eqb b 10 ≡ false → BeginsOddly ps → BeginsOddly (onto b ps)
+onto-more b [] n odd = absurd odd
+onto-more b (p ∷ ps) n odd = rw (n, odd) (same_cond {A = Option (List ℕ)} (is_plain b) None)
+
+pub odd_front : (bytes : List ℕ) (i : ℕ) → i < length bytes → ((k : ℕ) → k < i → is_plain (get_or bytes k 0) ≡ true) → is_plain (get_or bytes i 0) ≡ false → get_or bytes i 0 ≢ 10 → BeginsOddly (pieces bytes)
+odd_front [] i lt before odd ne = absurd (omega (arith, lt))
+odd_front (b ∷ bs) zero lt before odd ne = rw (ne_eqb b 10 ne) (onto-odd b (pieces bs) (ne_eqb b 10 ne) odd)
+odd_front (b ∷ bs) (suc i) lt before odd ne =
+    let n : eqb b 10 ≡ false = plain-ne b (before 0 (omega arith)) in
+    rw n (onto-more b (pieces bs) n (odd_front bs i (omega arith) (λ k h. before (suc k) (omega arith)) odd ne))
+
+-- with no line feed no line is ended
+pub unended_front : (bytes : List ℕ) → bytes ≢ [] → ((k : ℕ) → k < length bytes → is_plain (get_or bytes k 0) ≡ true) → BeginsOddly (pieces bytes)
+unended_front [] some each = absurd (some refl)
+unended_front (b ∷ []) some each =
+    let n : eqb b 10 ≡ false = plain-ne b (each 0 (omega arith)) in
+    rw n (onto-none b n)
+unended_front (b ∷ c ∷ bs) some each =
+    let n : eqb b 10 ≡ false = plain-ne b (each 0 (omega arith)) in
+    rw n (onto-more b (pieces (c ∷ bs)) n (unended_front (c ∷ bs) (λ e. cc) (λ k h. each (suc k) (omega arith))))
+
+-- plain bytes up to the first line feed are a line
+pub text_front : (bytes : List ℕ) (i : ℕ) → i < length bytes → ((k : ℕ) → k < i → is_plain (get_or bytes k 0) ≡ true) → get_or bytes i 0 ≡ 10 → IsPlain (take i bytes) × (pieces bytes ≡ ended (take i bytes) ∷ pieces (drop (suc i) bytes))
+text_front [] i lt before here = absurd (omega (arith, lt))
+text_front (b ∷ bs) zero lt before here = (refl, rw (eq-eqb b 10 here) (ap (λ n. (n ∷ []) ∷ pieces bs) here))
+text_front (b ∷ bs) (suc i) lt before here =
+    let plain : is_plain b ≡ true = before 0 (omega arith) in
+    let others = text_front bs i (omega arith) (λ k h. before (suc k) (omega arith)) here in
+    (rw plain others.0, rw (plain-ne b plain, others.1) refl)

@@ -1,30 +1,31 @@
 -- Reading line after line, as a loop does, and as the lines were joined.
-use Rattle.std.proofs.Common.{◌≡◌, ◌≢◌, ℕ, ◌+◌, List, [], ◌∷◌, ◌++◌, length, map, Bool, true, false, cond, Option, Some, None, Result, Ok, Err, refl, sym, ap, ◌∙◌, subst, append_assoc}
+use Rattle.std.proofs.Common.{◌≡◌, ℕ, ◌+◌, List, [], ◌∷◌, ◌++◌, map, Option, Some, None, Result, Ok, Err, refl, sym, ap, ◌∙◌, append_assoc}
 use Rattle.std.specs.List.{flat_map}
 use Rattle.std.proofs.lemmas.List.{append-nil}
 use Rattle.doc_text.specs.declared.fault.Fault.{Fault}
-use Rattle.doc_text.specs.Text.{pieces, text_in, IsPlain, ended}
-use Rattle.doc_text.specs.Faults.{fault, ◌>>=◌, or_fault, or_end, lines_from, section_from}
-use Rattle.doc_text.proofs.Joining.{pieces-ended, text_in-ended, text_in-some}
+use Rattle.doc_text.specs.Text.{pieces, IsPlain, ended, BeginsOddly, BeginsWith}
+use Rattle.doc_text.specs.Faults.{fault, lines_from, section_from}
+use Rattle.doc_text.proofs.Joining.{pieces-ended, text_in-ended}
 
 module _ {A : Type 0} (says : List A → ℕ → List ℕ → Result A Fault) where
   -- one more line was read
-  pub lines_from-more : (before : List A) (line : ℕ) (ps qs : List (List ℕ)) (p t : List ℕ) (a : A) (total : Result (List A) Fault)
-      → ps ≡ p ∷ qs → text_in p ≡ Some t → says before line t ≡ Ok a → lines_from says before line ps ≡ total → lines_from says (before ++ a ∷ []) (line + 1) qs ≡ total
+  pub lines_from-more : (before : List A) (line : ℕ) (ps qs : List (List ℕ)) (t : List ℕ) (a : A) (total : Result (List A) Fault)
+      → BeginsWith t qs ps → says before line t ≡ Ok a → lines_from says before line ps ≡ total → lines_from says (before ++ a ∷ []) (line + 1) qs ≡ total
   unfolding lines_from
-  lines_from-more before line ps qs p t a total e f g so_far = sym (rw (e, f, g) refl) ∙ so_far
+  lines_from-more before line ps qs t a total e g so_far = sym (rw (e.1, text_in-ended t e.0, g) refl) ∙ so_far
 
   -- a line was no text
-  pub lines_from-odd : (before : List A) (line : ℕ) (ps qs : List (List ℕ)) (p : List ℕ) (total : Result (List A) Fault)
-      → ps ≡ p ∷ qs → text_in p ≡ None → lines_from says before line ps ≡ total → total ≡ fault line 1
+  pub lines_from-odd : (before : List A) (line : ℕ) (ps : List (List ℕ)) (total : Result (List A) Fault)
+      → BeginsOddly ps → lines_from says before line ps ≡ total → total ≡ fault line 1
   unfolding lines_from
-  lines_from-odd before line ps qs p total e f so_far = sym so_far ∙ rw (e, f) refl
+  lines_from-odd before line [] total odd so_far = absurd odd
+  lines_from-odd before line (p ∷ ps) total odd so_far = sym so_far ∙ rw odd refl
 
   -- a line had a fault
-  pub lines_from-bad : (before : List A) (line : ℕ) (ps qs : List (List ℕ)) (p t : List ℕ) (x : Fault) (total : Result (List A) Fault)
-      → ps ≡ p ∷ qs → text_in p ≡ Some t → says before line t ≡ Err x → lines_from says before line ps ≡ total → total ≡ Err x
+  pub lines_from-bad : (before : List A) (line : ℕ) (ps qs : List (List ℕ)) (t : List ℕ) (x : Fault) (total : Result (List A) Fault)
+      → BeginsWith t qs ps → says before line t ≡ Err x → lines_from says before line ps ≡ total → total ≡ Err x
   unfolding lines_from
-  lines_from-bad before line ps qs p t x total e f g so_far = sym so_far ∙ rw (e, f, g) refl
+  lines_from-bad before line ps qs t x total e g so_far = sym so_far ∙ rw (e.1, text_in-ended t e.0, g) refl
 
   -- no line is left
   pub lines_from-done : (before : List A) (line : ℕ) (ps : List (List ℕ)) (total : Result (List A) Fault)
@@ -45,26 +46,27 @@ module _ {A : Type 0} (says : List A → ℕ → List ℕ → Result A Fault) wh
       rw (pieces-ended (write x) (flat_map ended (map write xs)) here.0, text_in-ended (write x) here.0, here.1, again) (ap (λ (v : List A). Ok v) split)
 
 module _ {A : Type 0} (says : List A → ℕ → List ℕ → Result (Option A) Fault) (due : List A → ℕ) where
-  pub section_from-more : (before : List A) (line : ℕ) (ps qs : List (List ℕ)) (p t : List ℕ) (a : A) (total : Result (List A × List (List ℕ)) Fault)
-      → ps ≡ p ∷ qs → text_in p ≡ Some t → says before line t ≡ Ok (Some a) → section_from says due before line ps ≡ total → section_from says due (before ++ a ∷ []) (line + 1) qs ≡ total
+  pub section_from-more : (before : List A) (line : ℕ) (ps qs : List (List ℕ)) (t : List ℕ) (a : A) (total : Result (List A × List (List ℕ)) Fault)
+      → BeginsWith t qs ps → says before line t ≡ Ok (Some a) → section_from says due before line ps ≡ total → section_from says due (before ++ a ∷ []) (line + 1) qs ≡ total
   unfolding section_from
-  section_from-more before line ps qs p t a total e f g so_far = sym (rw (e, f, g) refl) ∙ so_far
+  section_from-more before line ps qs t a total e g so_far = sym (rw (e.1, text_in-ended t e.0, g) refl) ∙ so_far
 
-  pub section_from-odd : (before : List A) (line : ℕ) (ps qs : List (List ℕ)) (p : List ℕ) (total : Result (List A × List (List ℕ)) Fault)
-      → ps ≡ p ∷ qs → text_in p ≡ None → section_from says due before line ps ≡ total → total ≡ fault line 1
+  pub section_from-odd : (before : List A) (line : ℕ) (ps : List (List ℕ)) (total : Result (List A × List (List ℕ)) Fault)
+      → BeginsOddly ps → section_from says due before line ps ≡ total → total ≡ fault line 1
   unfolding section_from
-  section_from-odd before line ps qs p total e f so_far = sym so_far ∙ rw (e, f) refl
+  section_from-odd before line [] total odd so_far = absurd odd
+  section_from-odd before line (p ∷ ps) total odd so_far = sym so_far ∙ rw odd refl
 
-  pub section_from-bad : (before : List A) (line : ℕ) (ps qs : List (List ℕ)) (p t : List ℕ) (x : Fault) (total : Result (List A × List (List ℕ)) Fault)
-      → ps ≡ p ∷ qs → text_in p ≡ Some t → says before line t ≡ Err x → section_from says due before line ps ≡ total → total ≡ Err x
+  pub section_from-bad : (before : List A) (line : ℕ) (ps qs : List (List ℕ)) (t : List ℕ) (x : Fault) (total : Result (List A × List (List ℕ)) Fault)
+      → BeginsWith t qs ps → says before line t ≡ Err x → section_from says due before line ps ≡ total → total ≡ Err x
   unfolding section_from
-  section_from-bad before line ps qs p t x total e f g so_far = sym so_far ∙ rw (e, f, g) refl
+  section_from-bad before line ps qs t x total e g so_far = sym so_far ∙ rw (e.1, text_in-ended t e.0, g) refl
 
   -- the line that ends the section
-  pub section_from-end : (before : List A) (line : ℕ) (ps qs : List (List ℕ)) (p t : List ℕ) (total : Result (List A × List (List ℕ)) Fault)
-      → ps ≡ p ∷ qs → text_in p ≡ Some t → says before line t ≡ Ok None → section_from says due before line ps ≡ total → total ≡ Ok (before, ps)
+  pub section_from-end : (before : List A) (line : ℕ) (ps qs : List (List ℕ)) (t : List ℕ) (total : Result (List A × List (List ℕ)) Fault)
+      → BeginsWith t qs ps → says before line t ≡ Ok None → section_from says due before line ps ≡ total → total ≡ Ok (before, ps)
   unfolding section_from
-  section_from-end before line ps qs p t total e f g so_far = sym so_far ∙ rw (e, f, g) refl
+  section_from-end before line ps qs t total e g so_far = sym so_far ∙ rw (e.1, text_in-ended t e.0, g) refl
 
   -- the document ends before
   pub section_from-none : (before : List A) (line : ℕ) (ps : List (List ℕ)) (total : Result (List A × List (List ℕ)) Fault)

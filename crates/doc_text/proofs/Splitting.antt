@@ -1,5 +1,5 @@
 -- The first word of a text, as a loop finds it, and how many words there are.
-use Rattle.std.proofs.Common.{◌≡◌, ◌≢◌, ℕ, zero, suc, ◌+◌, ◌-◌, ◌<◌, ◌≤◌, List, [], ◌∷◌, ◌++◌, length, get_or, take, drop, Bool, true, false, Option, Some, None, refl, sym, ap, subst, ◌∙◌, arith, eq-eqb, eqb, cond}
+use Rattle.std.proofs.Common.{◌≡◌, ℕ, zero, suc, ◌<◌, List, [], ◌∷◌, ◌++◌, length, get_or, take, drop, true, false, None, refl, ap, arith, eq-eqb, eqb, cond}
 use Rattle.std.proofs.lemmas.Bool.{ne_eqb}
 use Rattle.doc_text.specs.Text.{onto}
 use Rattle.doc_text.specs.Words.{words, one, two, three, four, five, six}

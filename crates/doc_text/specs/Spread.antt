@@ -1,5 +1,5 @@
 -- Hexadecimal digits with blanks anywhere between them.
-use Rattle.std.specs.Prelude.{◌≡◌, ℕ, ◌+◌, List, [], ◌∷◌, ◌++◌, Bool, ◌||◌, Result, Ok, Err, ◌==◌, if◌then◌else◌}
+use Rattle.std.specs.Prelude.{ℕ, ◌+◌, List, [], ◌∷◌, ◌++◌, Bool, ◌||◌, Result, Ok, ◌==◌, if◌then◌else◌}
 use Rattle.hex.specs.Hex.{is_hex_digit}
 use Rattle.doc_text.specs.declared.fault.Fault.{Fault}
 use Rattle.doc_text.specs.Digits.{bytes_in}

@@ -1,5 +1,5 @@
-ghost use Rattle.std.specs.Prelude.{◌≡◌, ◌≢◌, ◌<◌, ◌++◌, ◌∷◌, [], ℕ, List, length, Some, None, Ok, IfOk, IsOkAnd, MatchOption};
-ghost use Rattle.doc_text.specs.Text.{pieces, text_in, ended, IsPlain};
+ghost use Rattle.std.specs.Prelude.{◌≡◌, ◌≢◌, ◌<◌, ◌++◌, ◌∷◌, [], ℕ, List, length, Some, None, Ok, IfOk, IfSome, IsOkAnd, MatchOption};
+ghost use Rattle.doc_text.specs.Text.{pieces, is_plain, text_in, ended, IsPlain, BeginsOddly, BeginsWith};
 ghost use Rattle.doc_text.specs.Faults.{Gives, line_due, fixed_due};
 
 use crate::fault::Fault;
@@ -20,6 +20,13 @@ pub fn piece_at(bytes: &[u8]) -> (&[u8], &[u8])
     bytes.split_at(bytes.len())
 }
 
+// Whether a byte may stand in a line.
+fn is_plain(b: u8) -> bool
+    ensures { result ≡ is_plain b }
+{
+    b >= b' ' && b <= b'~'
+}
+
 /// What a piece says, where it is plain bytes and a line feed.
 pub fn text_of(piece: &[u8]) -> Option<&[u8]>
     ensures { MatchOption result
@@ -31,11 +38,30 @@ pub fn text_of(piece: &[u8]) -> Option<&[u8]>
         return None;
     }
     for b in front {
-        if *b < b' ' || *b > b'~' {
+        if !is_plain(*b) {
             return None;
         }
     }
     Some(front)
+}
+
+/// The text of the line at the front, where it is plain bytes and a line feed, and the bytes behind it.
+pub fn text_at(bytes: &[u8]) -> Option<(&[u8], &[u8])>
+    requires { bytes.now ≢ [] }
+    ensures text { MatchOption result
+        (BeginsOddly (pieces bytes.now))
+        (λ x. BeginsWith x.0.now (pieces x.1.now) (pieces bytes.now)) }
+    ensures shorter { IfSome result (λ x. length x.1.now < length bytes.now) }
+{
+    for (i, b) in bytes.iter().enumerate() {
+        if !is_plain(*b) {
+            if *b != b'\n' {
+                return None;
+            }
+            return Some((&bytes[..i], &bytes[i + 1..]));
+        }
+    }
+    None
 }
 
 #[tactic(auto, unfolding(crate::specs::Faults::line_due))]
@@ -47,9 +73,8 @@ fn front_line(bytes: &[u8], line: u32, what: u8) -> Result<(&[u8], &[u8]), Fault
     if bytes.is_empty() {
         return Err(Fault { line, what });
     }
-    let (piece, rest) = piece_at(bytes);
-    match text_of(piece) {
-        Some(text) => Ok((text, rest)),
+    match text_at(bytes) {
+        Some((text, rest)) => Ok((text, rest)),
         None => Err(Fault { line, what: 1 }),
     }
 }

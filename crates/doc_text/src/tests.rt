@@ -29,6 +29,22 @@ fn a_line_ends_with_its_line_feed(rt: HostRuntime) -> Result<(), Fail> {
 }
 
 #[test]
+fn a_text_is_read_up_to_the_first_byte_that_is_not_plain(rt: HostRuntime) {
+    assert_eq!(rt;
+        text_at(b"0 next 1\n\t"),
+        Some((b"0 next 1".as_slice(), b"\t".as_slice()))
+    );
+    for bytes in [
+        b"0 next 1".as_slice(),
+        b"0\tnext 1\n",
+        b"0 next\x7f1\n",
+        b"\r\n",
+    ] {
+        assert_eq!(rt; text_at(bytes).is_none(), true);
+    }
+}
+
+#[test]
 fn words_are_parted_by_one_blank(rt: HostRuntime) {
     assert_eq!(rt; one_word(b"exit"), Some(b"exit".as_slice()));
     assert_eq!(rt;

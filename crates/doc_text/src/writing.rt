@@ -1,8 +1,7 @@
-ghost use Rattle.std.specs.Prelude.{◌≡◌, ◌++◌, OnOk, decimal};
+ghost use Rattle.std.specs.Prelude.{◌≡◌, ◌++◌, OnOk};
 ghost use Rattle.hex.specs.Hex.{encode_lower};
 ghost use Rattle.doc_text.specs.Text.{ended};
 
-use itoa::Buffer;
 use std::alloc::{AllocError, Global};
 
 /// Writes a line: its text and a line feed.
@@ -11,14 +10,6 @@ pub fn push_line(out: &mut Vec<u8>, text: &[u8]) -> Result<(), AllocError>
 {
     out.extend_from_slice(text)?;
     out.extend_from_slice(b"\n")
-}
-
-/// Writes a number in decimal.
-pub fn push_decimal(out: &mut Vec<u8>, n: u64) -> Result<(), AllocError>
-    ensures { OnOk result (out.new.items ≡ out.old.items ++ decimal n) }
-{
-    let mut buffer = Buffer::new();
-    out.extend_from_slice(buffer.format(n).as_bytes())
 }
 
 /// Writes bytes as hexadecimal digits in lower case, two a byte.

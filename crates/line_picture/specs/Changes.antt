@@ -1,5 +1,5 @@
 -- The rows of a report that a picture shows: each, or those at which what is shown changes.
-use Rattle.std.specs.Prelude.{ℕ, List, [], ◌∷◌, Bool, false, ◌&&◌, ◌||◌, not, ◌==◌, codes, if◌then◌else◌}
+use Rattle.std.specs.Prelude.{List, [], ◌∷◌, Bool, false, ◌&&◌, ◌||◌, not, ◌==◌, codes, if◌then◌else◌}
 use Rattle.shfl_line.specs.Words.{lock_word}
 use Rattle.doc_text.specs.Words.{same}
 use Rattle.line_picture.specs.Reports.{State, Row}

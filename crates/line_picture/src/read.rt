@@ -14,9 +14,7 @@ use crate::error::ReportError;
 use crate::heading::heading_of;
 use crate::report::{Report, Row};
 use crate::rows::row_of;
-use doc_text::{
-    Fault, fixed_due, is_same, line_due, or_fault, piece_at, push_decimal, text_of, word_at,
-};
+use doc_text::{Fault, fixed_due, is_same, line_due, or_fault, push_decimal, text_at, word_at};
 use shfl_line::Form;
 use std::alloc::{AllocError, Global};
 
@@ -75,8 +73,7 @@ fn rows_of(
     let mut rest = bytes;
     let mut line = 2;
     while !rest.is_empty() {
-        let (piece, after) = piece_at(rest);
-        let Some(text) = text_of(piece) else {
+        let Some((text, after)) = text_at(rest) else {
             return Err(ReportError::Format { line, what: 1 });
         };
         match row_says(form, passes, rows.as_slice(), line, text)? {
@@ -120,8 +117,7 @@ fn nothing_due(bytes: &[u8], line: u32) -> Result<(), Fault>
     if bytes.is_empty() {
         return Ok(());
     }
-    let (piece, _) = piece_at(bytes);
-    match text_of(piece) {
+    match text_at(bytes) {
         Some(_) => Err(Fault { line, what: 5 }),
         None => Err(Fault { line, what: 1 }),
     }

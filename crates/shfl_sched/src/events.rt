@@ -11,7 +11,7 @@ ghost use Rattle.shfl_sched.specs.Grammar.{event_says, events_in};
 
 use crate::error::ScheduleError;
 use crate::schedule::{Act, Event};
-use doc_text::{Fault, fixed_due, is_same, number, piece_at, text_of, two_words};
+use doc_text::{Fault, fixed_due, is_same, number, text_at, two_words};
 use shfl_line::Form;
 use std::alloc::Global;
 
@@ -104,8 +104,7 @@ fn event_lines(
     let mut rest = bytes;
     let mut line = first;
     while !rest.is_empty() {
-        let (piece, after) = piece_at(rest);
-        let Some(text) = text_of(piece) else {
+        let Some((text, after)) = text_at(rest) else {
             return Err(ScheduleError::Format { line, what: 1 });
         };
         let event = event_says(form, passes, events.as_slice(), line, text)?;

@@ -6,7 +6,7 @@ ghost use Rattle.shfl_sched.specs.Errors.{fault_of};
 ghost use Rattle.shfl_sched.specs.Grammar.{pass_says, passes_in};
 
 use crate::error::ScheduleError;
-use doc_text::{Fault, is_same, piece_at, text_of};
+use doc_text::{Fault, is_same, text_at};
 use policy_text::attr_of;
 use shfl_line::Attr;
 use std::alloc::Global;
@@ -50,8 +50,7 @@ pub fn passes_of(
     let mut rest = bytes;
     let mut line = first;
     while !rest.is_empty() {
-        let (piece, after) = piece_at(rest);
-        let Some(text) = text_of(piece) else {
+        let Some((text, after)) = text_at(rest) else {
             return Err(ScheduleError::Format { line, what: 1 });
         };
         match pass_says(passes.as_slice(), line, text)? {

@@ -7,11 +7,10 @@ ghost use Rattle.shfl_sched.specs.Report.{version_text, sizes_text, heading_text
 
 use crate::parked_text::ParkedText;
 use crate::queue_text::QueueText;
-use crate::report_parts::{
-    form_name, push_act, push_answer, push_hand, push_hold, push_number, push_role,
-};
+use crate::report_parts::{form_name, push_act, push_answer, push_hand, push_hold, push_role};
 use crate::schedule::{Event, Schedule};
 use bpf_isa::Profile;
+use doc_text::push_decimal;
 use policy_text::push_version;
 use shfl_core::Board;
 use shfl_line::{Form, LineState, NoMemory, Role};
@@ -52,9 +51,9 @@ fn push_sizes(out: &mut Vec<u8>, form: Form, limit: u16, passes: usize) -> Resul
     out.extend_from_slice(b" form ")?;
     out.extend_from_slice(form_name(form))?;
     out.extend_from_slice(b" limit ")?;
-    push_number(out, u64::from(limit))?;
+    push_decimal(out, u64::from(limit))?;
     out.extend_from_slice(b" passes ")?;
-    push_number(out, passes as u64)?;
+    push_decimal(out, passes as u64)?;
     out.extend_from_slice(b"\n")
 }
 
@@ -76,9 +75,9 @@ fn push_event(
 ) -> Result<(), AllocError>
     ensures { OnOk result (out.new.items ≡ out.old.items ++ event_text number event admitted) }
 {
-    push_number(out, u64::from(number))?;
+    push_decimal(out, u64::from(number))?;
     push_act(out, event.act)?;
-    push_number(out, u64::from(event.pass))?;
+    push_decimal(out, u64::from(event.pass))?;
     push_answer(out, admitted)
 }
 
@@ -122,7 +121,7 @@ fn push_state(
     ensures { OnOk result (out.new.items ≡ out.old.items ++ state_text word state.now) }
 {
     out.extend_from_slice(b" word ")?;
-    push_number(out, word)?;
+    push_decimal(out, word)?;
     out.extend_from_slice(b" hold ")?;
     push_hold(out, state.hold())?;
     push_waiting(out, state, queue)
@@ -185,8 +184,8 @@ pub fn push_totals(out: &mut Vec<u8>, admitted: u32, refused: u32) -> Result<(),
     ensures { OnOk result (out.new.items ≡ out.old.items ++ totals_text admitted refused) }
 {
     out.extend_from_slice(b"end yes ")?;
-    push_number(out, u64::from(admitted))?;
+    push_decimal(out, u64::from(admitted))?;
     out.extend_from_slice(b" no ")?;
-    push_number(out, u64::from(refused))?;
+    push_decimal(out, u64::from(refused))?;
     out.extend_from_slice(b"\n")
 }

@@ -1,5 +1,5 @@
 //! The texts of a line report's parts, written behind what stands there.
-ghost use Rattle.std.specs.Prelude.{◌≡◌, ◌++◌, ◌+◌, ◌<◌, ◌≤◌, ℕ, length, map, OnOk, codes, decimal};
+ghost use Rattle.std.specs.Prelude.{◌≡◌, ◌++◌, ◌≤◌, ℕ, length, map, OnOk, codes, decimal};
 ghost use Rattle.shfl_sched.specs.ReportParts.{form_text, act_text, answer_text, mode_text, hand_text, role_text, listed, holder_text, waiter_text};
 
 use crate::schedule::Act;
@@ -53,86 +53,11 @@ fn push_mode(out: &mut Vec<u8>, mode: Mode) -> Result<(), AllocError>
     }
 }
 
-fn digit(n: u64) -> u8
-    requires { n < 10 }
-    ensures { result ≡ 48 + n }
-{
-    b'0' + n as u8
-}
-
-#[tactic(auto, using(crate::proofs::Decimals::digit_rules))]
-fn push_three(out: &mut Vec<u8>, n: u64) -> Result<(), AllocError>
-    requires { (100 ≤ n) × (n < 1000) }
-    ensures { OnOk result (out.new.items ≡ out.old.items ++ decimal n) }
-{
-    out.extend_from_slice(&[digit(n / 10 / 10), digit(n / 10 % 10), digit(n % 10)])
-}
-
-#[tactic(auto, using(crate::proofs::Decimals::digit_rules))]
-fn push_four(out: &mut Vec<u8>, n: u64) -> Result<(), AllocError>
-    requires { (1000 ≤ n) × (n < 10000) }
-    ensures { OnOk result (out.new.items ≡ out.old.items ++ decimal n) }
-{
-    out.extend_from_slice(&[
-        digit(n / 10 / 10 / 10),
-        digit(n / 10 / 10 % 10),
-        digit(n / 10 % 10),
-        digit(n % 10),
-    ])
-}
-
-#[tactic(auto, using(crate::proofs::Decimals::digit_rules))]
-fn push_five(out: &mut Vec<u8>, n: u64) -> Result<(), AllocError>
-    requires { (10000 ≤ n) × (n < 100000) }
-    ensures { OnOk result (out.new.items ≡ out.old.items ++ decimal n) }
-{
-    out.extend_from_slice(&[
-        digit(n / 10 / 10 / 10 / 10),
-        digit(n / 10 / 10 / 10 % 10),
-        digit(n / 10 / 10 % 10),
-        digit(n / 10 % 10),
-        digit(n % 10),
-    ])
-}
-
-// Writes a number of two digits or more; those of at most five, which are the most, without a detour.
-#[tactic(auto, using(crate::proofs::Decimals::digit_rules))]
-fn push_long(out: &mut Vec<u8>, n: u64) -> Result<(), AllocError>
-    requires { 10 ≤ n }
-    ensures { OnOk result (out.new.items ≡ out.old.items ++ decimal n) }
-{
-    if n < 100 {
-        return out.extend_from_slice(&[digit(n / 10), digit(n % 10)]);
-    }
-    if n < 1_000 {
-        return push_three(out, n);
-    }
-    if n < 10_000 {
-        return push_four(out, n);
-    }
-    if n < 100_000 {
-        return push_five(out, n);
-    }
-    push_decimal(out, n)
-}
-
-/// Writes a number in decimal.
-#[tactic(auto, using(crate::proofs::Decimals::digit_rules))]
-#[inline(always)]
-pub fn push_number(out: &mut Vec<u8>, n: u64) -> Result<(), AllocError>
-    ensures { OnOk result (out.new.items ≡ out.old.items ++ decimal n) }
-{
-    if n < 10 {
-        return out.extend_from_slice(&[digit(n)]);
-    }
-    push_long(out, n)
-}
-
 fn push_holder(out: &mut Vec<u8>, holder: (u32, Mode)) -> Result<(), AllocError>
     ensures { OnOk result (out.new.items ≡ out.old.items ++ holder_text holder) }
 {
     push_mode(out, holder.1)?;
-    push_number(out, u64::from(holder.0))
+    push_decimal(out, u64::from(holder.0))
 }
 
 /// The holders, with commas between them.
@@ -155,9 +80,9 @@ fn push_waiter(out: &mut Vec<u8>, marks: &[u16], pass: u32) -> Result<(), AllocE
 {
     let place = pass as usize;
     let mark = if place < marks.len() { marks[place] } else { 0 };
-    push_number(out, u64::from(pass))?;
+    push_decimal(out, u64::from(pass))?;
     out.extend_from_slice(b":")?;
-    push_number(out, u64::from(mark))
+    push_decimal(out, u64::from(mark))
 }
 
 /// The waiters with their batch numbers, with commas between them.
@@ -184,10 +109,10 @@ pub fn push_passes(out: &mut Vec<u8>, passes: &[u32]) -> Result<(), AllocError>
     let Some((first, others)) = passes.split_first() else {
         return out.extend_from_slice(b"-");
     };
-    push_number(out, u64::from(*first))?;
+    push_decimal(out, u64::from(*first))?;
     for pass in others {
         out.extend_from_slice(b",")?;
-        push_number(out, u64::from(*pass))?;
+        push_decimal(out, u64::from(*pass))?;
     }
     Ok(())
 }
@@ -198,7 +123,7 @@ pub fn push_hand(out: &mut Vec<u8>, hand: Option<u32>) -> Result<(), AllocError>
 {
     match hand {
         None => out.extend_from_slice(b"-"),
-        Some(pass) => push_number(out, u64::from(pass)),
+        Some(pass) => push_decimal(out, u64::from(pass)),
     }
 }
 
@@ -209,11 +134,11 @@ pub fn push_role(out: &mut Vec<u8>, role: Role) -> Result<(), AllocError>
         Role::Nobody => out.extend_from_slice(b"-"),
         Role::Rest(pass) => {
             out.extend_from_slice(b"rest:")?;
-            push_number(out, u64::from(pass))
+            push_decimal(out, u64::from(pass))
         }
         Role::Walk(pass) => {
             out.extend_from_slice(b"walk:")?;
-            push_number(out, u64::from(pass))
+            push_decimal(out, u64::from(pass))
         }
     }
 }

@@ -6,7 +6,7 @@ ghost use Rattle.sim_text.specs.Errors.{fault_of};
 ghost use Rattle.sim_text.specs.Grammar.{pass_says, passes_in, over_in, body_in};
 
 use crate::error::SetupError;
-use doc_text::{Fault, fixed_due, is_same, piece_at, text_of};
+use doc_text::{Fault, fixed_due, is_same, text_at};
 use policy_text::attr_of;
 use shfl_line::Attr;
 use std::alloc::Global;
@@ -45,8 +45,7 @@ fn passes_of(alloc: Global, bytes: &[u8], first: u32) -> Result<(Vec<Attr>, &[u8
     let mut rest = bytes;
     let mut line = first;
     while !rest.is_empty() {
-        let (piece, after) = piece_at(rest);
-        let Some(text) = text_of(piece) else {
+        let Some((text, after)) = text_at(rest) else {
             return Err(SetupError::Format { line, what: 1 });
         };
         match pass_says(passes.as_slice(), line, text)? {
@@ -67,8 +66,7 @@ fn over_at(bytes: &[u8], line: u32) -> Result<(), Fault>
     if bytes.is_empty() {
         return Ok(());
     }
-    let (piece, _rest) = piece_at(bytes);
-    match text_of(piece) {
+    match text_at(bytes) {
         None => Err(Fault { line, what: 1 }),
         Some(_) => Err(Fault { line, what: 15 }),
     }

@@ -11,7 +11,7 @@ ghost use Rattle.sim_text.specs.Grammar.{policy_says, LoadsPolicy, ReadsRule, Re
 use crate::error::SetupError;
 use crate::setup::{Candidate, Rule};
 use bpf_isa::Profile;
-use doc_text::{five_words, is_same, piece_at, text_of, three_words, word_at};
+use doc_text::{five_words, is_same, text_at, three_words, word_at};
 use policy_source::PolicySource;
 use policy_text::{NoMemory, source_of};
 use shfl_policy::{LoadError, load};
@@ -181,8 +181,7 @@ pub fn policies_of(
     let mut rest = bytes;
     let mut line = 10;
     while !rest.is_empty() {
-        let (piece, after) = piece_at(rest);
-        let Some(text) = text_of(piece) else {
+        let Some((text, after)) = text_at(rest) else {
             return Err(SetupError::Format { line, what: 1 });
         };
         let Some(policy) = policy_says(alloc, policies.as_slice(), line, text)? else {

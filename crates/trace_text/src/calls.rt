@@ -14,7 +14,7 @@ use crate::policies::is_declared;
 use crate::shape::shape_of;
 use crate::spelled::{SpelledAct, SpelledCall, is_attach};
 use crate::trace::NamedSource;
-use doc_text::{Fault, fixed_due, piece_at, text_of};
+use doc_text::{Fault, fixed_due, text_at};
 use std::alloc::Global;
 
 // No call is shorter than `0 next 0` and its line feed.
@@ -114,8 +114,7 @@ pub fn calls_of(
     let mut list = CallList::open(alloc, (rest.len() / SHORTEST_LINE).min(65536))?;
     let mut line = first + 1;
     while !rest.is_empty() {
-        let (piece, after) = piece_at(rest);
-        let Some(text) = text_of(piece) else {
+        let Some((text, after)) = text_at(rest) else {
             return Err(TraceError::Format { line, what: 1 });
         };
         let call = call_says(workers, policies, &list, line, text)?;

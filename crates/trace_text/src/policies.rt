@@ -10,7 +10,7 @@ ghost use Rattle.trace_text.specs.Traces.{policy_of};
 use crate::error::TraceError;
 use crate::trace::NamedSource;
 use bpf_isa::Profile;
-use doc_text::{four_words, is_same, piece_at, text_of};
+use doc_text::{four_words, is_same, text_at};
 use policy_text::{accepts, source_of};
 use std::alloc::Global;
 
@@ -111,8 +111,7 @@ pub fn policies_of(
     let mut rest = bytes;
     let mut line = first;
     while !rest.is_empty() {
-        let (piece, after) = piece_at(rest);
-        let Some(text) = text_of(piece) else {
+        let Some((text, after)) = text_at(rest) else {
             return Err(TraceError::Format { line, what: 1 });
         };
         let Some(policy) = policy_says(alloc, policies.as_slice(), line, text)? else {

@@ -5,7 +5,7 @@ ghost use Rattle.trace_text.specs.Errors.{fault_of};
 ghost use Rattle.trace_text.specs.Grammar.{worker_says, worker_due, workers_in};
 
 use crate::error::TraceError;
-use doc_text::{Fault, is_same, piece_at, text_of, word_at};
+use doc_text::{Fault, is_same, text_at, word_at};
 use policy_text::attr_of;
 use shfl_line::Attr;
 use std::alloc::Global;
@@ -52,8 +52,7 @@ pub fn workers_of(alloc: Global, bytes: &[u8], first: u32) -> Result<(Vec<Attr>,
     let mut rest = bytes;
     let mut line = first;
     while !rest.is_empty() {
-        let (piece, after) = piece_at(rest);
-        let Some(text) = text_of(piece) else {
+        let Some((text, after)) = text_at(rest) else {
             return Err(TraceError::Format { line, what: 1 });
         };
         match worker_says(workers.as_slice(), line, text)? {

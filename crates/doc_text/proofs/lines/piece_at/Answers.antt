@@ -1,4 +1,4 @@
-use Rattle.std.proofs.Common.{◌≡◌, [], take, drop, length, add-one, arith}
+use Rattle.std.proofs.Common.{length, add-one, arith}
 use Rattle.std.proofs.lemmas.List.{take_all, drop_all}
 use Rattle.doc_text.proofs.LineEnds.{pieces_at, pieces_all}
 use Rattle.doc_text.proofs.lines.piece_at.Goals as goal

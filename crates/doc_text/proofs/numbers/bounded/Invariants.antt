@@ -1,4 +1,4 @@
-use Rattle.std.proofs.Common.{◌≡◌, ◌≤◌, ◌&&◌, drop}
+use Rattle.std.proofs.Common.{◌≡◌, ◌≤◌, drop}
 use Rattle.std.specs.Str.{all_ascii_digits}
 use Rattle.doc_text.specs.Numbers.{value_on}
 use Rattle.doc_text.proofs.numbers.bounded.Given as goal

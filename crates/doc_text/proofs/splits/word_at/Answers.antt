@@ -1,4 +1,4 @@
-use Rattle.std.proofs.Common.{◌≡◌, ◌-◌, ◌+◌, take, drop, length, add-one, arith}
+use Rattle.std.proofs.Common.{◌-◌, ◌+◌, drop, length, add-one, arith}
 use Rattle.std.proofs.lemmas.List.{take_all, length-drop}
 use Rattle.doc_text.proofs.Splitting.{words_at, words_none, text_at}
 use Rattle.doc_text.proofs.Joining.{no_blank-take, no_blank-all}

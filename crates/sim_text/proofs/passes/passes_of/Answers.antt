@@ -13,27 +13,27 @@ use Rattle.sim_text.proofs.passes.passes_of.Goals as goal
 pub returns-in_default-clause-exact : goal.returns-in_default-clause-exact
 unfolding passes_in
 returns-in_default-clause-exact c =
-    section_from-odd pass_says (λ _. 14) c.loop-rest.passes.items c.loop-rest.line (pieces c.loop-rest.rest.now) (pieces c.piece_at.result.1.now) c.piece_at.result.0.now
-    (section_from pass_says (λ _. 14) [] c.args.first (pieces c.args.bytes.now)) c.piece_at.ensures.first c.in_default.ensures c.loop-rest.invariant.read
+    section_from-odd pass_says (λ _. 14) c.loop-rest.passes.items c.loop-rest.line (pieces c.loop-rest.rest.now)
+    (section_from pass_says (λ _. 14) [] c.args.first (pieces c.args.bytes.now)) c.in_default.ensures.text c.loop-rest.invariant.read
 
 pub returns-in_err-attr-clause-exact : goal.returns-in_err-attr-clause-exact
 unfolding passes_in
 returns-in_err-attr-clause-exact c =
     let p = err_from_is_err_and c.from_residual.result c.from_residual.ensures.1 in
-    let bad = section_from-bad pass_says (λ _. 14) c.loop-rest.passes.items c.loop-rest.line (pieces c.loop-rest.rest.now) (pieces c.piece_at.result.1.now) c.piece_at.result.0.now c.in-Some.text.now c.in_err-attr.field-0.0
-    (section_from pass_says (λ _. 14) [] c.args.first (pieces c.args.bytes.now)) c.piece_at.ensures.first c.in-Some.ensures (rw (← c.as_slice.ensures.value) (sym c.pass_says.ensures.exact ∙ c.in_err-attr.was)) c.loop-rest.invariant.read in
+    let bad = section_from-bad pass_says (λ _. 14) c.loop-rest.passes.items c.loop-rest.line (pieces c.loop-rest.rest.now) (pieces c.in-Some.after.now) c.in-Some.text.now c.in_err-attr.field-0.0
+    (section_from pass_says (λ _. 14) [] c.args.first (pieces c.args.bytes.now)) c.in-Some.ensures.text (rw (← c.as_slice.ensures.value) (sym c.pass_says.ensures.exact ∙ c.in_err-attr.was)) c.loop-rest.invariant.read in
     rw (p.1, p.2) bad
 
 pub returns-in-None-clause-exact : goal.returns-in-None-clause-exact
 unfolding passes_in
 returns-in-None-clause-exact c =
-    section_from-end pass_says (λ _. 14) c.loop-rest.passes.items c.loop-rest.line (pieces c.loop-rest.rest.now) (pieces c.piece_at.result.1.now) c.piece_at.result.0.now c.in-Some.text.now
-    (section_from pass_says (λ _. 14) [] c.args.first (pieces c.args.bytes.now)) c.piece_at.ensures.first c.in-Some.ensures (rw (← c.as_slice.ensures.value) (sym c.pass_says.ensures.exact ∙ c.in_ok-attr.was ∙ ap (λ (o : Option Attr). Ok o) c.in-None.is)) c.loop-rest.invariant.read
+    section_from-end pass_says (λ _. 14) c.loop-rest.passes.items c.loop-rest.line (pieces c.loop-rest.rest.now) (pieces c.in-Some.after.now) c.in-Some.text.now
+    (section_from pass_says (λ _. 14) [] c.args.first (pieces c.args.bytes.now)) c.in-Some.ensures.text (rw (← c.as_slice.ensures.value) (sym c.pass_says.ensures.exact ∙ c.in_ok-attr.was ∙ ap (λ (o : Option Attr). Ok o) c.in-None.is)) c.loop-rest.invariant.read
 
 pub loop-rest-preserved : goal.loop-rest-preserved
 loop-rest-preserved c =
-    let more = section_from-more pass_says (λ _. 14) c.loop-rest.passes.items c.loop-rest.line (pieces c.loop-rest.rest.now) (pieces c.piece_at.result.1.now) c.piece_at.result.0.now c.in-Some.text.now c.in-Some-2.attr
-    (section_from pass_says (λ _. 14) [] c.args.first (pieces c.args.bytes.now)) c.piece_at.ensures.first c.in-Some.ensures (rw (← c.as_slice.ensures.value) (sym c.pass_says.ensures.exact ∙ c.in_ok-attr.was ∙ ap (λ (o : Option Attr). Ok o) c.in-Some-2.is)) c.loop-rest.invariant.read in
+    let more = section_from-more pass_says (λ _. 14) c.loop-rest.passes.items c.loop-rest.line (pieces c.loop-rest.rest.now) (pieces c.in-Some.after.now) c.in-Some.text.now c.in-Some-2.attr
+    (section_from pass_says (λ _. 14) [] c.args.first (pieces c.args.bytes.now)) c.in-Some.ensures.text (rw (← c.as_slice.ensures.value) (sym c.pass_says.ensures.exact ∙ c.in_ok-attr.was ∙ ap (λ (o : Option Attr). Ok o) c.in-Some-2.is)) c.loop-rest.invariant.read in
     let room = ok_some c.in_ok-attr.field-0 c.in-Some-2.attr c.in-Some-2.is c.in_ok-attr.ensures.room in
     record {
       read = rw c.in_ok-push-in-Some-2.ensures.items more;

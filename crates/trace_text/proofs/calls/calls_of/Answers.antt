@@ -24,21 +24,21 @@ loop-rest-init c =
 pub returns-in_default-clause-exact : goal.returns-in_default-clause-exact
 returns-in_default-clause-exact c =
     let says = call_says c.args.workers (map policy_of c.args.policies.now) in
-    lines_from-odd says (list_said c.args.policies.now c.loop-rest.list) c.loop-rest.line (pieces c.loop-rest.rest.now) (pieces c.piece_at.result.1.now) c.piece_at.result.0.now
-    (calls_in c.args.workers (map policy_of c.args.policies.now) c.args.first (pieces c.args.bytes.now)) c.piece_at.ensures.first c.in_default.ensures c.loop-rest.invariant.read
+    lines_from-odd says (list_said c.args.policies.now c.loop-rest.list) c.loop-rest.line (pieces c.loop-rest.rest.now)
+    (calls_in c.args.workers (map policy_of c.args.policies.now) c.args.first (pieces c.args.bytes.now)) c.in_default.ensures.text c.loop-rest.invariant.read
 
 pub returns-in_err-call-clause-exact : goal.returns-in_err-call-clause-exact
 returns-in_err-call-clause-exact c =
     let says = call_says c.args.workers (map policy_of c.args.policies.now) in
     let p = err_from_is_err_and c.from_residual-in_err-call.result c.from_residual-in_err-call.ensures.1 in
-    rw (p.1, p.2) (lines_from-bad says (list_said c.args.policies.now c.loop-rest.list) c.loop-rest.line (pieces c.loop-rest.rest.now) (pieces c.piece_at.result.1.now) c.piece_at.result.0.now c.in-Some.text.now c.in_err-call.field-0.0
-    (calls_in c.args.workers (map policy_of c.args.policies.now) c.args.first (pieces c.args.bytes.now)) c.piece_at.ensures.first c.in-Some.ensures c.in_err-call.ensures.exact c.loop-rest.invariant.read)
+    rw (p.1, p.2) (lines_from-bad says (list_said c.args.policies.now c.loop-rest.list) c.loop-rest.line (pieces c.loop-rest.rest.now) (pieces c.in-Some.after.now) c.in-Some.text.now c.in_err-call.field-0.0
+    (calls_in c.args.workers (map policy_of c.args.policies.now) c.args.first (pieces c.args.bytes.now)) c.in-Some.ensures.text c.in_err-call.ensures.exact c.loop-rest.invariant.read)
 
 pub loop-rest-preserved : goal.loop-rest-preserved
 loop-rest-preserved c =
     let says = call_says c.args.workers (map policy_of c.args.policies.now) in
-    let more = lines_from-more says (list_said c.args.policies.now c.loop-rest.list) c.loop-rest.line (pieces c.loop-rest.rest.now) (pieces c.piece_at.result.1.now) c.piece_at.result.0.now c.in-Some.text.now (call_said c.in_ok-call.call)
-    (calls_in c.args.workers (map policy_of c.args.policies.now) c.args.first (pieces c.args.bytes.now)) c.piece_at.ensures.first c.in-Some.ensures c.in_ok-call.ensures.exact c.loop-rest.invariant.read in
+    let more = lines_from-more says (list_said c.args.policies.now c.loop-rest.list) c.loop-rest.line (pieces c.loop-rest.rest.now) (pieces c.in-Some.after.now) c.in-Some.text.now (call_said c.in_ok-call.call)
+    (calls_in c.args.workers (map policy_of c.args.policies.now) c.args.first (pieces c.args.bytes.now)) c.in-Some.ensures.text c.in_ok-call.ensures.exact c.loop-rest.invariant.read in
     let long = length-more c.args.policies.now c.loop-rest.list c.push.new.self (call_said c.in_ok-call.call) c.in_ok-push.ensures.said in
     record {
       read = rw c.in_ok-push.ensures.said more;
