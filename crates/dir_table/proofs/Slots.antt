@@ -56,26 +56,7 @@ slots_more slots (s ∷ order) rows known =
     let here : block_at (slots ++ rows ∷ []) s ≡ block_at slots s = get_or_append_left slots (rows ∷ []) [] s (All-head (λ t. t < length slots) s order known) in
     (λ i. here i ∷ slots_more slots order rows (All-tail (λ t. t < length slots) s order known) i)
 
--- a list without its last element, which no other one equals
-pairs-but_last : (order : List ℕ) (slot : ℕ) → AllPairs Differ (order ++ slot ∷ []) → AllPairs Differ order
-pairs-but_last order slot distinct i j d below in_range =
-    subst (λ s. Differ s (get_or order j d)) (get_or_append_left order (slot ∷ []) d i (omega arith))
-    (subst (Differ (get_or (order ++ slot ∷ []) i d)) (get_or_append_left order (slot ∷ []) d j in_range)
-    (distinct i j d below (omega (arith, length-append order (slot ∷ [])))))
-
-pairs-last : (order : List ℕ) (slot : ℕ) → AllPairs Differ (order ++ slot ∷ []) → All (Differ slot) order
-pairs-last order slot distinct i d in_range same =
-    distinct i (length order + 0) d (omega arith) (omega (arith, length-append order (slot ∷ [])))
-    (get_or_append_left order (slot ∷ []) d i in_range ∙ sym same ∙ sym (get_or-append-add order (slot ∷ []) 0 d))
-
-All-but_last : (P : ℕ → Type 0) (order : List ℕ) (slot : ℕ) → All P (order ++ slot ∷ []) → All P order
-All-but_last P order slot all i d in_range =
-    subst P (get_or_append_left order (slot ∷ []) d i in_range) (all i d (omega (arith, length-append order (slot ∷ []))))
-
-All-last : (P : ℕ → Type 0) (order : List ℕ) (slot : ℕ) → All P (order ++ slot ∷ []) → P slot
-All-last P order slot all =
-    subst P (get_or-append-add order (slot ∷ []) 0 slot) (all (length order + 0) slot (omega (arith, length-append order (slot ∷ []))))
-
+-- what holds of a list holds of its first part
 pub All-first : (P : ℕ → Type 0) (order free : List ℕ) → All P (order ++ free) → All P order
 All-first P order free all i d in_range = subst P (get_or_append_left order free d i in_range) (all i d (omega (arith, length-append order free)))
 
@@ -84,6 +65,16 @@ pairs-first order free distinct i j d below in_range =
     subst (λ s. Differ s (get_or order j d)) (get_or_append_left order free d i (omega arith))
     (subst (Differ (get_or (order ++ free) i d)) (get_or_append_left order free d j in_range)
     (distinct i j d below (omega (arith, length-append order free))))
+
+-- the last element of a list, which no other one equals
+pairs-last : (order : List ℕ) (slot : ℕ) → AllPairs Differ (order ++ slot ∷ []) → All (Differ slot) order
+pairs-last order slot distinct i d in_range same =
+    distinct i (length order + 0) d (omega arith) (omega (arith, length-append order (slot ∷ [])))
+    (get_or_append_left order (slot ∷ []) d i in_range ∙ sym same ∙ sym (get_or-append-add order (slot ∷ []) 0 d))
+
+All-last : (P : ℕ → Type 0) (order : List ℕ) (slot : ℕ) → All P (order ++ slot ∷ []) → P slot
+All-last P order slot all =
+    subst P (get_or-append-add order (slot ∷ []) 0 slot) (all (length order + 0) slot (omega (arith, length-append order (slot ∷ []))))
 
 removed_differs : (order : List ℕ) (k d : ℕ) → AllPairs Differ order → k < length order → All (λ s. Differ s (get_or order k d)) (remove order k)
 removed_differs [] k d distinct in_range = absurd (omega arith)
@@ -120,9 +111,9 @@ module _ (count : ℕ) (order free : List ℕ) where
         let parts = subst (AllPairs Differ) same_slots apart.distinct in
         let same : insert (order ++ free) k slot ≡ insert order k slot ++ free = insert-append_left order free k slot within in
         record {
-          distinct = subst (AllPairs Differ) same (pairs-insert (order ++ free) k slot (pairs-but_last (order ++ free) slot parts) (pairs-last (order ++ free) slot parts));
+          distinct = subst (AllPairs Differ) same (pairs-insert (order ++ free) k slot (pairs-first (order ++ free) (slot ∷ []) parts) (pairs-last (order ++ free) slot parts));
           known = subst (All (λ s. s < count)) same
-              (All-insert (λ s. s < count) (order ++ free) k slot slot_known (All-but_last (λ s. s < count) (order ++ free) slot (subst (All (λ s. s < count)) same_slots apart.known)));
+              (All-insert (λ s. s < count) (order ++ free) k slot slot_known (All-first (λ s. s < count) (order ++ free) (slot ∷ []) (subst (All (λ s. s < count)) same_slots apart.known)));
           all = omega (arith, apart.all, length-insert order k slot within, length-append free (slot ∷ []));
         }
 

@@ -34,7 +34,7 @@ pub fn merge<O: Object>(
         → IfOk result (λ v. IsLegal O.reply_at O.state_after state
         (operations O.call_numbers O.reply_numbers v.items)) }
 {
-    let mut merged = Vec::with_capacity(alloc, writes.len())?;
+    let mut merged = Vec::with_capacity(alloc, entries_in(writes, reads))?;
     let mut starts = vec![in alloc; 0; reads.len()]?;
     for (point, write) in writes.iter().enumerate() {
         append_reads(&mut merged, reads, &mut starts, point as u64)?;
@@ -42,6 +42,15 @@ pub fn merge<O: Object>(
     }
     append_reads(&mut merged, reads, &mut starts, writes.len() as u64)?;
     Ok(merged)
+}
+
+// How many entries there are in all, for the room that they take.
+fn entries_in<O: Object>(writes: &[Entry<O>], reads: &[Vec<Entry<O>>]) -> usize {
+    let mut count = writes.len();
+    for own in reads {
+        count = count.saturating_add(own.len());
+    }
+    count
 }
 
 // Appends the reads that come after `point` writes. `starts` has how far each list was taken.
