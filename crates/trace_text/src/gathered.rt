@@ -36,14 +36,40 @@ impl<'a> Model for Gathered<'a> {
     ghost invariant = { λ g. (0 < length g.slots.items) × (length g.slots.items < 2 ^ 32) };
 }
 
+// The eight bytes from a place on, as one number.
+fn eight_at(name: &[u8], at: usize) -> u64
+    requires { at + 8 ≤ length name.now }
+{
+    u64::from_be_bytes([
+        name[at],
+        name[at + 1],
+        name[at + 2],
+        name[at + 3],
+        name[at + 4],
+        name[at + 5],
+        name[at + 6],
+        name[at + 7],
+    ])
+}
+
+// The last eight bytes of a name and the eight before them, as far as it has them.
+fn last_of(name: &[u8]) -> (u64, u64) {
+    let len = name.len();
+    if len >= 8 {
+        return (eight_at(name, len.max(16) - 16), eight_at(name, len - 8));
+    }
+    let mut all: u64 = 0;
+    for byte in name {
+        all = all << 8 | u64::from(*byte);
+    }
+    (0, all)
+}
+
 // A number that goes by the last sixteen bytes of a name, and by how long it is.
 fn sum_of(name: &[u8]) -> u32 {
-    let start = name.len().saturating_sub(16);
-    let mut sum = (name.len() % 256) as u32;
-    for byte in &name[start..] {
-        sum = (sum ^ u32::from(*byte)).wrapping_mul(0x0100_0193);
-    }
-    sum.wrapping_mul(0x9e37_79b1)
+    let (front, back) = last_of(name);
+    let mixed = (front ^ name.len() as u64).wrapping_mul(0x9e37_79b9_7f4a_7c15) ^ back;
+    (mixed.wrapping_mul(0xd6e8_feb8_6659_fd93) >> 32) as u32
 }
 
 // Where the looks for a sum begin, among so many slots.
@@ -92,7 +118,7 @@ fn look_for(slots: &[Slot], names: &[&[u8]], sum: u32, name: &[u8]) -> Result<u3
 }
 
 impl<'a> Gathered<'a> {
-    /// No names yet; room for the guesses of so many.
+    /// No names yet; room for so many, and for the guesses of them.
     pub fn nobody(alloc: Global, names: usize) -> Result<Gathered<'a>, NoMemory>
         requires { names ≤ 131072 }
         ensures { IfOk result (λ g. g ≡ []) }
@@ -102,7 +128,7 @@ impl<'a> Gathered<'a> {
             place: NOBODY,
         };
         Ok(Gathered {
-            names: Vec::new(alloc),
+            names: Vec::with_capacity(alloc, names)?,
             slots: Vec::from_elem(alloc, empty, names + 1)?,
         })
     }

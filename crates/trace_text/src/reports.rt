@@ -23,7 +23,7 @@ fn push_entry(out: &mut Vec<u8>, names: &[Vec<u8>], entry: &Entry<Dir>) -> Resul
 {
     push_decimal(out, u64::from(entry.worker))?;
     push_call(out, names, &entry.call)?;
-    push_word(out, b"=")?;
+    out.extend_from_slice(b" =")?;
     push_reply(out, names, &entry.reply)?;
     out.push(b'\n')?;
     Ok(())
