@@ -171,3 +171,17 @@ fn a_name_too_far_away_goes_before_a_slot_too_many(rt: HostRuntime) -> Result<()
     assert_eq!(rt; fault, Some(AsmError::Format { line: 1, what: 6 }));
     Ok(())
 }
+
+#[test]
+fn each_fault_is_told(rt: HostRuntime) -> Result<(), Fail> {
+    let alloc = rt.alloc();
+    let faults = [
+        (AsmError::Format { line: 7, what: 2 }, "fault 2 on line 7"),
+        (AsmError::NoMemory, "out of memory"),
+    ];
+    for (fault, due) in faults {
+        let told = format!(in alloc; "{fault}")?;
+        assert_eq!(rt; told.as_str(), due);
+    }
+    Ok(())
+}

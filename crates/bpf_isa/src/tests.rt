@@ -267,3 +267,29 @@ fn a_move_does_not_read_its_destination(rt: HostRuntime) {
     assert_eq!(rt; target(3, 2147483647), 2147483651);
     assert!(rt; Insn::Half.is_half() && !Insn::Exit.is_wide());
 }
+
+#[test]
+fn each_fault_is_told(rt: HostRuntime) -> Result<(), Fail> {
+    let alloc = rt.alloc();
+    let faults = [
+        (IsaError::Empty, "no instructions"),
+        (IsaError::OddLength, "an unfinished slot"),
+        (IsaError::TooLong, "more than 512 slots"),
+        (IsaError::BadOpcode { slot: 3 }, "unknown opcode at slot 3"),
+        (
+            IsaError::BadRegister { slot: 3 },
+            "register above 9 at slot 3",
+        ),
+        (IsaError::Reserved { slot: 3 }, "reserved field at slot 3"),
+        (IsaError::HalfWide { slot: 3 }, "half a wide load at slot 3"),
+        (IsaError::NoMemory, "out of memory"),
+    ];
+    for (fault, due) in faults {
+        let told = format!(in alloc; "{fault}")?;
+        assert_eq!(rt; told.as_str(), due);
+    }
+    let error = NoMemory;
+    let told = format!(in alloc; "{error}")?;
+    assert_eq!(rt; told.as_str(), "out of memory");
+    Ok(())
+}

@@ -3,7 +3,7 @@
 ghost use Rattle.bpf_isa.specs.WellFormed.{IsWellFormed};
 
 use crate::accept::verify;
-use crate::refusal::Refusal;
+use crate::refusal::{NoMemory, Refusal};
 use bpf_isa::{Insn, Profile, decode};
 use std::alloc::Global;
 use std::process::Abort;
@@ -181,4 +181,40 @@ fn the_longest_program_is_accepted(rt: HostRuntime) {
     let mut slots = [0xb700000001000000; 512];
     slots[511] = EXIT;
     assert_eq!(rt; verdict(&rt, rt.alloc(), &slots), Ok(512));
+}
+
+#[test]
+fn each_fault_is_told(rt: HostRuntime) -> Result<(), Fail> {
+    let alloc = rt.alloc();
+    let faults = [
+        (
+            Refusal::Back { slot: 3 },
+            "the jump in slot 3 doesn't lead forward",
+        ),
+        (
+            Refusal::OutOfProgram { slot: 3 },
+            "slot 3 leads out of the program",
+        ),
+        (
+            Refusal::NoValue { slot: 3, reg: 2 },
+            "slot 3 reads register 2, which has no value",
+        ),
+        (
+            Refusal::PointerUse { slot: 3, reg: 2 },
+            "slot 3 reads the pointer in register 2 as a number",
+        ),
+        (
+            Refusal::BadLoad { slot: 3 },
+            "the load in slot 3 doesn't read the context",
+        ),
+        (Refusal::NoMemory, "out of memory"),
+    ];
+    for (fault, due) in faults {
+        let told = format!(in alloc; "{fault}")?;
+        assert_eq!(rt; told.as_str(), due);
+    }
+    let error = NoMemory;
+    let told = format!(in alloc; "{error}")?;
+    assert_eq!(rt; told.as_str(), "out of memory");
+    Ok(())
 }

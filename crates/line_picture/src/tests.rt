@@ -151,3 +151,17 @@ fn an_svg_has_as_many_rows_as_the_text(rt: HostRuntime) -> Result<(), Fail> {
     }
     Ok(())
 }
+
+#[test]
+fn each_fault_is_told(rt: HostRuntime) -> Result<(), Fail> {
+    let alloc = rt.alloc();
+    let faults = [
+        (ReportError::Format { line: 7, what: 2 }, "line 7: fault 2"),
+        (ReportError::NoMemory, "out of memory"),
+    ];
+    for (fault, due) in faults {
+        let told = format!(in alloc; "{fault}")?;
+        assert_eq!(rt; told.as_str(), due);
+    }
+    Ok(())
+}

@@ -61,3 +61,11 @@ fn attributes_and_programs_are_read_and_written(rt: HostRuntime) -> Result<(), F
     assert_eq!(rt; accepts(alloc, Profile::One, &source), Ok(false));
     Ok(())
 }
+
+#[test]
+fn want_of_memory_is_told(rt: HostRuntime) -> Result<(), Fail> {
+    let error = NoMemory;
+    let told = format!(in rt.alloc(); "{error}")?;
+    assert_eq!(rt; told.as_str(), "out of memory");
+    Ok(())
+}

@@ -123,3 +123,11 @@ fn a_commit_adds_an_entry_at_the_place_it_answers(rt: HostRuntime) -> Result<(),
     assert_eq!(rt; journal.lines.as_slice(), expected.as_slice());
     Ok(())
 }
+
+#[test]
+fn want_of_memory_is_told(rt: HostRuntime) -> Result<(), Fail> {
+    let error = NoMemory;
+    let told = format!(in rt.alloc(); "{error}")?;
+    assert_eq!(rt; told.as_str(), "out of memory");
+    Ok(())
+}

@@ -274,3 +274,11 @@ fn a_policy_tells_its_answers(rt: HostRuntime) -> Result<(), Fail> {
     assert_eq!(rt; policy.asking, false);
     Ok(())
 }
+
+#[test]
+fn want_of_memory_is_told(rt: HostRuntime) -> Result<(), Fail> {
+    let error = NoMemory;
+    let told = format!(in rt.alloc(); "{error}")?;
+    assert_eq!(rt; told.as_str(), "there is not enough memory");
+    Ok(())
+}

@@ -153,3 +153,32 @@ fn a_copy_is_the_same_policy(rt: HostRuntime) -> Result<(), Fail> {
     assert!(rt; !policy.same(&other));
     Ok(())
 }
+
+#[test]
+fn each_fault_is_told(rt: HostRuntime) -> Result<(), Fail> {
+    let alloc = rt.alloc();
+    let undecoded = ProgramFault::Isa(IsaError::Empty);
+    let refused = ProgramFault::Refused(Refusal::BadLoad { slot: 3 });
+    let faults = [
+        (
+            LoadError::Bad {
+                hook: Hook::Should,
+                fault: undecoded,
+            },
+            "in the program should: no instructions",
+        ),
+        (
+            LoadError::Bad {
+                hook: Hook::Skip,
+                fault: refused,
+            },
+            "in the program skip: the load in slot 3 doesn't read the context",
+        ),
+        (LoadError::NoMemory, "out of memory"),
+    ];
+    for (fault, due) in faults {
+        let told = format!(in alloc; "{fault}")?;
+        assert_eq!(rt; told.as_str(), due);
+    }
+    Ok(())
+}

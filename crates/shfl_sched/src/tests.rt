@@ -162,3 +162,20 @@ fn a_program_is_judged_by_the_profile_of_its_document(rt: HostRuntime) -> Result
     }
     Ok(())
 }
+
+#[test]
+fn each_fault_is_told(rt: HostRuntime) -> Result<(), Fail> {
+    let alloc = rt.alloc();
+    let faults = [
+        (
+            ScheduleError::Format { line: 7, what: 2 },
+            "line 7: fault 2",
+        ),
+        (ScheduleError::NoMemory, "out of memory"),
+    ];
+    for (fault, due) in faults {
+        let told = format!(in alloc; "{fault}")?;
+        assert_eq!(rt; told.as_str(), due);
+    }
+    Ok(())
+}

@@ -6,6 +6,7 @@ mod draws;
 mod driven;
 mod threads;
 
+use crate::attempts::Busy;
 use crate::opening::open;
 use crate::tests::driven::{Driven, drive_all};
 use shfl_core::{Nap, Phase, Watch};
@@ -204,5 +205,13 @@ fn an_attempt_holds_at_once_or_names_the_word(rt: HostRuntime) -> Result<(), Fai
     assert_eq!(rt; first.attempt(Mode::Read), Ok(()));
     assert_eq!(rt; second.attempt(Mode::Write), Err(0x1_0000_0000));
     assert_eq!(rt; second.attempt(Mode::Read), Ok(()));
+    Ok(())
+}
+
+#[test]
+fn a_busy_lock_is_told(rt: HostRuntime) -> Result<(), Fail> {
+    let busy = Busy { word: 1 };
+    let told = format!(in rt.alloc(); "{busy}")?;
+    assert_eq!(rt; told.as_str(), "the lock is held, or others wait for it");
     Ok(())
 }
