@@ -1,10 +1,12 @@
-pub mod Counts
+pub mod Counted
 pub mod Cuts
 pub mod Edits
+pub mod Firsts
 pub mod Joined
 pub mod Least
 pub mod ListEdits
 pub mod Limits
+pub mod Listed
 pub mod Methods
 pub mod NamesKept
 pub mod Next

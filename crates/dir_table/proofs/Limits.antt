@@ -1,6 +1,5 @@
 -- Limits of places, and what a cut there says of a directory and its names.
-use Rattle.std.proofs.Common.{◌≡◌, ℕ, zero, suc, ◌+◌, ◌-◌, ◌<◌, ◌≤◌, true, false, ltb, leb, eqb, List, [], ◌∷◌, length, get_or, Ordering, Some, None, sym, refl, ap, ◌∙◌, subst, inl, inr, arith}
-use Rattle.std.specs.List.{filter}
+use Rattle.std.proofs.Common.{◌≡◌, ℕ, zero, suc, ◌+◌, ◌-◌, ◌<◌, ◌≤◌, true, false, ltb, List, [], ◌∷◌, length, get_or, Ordering, Some, None, sym, refl, ap, ◌∙◌, subst, inl, inr, arith}
 use Rattle.std.specs.Ordering.{nat_cmp, is_lt, is_le, ordering_then, ordering_index}
 use Rattle.std.specs.List.Sorted.{IsPartitionedBy}
 use Rattle.std.specs.declared.cmp.Ordering.TheVariants.{Less, Equal, Greater}
@@ -12,7 +11,6 @@ use Rattle.dir_table.specs.Names.{Place, place_cmp, entries_of}
 use Rattle.dir_table.specs.Rows.{AreInOrder, IsGapFor, BeginAfter}
 use Rattle.dir_table.specs.Blocks.{is_below, IsCut}
 use Rattle.dir_table.proofs.Order.{places_total, places_exact, both_true, reversed, place_of_row, below_at, rise}
-use Rattle.dir_table.proofs.Counts.{count_between}
 use Rattle.dir_table.proofs.Next.{begin_first, begin_later}
 use Rattle.dir_table.proofs.Places.{gap_from}
 
@@ -121,15 +119,3 @@ gap_at_cut rows place i sorted cut differs = gap_from rows place i cut.within
       | inr last ↦ differs d (omega arith) (ap (λ n. place_cmp (place_of_row (get_or rows n d)) place) {x = i - 1} {y = j} (omega arith) ∙ tie)
     ]))
     (λ j d from below. greater_by _ (sym (below_name (place_of_row (get_or rows j d)) place.0 place.1) ∙ cut.behind j d from below))
-
-below_next : (m n : ℕ) → ltb m (n + 1) ≡ leb m n
-below_next m n = grind (arith, nat_tests)
-
--- the rows of a directory are those between its start and that of the next one
-pub count_cut : (rows : List DirRow) (dir start end : ℕ) → IsCut rows (dir, 0) start → IsCut rows (dir + 1, 0) end
-    → start + length (filter (λ e. eqb e.0.0 dir) (entries_of rows)) ≡ end
-count_cut rows dir start end from to = count_between rows dir start end from.within to.within
-    (λ k d low below. sym (below_directory (place_of_row (get_or rows k d)) dir) ∙ from.before k d low below)
-    (λ k d low below. sym (below_directory (place_of_row (get_or rows k d)) dir) ∙ from.behind k d low below)
-    (λ k d low below. sym (below_directory (place_of_row (get_or rows k d)) (dir + 1) ∙ below_next (get_or rows k d).dir dir) ∙ to.before k d low below)
-    (λ k d low below. sym (below_directory (place_of_row (get_or rows k d)) (dir + 1) ∙ below_next (get_or rows k d).dir dir) ∙ to.behind k d low below)

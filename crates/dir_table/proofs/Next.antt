@@ -1,20 +1,34 @@
 -- The next name of a directory.
-use Rattle.std.proofs.Common.{◌≡◌, ℕ, zero, suc, ◌<◌, ◌≤◌, Bool, true, false, cond, eqb, ltb, List, [], ◌∷◌, length, get_or, Option, Some, None, Ordering, sym, refl, ap, ◌∙◌, inl, inr, arith}
+use Rattle.std.proofs.Common.{◌≡◌, ℕ, zero, suc, ◌+◌, ◌<◌, ◌≤◌, Bool, true, false, cond, eqb, ltb, List, [], ◌∷◌, length, get_or, Option, Some, None, Ordering, sym, refl, ap, ◌∙◌, inl, inr, arith}
 use Rattle.std.specs.Prelude.{◌&&◌}
 use Rattle.std.specs.List.{find, All, AllWithin}
-use Rattle.std.specs.Ordering.{nat_cmp, is_le, ordering_then, ordering_index}
-use Rattle.std.specs.List.Sorted.{IsPartitionedBy}
+use Rattle.std.specs.Ordering.{nat_cmp, is_lt, is_le, ordering_then, ordering_index}
+use Rattle.std.specs.List.Sorted.{IsPartitionedBy, IsNonDecreasingBy}
 use Rattle.std.specs.declared.cmp.Ordering.TheVariants.{Less, Equal, Greater}
 use Rattle.std.proofs.lemmas.Bool.{cases_lt, cases_eq}
 use Rattle.std.proofs.lemmas.Bool.Decides.{nat_tests}
-use Rattle.std.proofs.lemmas.List.Sorted.{searchable_from_sorted}
+use Rattle.std.proofs.lemmas.List.Sorted.{searchable_from_sorted, IsNonDecreasingBy-from_all_adjacent}
 use mathlib.Core.Bool.{false≢true}
 use Rattle.dir_table.specs.declared.calls.DirRow.{DirRow}
 use Rattle.dir_table.specs.Names.{Place, place_cmp, entry_of, entries_of}
 use Rattle.dir_table.specs.Rows.{AreInOrder, BeginAfter}
 use Rattle.dir_table.specs.Answers.{comes_after}
 use Rattle.dir_table.proofs.Order.{places_total, place_of_row, rise}
-use Rattle.dir_table.proofs.Counts.{directories_rise}
+
+cmp_less : (m n : ℕ) → m < n → nat_cmp m n ≡ Less
+cmp_less m n below = grind (arith, nat_tests)
+
+-- a place that is not below another is not in a lesser directory
+no_lesser : (a b : Place) → is_lt (place_cmp b a) ≡ false → a.0 ≤ b.0
+no_lesser a b no_less = elim (cases_lt b.0 a.0) [
+  | inl below ↦ absurd (false≢true (sym no_less ∙ ap (λ r. is_lt (ordering_then r (nat_cmp b.1 a.1))) (cmp_less b.0 a.0 below)))
+  | inr above ↦ above
+]
+
+-- the directories of rows in order don't fall
+directories_rise : (rows : List DirRow) → AreInOrder rows → IsNonDecreasingBy (λ row. row.dir) rows
+directories_rise rows sorted = IsNonDecreasingBy-from_all_adjacent (λ row. row.dir) rows (λ k d in_range.
+    no_lesser (place_of_row (get_or rows k d)) (place_of_row (get_or rows (k + 1) d)) (rise rows sorted k d (omega arith) in_range))
 
 -- an entry of the directory, after this name
 abbrev pub is_next : ℕ → Option ℕ → Place × ℕ → Bool
@@ -70,9 +84,6 @@ le_stays Greater Greater below h = h
 pub up_to : (rows : List DirRow) (place : Place) → AreInOrder rows → IsPartitionedBy (λ row. is_le (place_cmp (place_of_row row) place)) rows
 up_to rows place sorted i j d below in_range h =
     le_stays _ _ (searchable_from_sorted places_total place_of_row rows place (rise rows sorted) i j d below in_range) h
-
-cmp_less : (m n : ℕ) → m < n → nat_cmp m n ≡ Less
-cmp_less m n below = grind (arith, nat_tests)
 
 cmp_equal : (m n : ℕ) → m ≡ n → nat_cmp m n ≡ Equal
 cmp_equal m n same = grind (arith, nat_tests)

@@ -25,6 +25,10 @@ joined = flat_map (λ rows. rows)
 abbrev pub block_at : Blocks → ℕ → List DirRow
 block_at blocks k = slice_index_or blocks k []
 
+-- the first of the rows, and of none the one with the least numbers
+abbrev pub first_row : List DirRow → DirRow
+first_row rows = slice_index_or rows 0 (record { dir = 0; name = 0; ino = 0 })
+
 -- how many rows stand before the spot
 abbrev pub rows_before : Blocks → Spot → ℕ
 rows_before blocks spot = length (joined (take spot.block blocks)) + spot.at

@@ -3,7 +3,7 @@ use Rattle.std.specs.Prelude.{◌≡◌, ◌≢◌, ℕ, ◌+◌, ◌<◌, ◌�
 use Rattle.std.specs.declared.alloc.Global.{Global}
 use Rattle.std.specs.Vec.{vec_capacity}
 use Rattle.dir_table.specs.declared.calls.DirRow.{DirRow}
-use Rattle.dir_table.specs.Blocks.{Blocks, block_at}
+use Rattle.dir_table.specs.Blocks.{Blocks, block_at, first_row}
 
 -- the blocks that these slots hold, in the order of the slots
 abbrev pub blocks_in : Blocks → List ℕ → Blocks
@@ -30,3 +30,10 @@ pub record AreHeld (slots : Vec (List DirRow) Global) (order free : Vec ℕ Glob
   -- wherever the slots that there is memory for are named, there is memory for all their numbers
   pub listed : vec_capacity slots ≤ vec_capacity order
   pub returned : vec_capacity slots ≤ vec_capacity free
+
+-- what it keeps besides: the first row of each block
+pub record AreListed (slots : Vec (List DirRow) Global) (order free : Vec ℕ Global) (firsts : Vec DirRow Global) : Type 0 where
+  pub held : AreHeld slots order free
+  pub begun : firsts.items ≡ map first_row (blocks_in slots.items order.items)
+  -- wherever there is memory for a block, there is for its first row
+  pub noted : vec_capacity slots ≤ vec_capacity firsts

@@ -1,7 +1,8 @@
 //! Blocks of rows, and spots in them.
-ghost use Rattle.std.specs.Prelude.{◌≡◌, ◌<◌, ◌≤◌, [], length, slice_index_or, slice_set, take, drop};
+ghost use Rattle.std.specs.Prelude.{◌≡◌, ◌<◌, ◌≤◌, List, [], length, slice_index_or, slice_set, take, drop};
 ghost use Rattle.std.specs.List.{insert, remove};
-ghost use Rattle.dir_table.specs.Blocks.{block_room, half_room};
+ghost use Rattle.dir_table.specs.declared.calls.DirRow.{DirRow};
+ghost use Rattle.dir_table.specs.Blocks.{block_room, half_room, first_row};
 
 use crate::calls::DirRow;
 use arrayvec::ArrayVec;
@@ -114,4 +115,31 @@ fn rows_again(rows: &[DirRow]) -> ArrayVec<DirRow, 128>
     let mut again = ArrayVec::new();
     again.try_extend_from_slice(rows).unwrap();
     again
+}
+
+/// The first of the rows. Of none it is the one with the least numbers.
+pub fn first_row(rows: &[DirRow]) -> DirRow
+    ensures { result ≡ first_row rows.now }
+{
+    rows.first().copied().unwrap_or_default()
+}
+
+/// The first row once `row` stands at `at`, where `first` was the first one.
+#[tactic(auto, using(crate::proofs::Firsts::put_first, crate::proofs::Firsts::put_behind, crate::proofs::Firsts::set_first, crate::proofs::Firsts::set_behind))]
+pub fn first_with(first: DirRow, at: usize, row: DirRow) -> DirRow
+    ensures put_in { (rows : List DirRow) → first ≡ first_row rows → at ≤ length rows
+        → result ≡ first_row (insert rows at row) }
+    ensures replaced { (rows : List DirRow) → first ≡ first_row rows → at < length rows
+        → result ≡ first_row (slice_set rows at row) }
+{
+    if at == 0 { row } else { first }
+}
+
+/// The first of the rows once the one at `at` is gone, where `first` was the first one.
+#[tactic(auto, using(crate::proofs::Firsts::removed_behind))]
+pub fn first_without(first: DirRow, at: usize, rows: &[DirRow]) -> DirRow
+    ensures { (before : List DirRow) → first ≡ first_row before → at < length before
+        → rows.now ≡ remove before at → result ≡ first_row rows.now }
+{
+    if at == 0 { first_row(rows) } else { first }
 }

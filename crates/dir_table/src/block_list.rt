@@ -2,11 +2,11 @@
 ghost use Rattle.std.specs.Prelude.{◌≡◌, ◌+◌, ◌<◌, ◌≤◌, ◌^◌, ◌∷◌, [], length, slice_index_or, slice_set, take, IfOk};
 ghost use Rattle.std.specs.List.{insert, remove};
 ghost use Rattle.std.specs.Vec.{vec_capacity};
-ghost use Rattle.dir_table.specs.Blocks.{joined, block_at, block_room, halved, IsRow, IsGap};
+ghost use Rattle.dir_table.specs.Blocks.{joined, block_at, block_room, first_row, halved, IsRow, IsGap};
 ghost use Rattle.dir_table.specs.Slots.{blocks_in, AreHeld};
 
 use crate::NoMemory;
-use crate::block::{Block, Spot};
+use crate::block::{Block, Spot, first_row, first_with, first_without};
 use crate::calls::DirRow;
 use std::alloc::Global;
 use std::marker::Model;
@@ -19,12 +19,14 @@ pub struct BlockList {
     order: Vec<u32>,
     // the slots whose blocks were given back
     free: Vec<u32>,
+    // the first rows of the blocks, in the order of the blocks: they lie side by side, which the blocks don't
+    firsts: Vec<DirRow>,
 }
 
 impl Model for BlockList {
     ghost use Rattle.std.specs.Prelude.{◌-◌, length};
     ghost use Rattle.std.specs.Vec.{vec_capacity};
-    ghost use Rattle.dir_table.specs.Slots.{Listed, blocks_in, AreHeld};
+    ghost use Rattle.dir_table.specs.Slots.{Listed, blocks_in, AreListed};
 
     ghost Value = { Listed };
 
@@ -33,7 +35,7 @@ impl Model for BlockList {
       left = vec_capacity b.slots - length b.order.items;
     } };
 
-    ghost invariant = { λ b. AreHeld b.slots b.order b.free };
+    ghost invariant = { λ b. AreListed b.slots b.order b.free b.firsts };
 }
 
 // The same blocks again, in a list with memory for `room`.
@@ -49,14 +51,14 @@ fn copied_blocks(alloc: Global, from: &[Block], room: usize) -> Result<Vec<Block
     Ok(blocks)
 }
 
-// The same numbers again, in a list with memory for `room`.
-fn copied_numbers(alloc: Global, from: &[u32], room: usize) -> Result<Vec<u32>, NoMemory>
-    ensures numbers { IfOk result (λ v. v.items ≡ from.now) }
+// The same again, in a list with memory for `room`.
+fn copied<T: Copy>(alloc: Global, from: &[T], room: usize) -> Result<Vec<T>, NoMemory>
+    ensures items { IfOk result (λ v. v.items ≡ from.now) }
     ensures room { IfOk result (λ v. room ≤ vec_capacity v) }
 {
-    let mut numbers = Vec::with_capacity(alloc, room)?;
-    numbers.extend_from_slice(from)?;
-    Ok(numbers)
+    let mut again = Vec::with_capacity(alloc, room)?;
+    again.extend_from_slice(from)?;
+    Ok(again)
 }
 
 // Puts a block before the one at `at`: into a free slot, or into a new one where none is free.
@@ -99,9 +101,16 @@ impl BlockList {
         let mut slots = Vec::with_capacity(alloc, room)?;
         let mut order = Vec::with_capacity(alloc, room)?;
         let free = Vec::with_capacity(alloc, room)?;
+        let mut firsts = Vec::with_capacity(alloc, room)?;
         slots.push_reserved(Block::new());
         order.push_reserved(0);
-        Ok(BlockList { slots, order, free })
+        firsts.push_reserved(first_row(&[]));
+        Ok(BlockList {
+            slots,
+            order,
+            free,
+            firsts,
+        })
     }
 
     /// The same blocks again with the same memory for more of them.
@@ -111,8 +120,9 @@ impl BlockList {
         let room = self.slots.capacity();
         Ok(BlockList {
             slots: copied_blocks(alloc, self.slots.as_slice(), room)?,
-            order: copied_numbers(alloc, self.order.as_slice(), room)?,
-            free: copied_numbers(alloc, self.free.as_slice(), room)?,
+            order: copied(alloc, self.order.as_slice(), room)?,
+            free: copied(alloc, self.free.as_slice(), room)?,
+            firsts: copied(alloc, self.firsts.as_slice(), room)?,
         })
     }
 
@@ -131,6 +141,15 @@ impl BlockList {
         self.slots[self.order[block] as usize].as_slice()
     }
 
+    /// The first row of a block that has rows.
+    #[tactic(auto, using(crate::proofs::Firsts::begun_at))]
+    pub fn first_of(&self, block: usize) -> &DirRow
+        requires { block < length self.now.blocks }
+        ensures { result.now ≡ first_row (block_at self.now.blocks block) }
+    {
+        &self.firsts[block]
+    }
+
     /// Puts a row in the place of the one at the spot.
     pub fn replace(&mut self, spot: Spot, row: DirRow)
         requires { IsRow self.old.blocks spot }
@@ -140,6 +159,7 @@ impl BlockList {
     {
         let slot = self.order[spot.block] as usize;
         self.slots[slot].replace(spot.at, row);
+        self.firsts[spot.block] = first_with(self.firsts[spot.block], spot.at, row);
     }
 
     /// Puts a row in at the spot.
@@ -152,6 +172,7 @@ impl BlockList {
     {
         let slot = self.order[spot.block] as usize;
         self.slots[slot].insert(spot.at, row);
+        self.firsts[spot.block] = first_with(self.firsts[spot.block], spot.at, row);
     }
 
     /// Takes the row at the spot away.
@@ -164,7 +185,10 @@ impl BlockList {
         ensures left { self.new.left ≡ self.old.left }
     {
         let slot = self.order[spot.block] as usize;
-        self.slots[slot].remove(spot.at)
+        let block = &mut self.slots[slot];
+        let row = block.remove(spot.at);
+        self.firsts[spot.block] = first_without(self.firsts[spot.block], spot.at, block.as_slice());
+        row
     }
 
     /// Makes two blocks of a full one.
@@ -177,6 +201,7 @@ impl BlockList {
     {
         let slot = self.order[full] as usize;
         let upper = self.slots[slot].split();
+        let first = first_row(upper.as_slice());
         insert_block(
             &mut self.slots,
             &mut self.order,
@@ -184,6 +209,7 @@ impl BlockList {
             full + 1,
             upper,
         );
+        self.firsts.insert(full + 1, first).unwrap();
     }
 
     /// Takes a block away, whose slot is free then.
@@ -194,6 +220,7 @@ impl BlockList {
     {
         let slot = self.order.remove(block);
         self.free.push_reserved(slot);
+        self.firsts.remove(block);
     }
 }
 

@@ -1,7 +1,9 @@
 //! Rows in blocks in memory that is taken at the start, so that an edit moves the rows of one block at most.
-ghost use Rattle.std.specs.Prelude.{◌≡◌, ◌+◌, ◌<◌, ◌^◌, [], slice_index_or, slice_set, IfOk};
+ghost use Rattle.std.specs.Prelude.{◌≡◌, ◌+◌, ◌<◌, ◌^◌, [], length, replicate, slice_index_or, slice_set, IfOk};
 ghost use Rattle.std.specs.List.{insert, remove};
-ghost use Rattle.dir_table.specs.Blocks.{joined, rows_before, AreFilled, IsRow, IsGap};
+ghost use Rattle.dir_table.specs.declared.calls.DirRow.{DirRow};
+ghost use Rattle.dir_table.specs.Blocks.{joined, rows_before, block_at, AreFilled, IsRow, IsGap};
+ghost use Rattle.dir_table.specs.Buffers.{rows_in};
 
 use crate::NoMemory;
 use crate::block::{BLOCK_ROOM, HALF_ROOM, Spot};
@@ -10,16 +12,16 @@ use crate::calls::DirRow;
 use std::alloc::Global;
 use std::marker::Model;
 
-/// Rows in blocks, and memory for more of them.
+/// Rows in blocks, memory for more of them, and how many each directory has.
 #[derive(Drop)]
 pub struct RowBuffer {
     blocks: BlockList,
     spare: usize,
+    counts: [u32; 256],
 }
 
 impl Model for RowBuffer {
-    ghost use Rattle.dir_table.specs.Buffers.{Buffered};
-    ghost use Rattle.dir_table.specs.Blocks.{AreStored};
+    ghost use Rattle.dir_table.specs.Buffers.{Buffered, AreBuffered};
 
     ghost Value = { Buffered };
 
@@ -28,7 +30,7 @@ impl Model for RowBuffer {
       spare = b.spare;
     } };
 
-    ghost invariant = { λ b. AreStored b.blocks.blocks b.spare b.blocks.left };
+    ghost invariant = { λ b. AreBuffered b.blocks.blocks b.spare b.blocks.left b.counts };
 }
 
 impl RowBuffer {
@@ -39,7 +41,11 @@ impl RowBuffer {
         ensures spare { IfOk result (λ b. b.spare ≡ spare) }
     {
         let blocks = BlockList::open(alloc, spare.div_ceil(HALF_ROOM) + 1)?;
-        Ok(RowBuffer { blocks, spare })
+        Ok(RowBuffer {
+            blocks,
+            spare,
+            counts: none_counted(),
+        })
     }
 
     /// The same rows again with the same memory for more of them.
@@ -49,6 +55,7 @@ impl RowBuffer {
         Ok(RowBuffer {
             blocks: self.blocks.copy(alloc)?,
             spare: self.spare,
+            counts: self.counts,
         })
     }
 
@@ -60,9 +67,18 @@ impl RowBuffer {
         &self.blocks
     }
 
-    /// Puts a row in the place of the one at the spot.
+    /// How many rows the directory has.
+    pub fn count(&self, dir: u8) -> u32
+        ensures { result ≡ rows_in dir (joined self.now.blocks) }
+    {
+        self.counts[dir as usize]
+    }
+
+    /// Puts a row in the place of the one at the spot, which is of the same directory.
     pub fn replace(&mut self, spot: Spot, row: DirRow)
-        requires { IsRow self.old.blocks spot }
+        requires there { IsRow self.old.blocks spot }
+        requires same { (none : DirRow)
+            → (slice_index_or (block_at self.old.blocks spot.block) spot.at none).dir ≡ row.dir }
         ensures rows { joined self.new.blocks
             ≡ slice_set (joined self.old.blocks) (rows_before self.old.blocks spot) row }
         ensures spare { self.new.spare ≡ self.old.spare }
@@ -74,11 +90,13 @@ impl RowBuffer {
     pub fn insert(&mut self, spot: Spot, row: DirRow)
         requires gap { IsGap self.old.blocks spot }
         requires spare { 0 < self.old.spare }
+        requires few { length (joined self.old.blocks) < 4294967295 }
         ensures rows { joined self.new.blocks
             ≡ insert (joined self.old.blocks) (rows_before self.old.blocks spot) row }
         ensures spare { self.new.spare + 1 ≡ self.old.spare }
     {
         self.spare -= 1;
+        self.counts[row.dir as usize] += 1;
         self.blocks.insert(spot, row);
         if self.blocks.rows_of(spot.block).len() == BLOCK_ROOM {
             self.blocks.split(spot.block);
@@ -95,9 +113,17 @@ impl RowBuffer {
         ensures spare { self.new.spare ≡ self.old.spare }
     {
         let row = self.blocks.remove(spot);
+        self.counts[row.dir as usize] -= 1;
         if spot.block > 0 && self.blocks.rows_of(spot.block).is_empty() {
             self.blocks.give_back(spot.block);
         }
         row
     }
+}
+
+// No row of any directory.
+fn none_counted() -> [u32; 256]
+    ensures { result ≡ replicate 256 0 }
+{
+    [0; 256]
 }

@@ -1,18 +1,19 @@
 //! Rows in order of directory and name, in blocks.
-ghost use Rattle.std.specs.Prelude.{◌≡◌, ℕ, ◌+◌, ◌<◌, ◌≤◌, ◌^◌, ◌==◌, ◌&&◌, option_map, filter, find, IfOk, IfErr, OnSome, IfNone, length};
+ghost use Rattle.std.specs.Prelude.{◌≡◌, ℕ, ◌+◌, ◌<◌, ◌≤◌, ◌==◌, ◌&&◌, option_map, filter, find, IfOk, IfErr, OnSome, IfNone, length, slice_index_or};
 ghost use Rattle.std.specs.FinMap as map_of;
 ghost use Rattle.std.specs.FinMap.{put};
 ghost use Rattle.std.specs.FinMap.Entries.{where_key};
 ghost use Rattle.dir_table.specs.Names.{place_cmp, is_other, entries_of};
 ghost use Rattle.dir_table.specs.Rows.{AreInOrder, IsAt, IsGapFor, BeginAfter};
-ghost use Rattle.dir_table.specs.Blocks.{joined, rows_before, AreFilled, IsRow, IsGap};
+ghost use Rattle.dir_table.specs.declared.calls.DirRow.{DirRow};
+ghost use Rattle.dir_table.specs.Blocks.{joined, rows_before, block_at, AreFilled, IsRow, IsGap};
 ghost use Rattle.dir_table.specs.Answers.{comes_after};
 
 use crate::block::Spot;
 use crate::block_list::BlockList;
 use crate::buffer::RowBuffer;
 use crate::calls::DirRow;
-use crate::search::{cut, cut_near, row_from, rows_apart};
+use crate::search::{cut, cut_near, row_from};
 
 /// Where the row of the name is, or where it would go: at the spot where it was looked for first, or elsewhere.
 fn place_of(list: &BlockList, near: Spot, dir: u8, name: u32) -> Result<Spot, Spot>
@@ -22,6 +23,8 @@ fn place_of(list: &BlockList, near: Spot, dir: u8, name: u32) -> Result<Spot, Sp
     ensures gap { IfErr result (IsGap list.now.blocks) }
     ensures found { IfOk result (λ spot.
         IsAt (entries_of (joined list.now.blocks)) (dir, name) (rows_before list.now.blocks spot)) }
+    ensures own { IfOk result (λ spot. (none : DirRow)
+        → (slice_index_or (block_at list.now.blocks spot.block) spot.at none).dir ≡ dir) }
     ensures absent { IfErr result (λ spot.
         IsGapFor (entries_of (joined list.now.blocks)) (dir, name)
         (rows_before list.now.blocks spot)) }
@@ -67,6 +70,7 @@ pub fn number_of(rows: &RowBuffer, dir: u8, name: u32) -> Option<u64>
 pub fn add_row(rows: &mut RowBuffer, near: &mut Spot, row: DirRow) -> Option<u64>
     requires in_order { AreInOrder (joined rows.old.blocks) }
     requires spare { 0 < rows.old.spare }
+    requires few { length (joined rows.old.blocks) < 4294967295 }
     ensures number { result
         ≡ map_of.find place_cmp (row.dir, row.name) (entries_of (joined rows.old.blocks)) }
     ensures put { IfNone result (entries_of (joined rows.new.blocks)
@@ -93,6 +97,7 @@ pub fn add_row(rows: &mut RowBuffer, near: &mut Spot, row: DirRow) -> Option<u64
 pub fn put_row(rows: &mut RowBuffer, near: &mut Spot, row: DirRow)
     requires in_order { AreInOrder (joined rows.old.blocks) }
     requires spare { 0 < rows.old.spare }
+    requires few { length (joined rows.old.blocks) < 4294967295 }
     ensures put { entries_of (joined rows.new.blocks)
         ≡ put place_cmp (row.dir, row.name) row.ino (entries_of (joined rows.old.blocks)) }
     ensures len { length (joined rows.new.blocks) ≤ length (joined rows.old.blocks) + 1 }
@@ -137,16 +142,10 @@ pub fn remove_row(rows: &mut RowBuffer, near: &mut Spot, dir: u8, name: u32) -> 
 
 /// How many names the directory has.
 pub fn count_of(rows: &RowBuffer, dir: u8) -> u32
-    requires known { dir < 64 }
-    requires in_order { AreInOrder (joined rows.now.blocks) }
-    requires few { length (joined rows.now.blocks) < 2 ^ 32 }
     ensures { result
         ≡ length (filter (λ e. e.0.0 == dir) (entries_of (joined rows.now.blocks))) }
 {
-    let list = rows.blocks();
-    let start = cut(list, dir, 0);
-    let end = cut(list, dir + 1, 0);
-    rows_apart(list, start, end) as u32
+    rows.count(dir)
 }
 
 /// The first name of the directory after this one.

@@ -7,7 +7,7 @@ ghost use Rattle.dir_table.specs.Blocks.{joined, rows_before, is_below, begins_w
 ghost use Rattle.dir_table.specs.Rows.{AreInOrder};
 
 use crate::block::Spot;
-use crate::block_list::{BlockList, rows_between};
+use crate::block_list::BlockList;
 use crate::calls::DirRow;
 
 // Whether the row is of a lesser directory, or of this one and a name below `name`.
@@ -15,16 +15,6 @@ fn is_below(row: &DirRow, dir: u8, name: u64) -> bool
     ensures { result ≡ is_below (dir, name) row.now }
 {
     (row.dir < dir) | ((row.dir == dir) & (u64::from(row.name) < name))
-}
-
-// Whether the first of the rows is below.
-fn begins_below(rows: &[DirRow], dir: u8, name: u64) -> bool
-    ensures { result ≡ begins_with (is_below (dir, name)) rows.now }
-{
-    match rows.first() {
-        Some(row) => is_below(row, dir, name),
-        None => false,
-    }
 }
 
 // The count where it passes, or none: without a branch.
@@ -36,7 +26,7 @@ fn count_if(passes: bool, count: usize) -> usize
 
 // How many of the blocks but the first, which stand in order, begin below. No step branches on what it finds, since no processor could foretell it.
 fn begun_below(list: &BlockList, dir: u8, name: u64) -> usize
-    requires some { 0 < length list.now.blocks }
+    requires filled { AreFilled list.now.blocks }
     requires in_order { IsPartitionedBy (begins_with (is_below (dir, name)))
         (drop 1 list.now.blocks) }
     ensures within { result ≤ length (drop 1 list.now.blocks) }
@@ -49,7 +39,7 @@ fn begun_below(list: &BlockList, dir: u8, name: u64) -> usize
     let mut left = list.len() - 1;
     while left > 0 {
         let half = left - left / 2;
-        let below = begins_below(list.rows_of(begun + half), dir, name);
+        let below = is_below(list.first_of(begun + half), dir, name);
         begun += count_if(below, half);
         left /= 2;
     }
@@ -119,19 +109,6 @@ pub fn cut_near(list: &BlockList, near: Spot, dir: u8, name: u64) -> Spot
     } else {
         cut(list, dir, name)
     }
-}
-
-/// How many rows stand from one spot up to another one, and none where that one isn't later.
-pub fn rows_apart(list: &BlockList, start: Spot, end: Spot) -> usize
-    requires start { IsGap list.now.blocks start }
-    requires end { IsGap list.now.blocks end }
-    requires few { length (joined list.now.blocks) < 2 ^ 32 }
-    ensures { result ≡ rows_before list.now.blocks end - rows_before list.now.blocks start }
-{
-    if end.block < start.block {
-        return 0;
-    }
-    (rows_between(list, start.block, end.block) + end.at).saturating_sub(start.at)
 }
 
 /// The row at the spot, or the one behind it.

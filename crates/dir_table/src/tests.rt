@@ -2,7 +2,7 @@
 ghost use Rattle.std.specs.Prelude.{◌≡◌, ◌<◌};
 ghost use Rattle.dir_table.specs.Meanings.{IsAdmitted};
 
-use crate::{Dir, DirCall, DirReply, DirRow};
+use crate::{Dir, DirCall, DirReply, DirRow, NoMemory};
 use hist_log::{Entry, Object, legal, merge};
 use std::process::Abort;
 use std::test::Fail;
@@ -205,5 +205,13 @@ fn a_write_is_read_back_and_merged(rt: HostRuntime) -> Result<(), Fail> {
     assert_eq!(rt; merged[0].receipt, 0);
     assert_eq!(rt; merged[1].receipt, 1);
     assert!(rt; legal(&mut opening, &merged));
+    Ok(())
+}
+
+#[test]
+fn want_of_memory_is_told(rt: HostRuntime) -> Result<(), Fail> {
+    let error = NoMemory;
+    let told = format!(in rt.alloc(); "{error}")?;
+    assert_eq!(rt; told.as_str(), "out of memory");
     Ok(())
 }

@@ -1,7 +1,8 @@
 use Rattle.std.proofs.Common.{◌+◌, ◌-◌, get_or, sym, ap, ◌∙◌, subst, ⊎_elim, arith}
+use Rattle.std.proofs.lemmas.List.{get_or_default}
 use Rattle.dir_table.specs.declared.calls.DirRow.{DirRow}
 use Rattle.dir_table.specs.declared.block.Spot.{Spot}
-use Rattle.dir_table.specs.Blocks.{joined, rows_before, IsRow, IsCut}
+use Rattle.dir_table.specs.Blocks.{joined, rows_before, block_at, IsRow, IsCut}
 use Rattle.dir_table.proofs.Limits.{gap_at_cut}
 use Rattle.dir_table.proofs.Spots.{spot_at, gap_by_row}
 use Rattle.dir_table.proofs.rows.place_of.Goals as goal
@@ -40,3 +41,10 @@ returns-else-row-dir-clause-absent c =
     let there : IsRow blocks last = record { block = known; row = omega (arith, c.cut_near-end.ensures.gap.within, c.if-end-eq0.false) } in
     gap_by_row blocks last (c.args.dir, c.args.name) i none there c.requires.in_order cut (omega (arith, c.if-end-eq0.false))
     (λ dir name. ⊎_elim (λ h. h.1 (ap (λ rs. (get_or rs last.at none).name) here ∙ name)) (λ h. h (ap (λ rs. (get_or rs last.at none).dir) here ∙ dir)) c.else-row-dir.either)
+
+pub returns-then-row-name-clause-own : goal.returns-then-row-name-clause-own
+returns-then-row-name-clause-own c none =
+    let zero : DirRow = record { dir = 0; name = 0; ino = 0 } in
+    let end = c.cut_near-end.result in
+    ap (λ row. row.dir) (get_or_default (block_at c.args.list.now.blocks end.block) (end.at - 1) none zero (omega (arith, c.cut_near-end.ensures.gap.within, c.if-end-eq0.false)))
+    ∙ ap (λ rows. (get_or rows (end.at - 1) zero).dir) (sym c.rows_of.ensures) ∙ c.if-row-dir.true

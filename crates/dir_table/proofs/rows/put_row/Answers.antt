@@ -1,8 +1,8 @@
-use Rattle.std.proofs.Common.{set, ap, sym, ◌∙◌, subst}
+use Rattle.std.proofs.Common.{◌≡◌, set, get_or, ap, sym, ◌∙◌, subst}
 use Rattle.std.proofs.lemmas.List.{map-set}
 use Rattle.dir_table.specs.Names.{entry_of, entries_of}
 use Rattle.dir_table.specs.Rows.{IsAt, IsGapFor}
-use Rattle.dir_table.specs.Blocks.{joined, rows_before}
+use Rattle.dir_table.specs.Blocks.{joined, rows_before, block_at}
 use Rattle.dir_table.proofs.Order.{entries-insert}
 use Rattle.dir_table.proofs.Places.{at_place, put_at, put_gap}
 use Rattle.dir_table.proofs.rows.put_row.Goals as goal
@@ -27,3 +27,7 @@ returns-in-Err-clause-put c =
     let gap = subst (λ bs. IsGapFor (entries_of (joined bs)) (row.dir, row.name) (rows_before bs spot)) c.blocks-2.ensures.blocks c.in-Err.ensures.absent in
     ap entries_of c.insert.ensures.rows ∙ entries-insert rows (rows_before c.args.rows.now.blocks spot) row
     ∙ sym (put_gap (entries_of rows) (row.dir, row.name) row.ino _ gap)
+
+pub replace-requires-clause-same : goal.replace-requires-clause-same
+replace-requires-clause-same c none =
+    subst (λ bs. (get_or (block_at bs c.in-Ok.spot.block) c.in-Ok.spot.at none).dir ≡ c.args.row.dir) c.blocks-2.ensures.blocks (c.in-Ok.ensures.own none)

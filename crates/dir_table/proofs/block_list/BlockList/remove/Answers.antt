@@ -1,17 +1,48 @@
-use Rattle.std.proofs.Common.{◌<◌, set, length, sym, ap, ◌∙◌, subst}
+use Rattle.std.proofs.Common.{◌<◌, set, length, get_or, sym, ap, ◌∙◌, subst}
 use Rattle.std.specs.List.{remove}
-use Rattle.dir_table.specs.Blocks.{block_at}
+use Rattle.dir_table.specs.Blocks.{block_at, first_row}
 use Rattle.dir_table.specs.Slots.{blocks_in}
+use Rattle.dir_table.proofs.Listed.{first_found, listed_with}
 use Rattle.dir_table.proofs.Slots.{IsFound, found_here, changed_here}
 use Rattle.dir_table.proofs.block_list.BlockList.remove.Goals as goal
+
+-- the block, where it was looked up
+found : (c : goal.After-self-2-1) → IsFound c.self.inside.slots.items c.self.inside.order.items c.args.spot.block c.index.result.now c.index_mut-block.result.now
+found c = record {
+  in_range = subst (λ b. c.args.spot.block < length b.blocks) (sym c.self.view_is) c.requires.block;
+  slot_is = c.index.ensures;
+  rows_are = c.index_mut-block.ensures.value;
+}
 
 pub returns-clause-blocks : goal.returns-clause-blocks
 returns-clause-blocks c =
     let slots = c.self.inside.slots.items in
     let order = c.self.inside.order.items in
     let k = c.args.spot.block in
-    let found : IsFound slots order k c.index.result.now c.index_mut.result.now =
-    record { in_range = subst (λ b. k < length b.blocks) (sym c.self.view_is) c.requires.block; slot_is = c.index.ensures; rows_are = c.index_mut.ensures.value } in
-    changed_here slots order _ c.self.invariant.apart k _ _ found c.remove.new.self
-    ∙ ap (set (blocks_in slots order) k) (c.remove.ensures.rows ∙ ap (λ rs. remove rs c.args.spot.at) (found_here slots order _ c.self.invariant.apart k _ _ found))
+    changed_here slots order _ c.self.invariant.held.apart k _ _ (found c) c.remove-row.new.self
+    ∙ ap (set (blocks_in slots order) k) (c.remove-row.ensures.rows ∙ ap (λ rs. remove rs c.args.spot.at) (found_here slots order _ c.self.invariant.held.apart k _ _ (found c)))
     ∙ ap (λ b. set b.blocks k (remove (block_at b.blocks k) c.args.spot.at)) c.self.view_is
+
+pub invariant_of-self : goal.invariant_of-self
+invariant_of-self c =
+    let slots = c.self.inside.slots in
+    let order = c.self.inside.order in
+    let free = c.self.inside.free in
+    let firsts = c.self.inside.firsts in
+    let k = c.args.spot.block in
+    let here = found_here slots.items order.items free.items c.self.invariant.held.apart k _ _ (found c) in
+    let within : c.args.spot.at < length c.index_mut-block.result.now =
+    subst (λ rs. c.args.spot.at < length rs) (sym here) (subst (λ b. c.args.spot.at < length (block_at b.blocks k)) (sym c.self.view_is) c.requires.row) in
+    let first = first_found slots order free firsts c.self.invariant k _ _ (found c) c.index-2.result.now c.index-2.ensures in
+    let left = c.as_slice.ensures in
+    listed_with slots order free firsts c.self.invariant k _ _ (found c) c.remove-row.new.self c.first_without.result
+    (c.first_without.ensures c.index_mut-block.result.now first within (left ∙ c.remove-row.ensures.rows) ∙ ap first_row left)
+
+pub returns-clause-row : goal.returns-clause-row
+returns-clause-row c =
+    let slots = c.self.inside.slots.items in
+    let order = c.self.inside.order.items in
+    let k = c.args.spot.block in
+    c.remove-row.ensures.row
+    ∙ ap (λ rs. get_or rs c.args.spot.at c.remove-row.result) (found_here slots order _ c.self.invariant.held.apart k _ _ (found c))
+    ∙ ap (λ b. get_or (block_at b.blocks k) c.args.spot.at c.remove-row.result) c.self.view_is

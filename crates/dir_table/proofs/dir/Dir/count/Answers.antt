@@ -1,13 +1,10 @@
-use Rattle.std.proofs.Common.{eqb, length, ap, sym, ◌∙◌, arith}
+use Rattle.std.proofs.Common.{eqb, length, ap, sym, ◌∙◌}
 use Rattle.std.specs.List.{filter}
 use Rattle.dir_table.specs.declared.calls.DirReply.TheVariants.{Number}
 use Rattle.dir_table.specs.Blocks.{joined}
 use Rattle.dir_table.specs.Answers.{count_in}
 use Rattle.dir_table.proofs.NamesKept.{entries_names}
 use Rattle.dir_table.proofs.dir.Dir.count.Goals as goal
-
-pub count_of-requires-clause-few : goal.count_of-requires-clause-few
-count_of-requires-clause-few c = let made = c.self.invariant.made in let numbered = c.self.invariant.numbered in omega arith
 
 pub returns : goal.returns
 returns c =

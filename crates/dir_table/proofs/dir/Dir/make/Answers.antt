@@ -12,6 +12,9 @@ use Rattle.dir_table.proofs.NamesKept.{put_in_order}
 use Rattle.dir_table.proofs.Ranges.{put_in_range}
 use Rattle.dir_table.proofs.dir.Dir.make.Goals as goal
 
+pub add_row-requires-clause-few : goal.add_row-requires-clause-few
+add_row-requires-clause-few c = let made = c.self.invariant.made in let numbered = c.self.invariant.numbered in omega arith
+
 -- the name was there
 pub returns-in-Some-clause-reply : goal.returns-in-Some-clause-reply
 returns-in-Some-clause-reply c =

@@ -37,6 +37,9 @@ pub put_row-requires-clause-in_order : goal.put_row-requires-clause-in_order
 put_row-requires-clause-in_order c =
     removal_in_order (joined c.self.inside.rows.blocks) (joined c.remove_row.new.rows.blocks) c.self.invariant.in_order (c.args.dir, c.args.name) c.remove_row.ensures.removed
 
+pub put_row-requires-clause-few : goal.put_row-requires-clause-few
+put_row-requires-clause-few c = let made = c.self.invariant.made in let numbered = c.self.invariant.numbered in omega (arith, c.remove_row.ensures.fewer)
+
 pub invariant_of-self-in-Some : goal.invariant_of-self-in-Some
 invariant_of-self-in-Some c =
     let i = c.self.inside in
