@@ -16,7 +16,7 @@ use Rattle.trace_text.specs.Lines.{act_in, call_in, is_in_range, may_do, is_atta
 use Rattle.trace_text.specs.Grammar.{call_says, calls_in}
 use Rattle.trace_text.specs.Spelling.{act_words, call_line}
 use Rattle.trace_text.specs.Limits.{IsName, spelled_names, IsCall}
-use Rattle.trace_text.proofs.Placing.{all-push}
+use Rattle.name_order.proofs.Placing.{all-push}
 use Rattle.trace_text.proofs.CallLoop.{attach_count-push}
 use Rattle.trace_text.proofs.Sections.{lines_from-read}
 use Rattle.trace_text.proofs.CallWords.{capped-some, act-some}

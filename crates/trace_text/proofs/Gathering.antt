@@ -20,11 +20,12 @@ use Rattle.trace_text.specs.declared.call_list.Numbered.{Numbered}
 use Rattle.trace_text.specs.Document.{make, drop_name, rename, find, next, CallLine}
 use Rattle.trace_text.specs.CallLists.{list_said, IsListOf, numbered_said}
 use Rattle.trace_text.specs.Lines.{is_attach, attach_count}
-use Rattle.trace_text.specs.Names.{SameMembers}
+use Rattle.name_order.specs.Names.{SameMembers}
 use Rattle.trace_text.specs.Spelled.{act_said, call_said, act_names, call_names}
-use Rattle.trace_text.specs.Traces.{name_at, dir_act, act_of, call_of, IsActOf, IsCallOf}
-use Rattle.trace_text.specs.Places.{ArePutBehind}
-use Rattle.trace_text.proofs.Placing.{all-behind, all-push, among-more}
+use Rattle.trace_text.specs.Traces.{dir_act, act_of, call_of, IsActOf, IsCallOf}
+use Rattle.name_order.specs.Names.{name_at}
+use Rattle.name_order.specs.Places.{ArePutBehind}
+use Rattle.name_order.proofs.Placing.{all-behind, all-push, among-more}
 use Rattle.trace_text.proofs.CallLoop.{attach_count-push, small}
 
 -- ---- calls whose names stay

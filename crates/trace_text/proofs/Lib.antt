@@ -1,9 +1,6 @@
 pub mod Shapes
-pub mod Sorting
-pub mod Placing
 pub mod CallLoop
 pub mod Gathering
-pub mod InOrder
 pub mod OtherPlaces
 pub mod PolicyLoop
 pub mod Sections

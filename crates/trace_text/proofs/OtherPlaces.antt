@@ -4,9 +4,10 @@ use Rattle.std.specs.Prelude.{slice_index}
 use Rattle.std.specs.List.{AllByRecursion}
 use Rattle.std.proofs.lemmas.List.{append-nil, append_assoc, drop_more, drop_all, drop-set-lt, take_more_set, take_all, map-append, length-set}
 use Rattle.trace_text.specs.declared.trace.TraceCall.{TraceCall}
-use Rattle.trace_text.specs.Traces.{name_at, call_of, IsCallOf}
-use Rattle.trace_text.specs.Places.{ArePlaces}
-use Rattle.trace_text.proofs.Placing.{all-push}
+use Rattle.trace_text.specs.Traces.{call_of, IsCallOf}
+use Rattle.name_order.specs.Names.{name_at}
+use Rattle.name_order.specs.Places.{ArePlaces}
+use Rattle.name_order.proofs.Placing.{all-push}
 
 -- the name of a call is the one at its other place
 pub other_name : (names others : List (List ℕ)) (places : List ℕ) (k : ℕ) → ArePlaces names others places → k < length places → name_at others (slice_index places k) ≡ name_at names k

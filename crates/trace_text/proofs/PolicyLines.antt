@@ -21,7 +21,7 @@ use Rattle.trace_text.specs.Lines.{is_policy_name, PolicyWords, policy_in, progr
 use Rattle.trace_text.specs.Grammar.{policy_says, Then, ReadsPolicies}
 use Rattle.trace_text.specs.Texts.{IsPolicyText}
 use Rattle.trace_text.specs.Limits.{IsPolicy, AreNamedApart}
-use Rattle.trace_text.proofs.Placing.{all-push}
+use Rattle.name_order.proofs.Placing.{all-push}
 use Rattle.trace_text.proofs.PolicyNames.{apart-push}
 
 four-known : (ws : List (List ℕ)) (word a b c d : List ℕ) → ws ≡ a ∷ b ∷ c ∷ d ∷ [] → a ≡ word → ws ≡ word ∷ b ∷ c ∷ d ∷ []

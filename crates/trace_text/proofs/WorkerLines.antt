@@ -16,7 +16,7 @@ use Rattle.policy_text.proofs.AttrLines.{attr-text, attr-plain, attr-words, attr
 use Rattle.trace_text.specs.Lines.{begins}
 use Rattle.trace_text.specs.Grammar.{worker_says, worker_due, workers_in}
 use Rattle.trace_text.specs.Spelling.{worker_line}
-use Rattle.trace_text.proofs.Placing.{all-push}
+use Rattle.name_order.proofs.Placing.{all-push}
 use Rattle.trace_text.proofs.Sections.{section_from-read, all-at}
 
 pub worker_says-some : (before : List Attr) (line : ℕ) (t : List ℕ) (a : Attr) → worker_says before line t ≡ Ok (Some a) → (t ≡ worker_line a) × IsAttr a × (length before < 16)

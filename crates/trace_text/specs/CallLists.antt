@@ -6,7 +6,7 @@ use Rattle.trace_text.specs.declared.call_list.CallList.{CallList}
 use Rattle.trace_text.specs.declared.call_list.Numbered.{Numbered}
 use Rattle.trace_text.specs.Document.{CallLine}
 use Rattle.trace_text.specs.Lines.{attach_count}
-use Rattle.trace_text.specs.Names.{AreRisingBy, SameMembers}
+use Rattle.name_order.specs.Names.{AreRisingBy, SameMembers}
 use Rattle.trace_text.specs.Spelled.{call_names}
 use Rattle.trace_text.specs.Traces.{call_of, IsCallOf}
 

@@ -2,7 +2,7 @@
 use Rattle.std.specs.Prelude.{◌≡◌}
 use Rattle.trace_text.specs.declared.trace.Trace.{Trace}
 use Rattle.trace_text.specs.Document.{Document}
-use Rattle.trace_text.specs.Names.{AreRisingBy, SameMembers}
+use Rattle.name_order.specs.Names.{AreRisingBy, SameMembers}
 use Rattle.trace_text.specs.Spelled.{call_names}
 use Rattle.trace_text.specs.Traces.{document_of, names_of, IsWithin}
 

@@ -5,9 +5,7 @@ pub mod Spelling
 pub mod Texts
 pub mod Limits
 pub mod Spelled
-pub mod Names
 pub mod Traces
-pub mod Places
 pub mod CallLists
 pub mod InMemory
 pub mod Errors

@@ -12,7 +12,8 @@ use Rattle.doc_text.specs.Text.{ended}
 use Rattle.doc_text.specs.Words.{spaced}
 use Rattle.policy_text.specs.Headings.{version_words}
 use Rattle.trace_text.specs.Spelling.{act_words}
-use Rattle.trace_text.specs.Traces.{name_at, dir_act}
+use Rattle.trace_text.specs.Traces.{dir_act}
+use Rattle.name_order.specs.Names.{name_at}
 
 -- what an entry of a history is, whatever the object's type
 pub record Done : Type 0 where

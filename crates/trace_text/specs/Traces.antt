@@ -1,7 +1,8 @@
 -- A trace in memory, seen as what its text says.
-use Rattle.std.specs.Prelude.{◌≡◌, ◌<◌, ◌≤◌, length, ℕ, Bool, true, false, List, [], map, slice_index_or}
+use Rattle.std.specs.Prelude.{◌≡◌, ◌<◌, ◌≤◌, length, ℕ, Bool, true, false, List, map}
 use Rattle.std.specs.Option.{option_map}
 use Rattle.std.specs.List.{AllByRecursion}
+use Rattle.name_order.specs.Names.{name_at}
 use Rattle.dir_table.specs.Meanings.{IsAdmitted}
 use Rattle.dir_table.specs.declared.calls.DirCall.{DirCall}
 use Rattle.dir_table.specs.declared.calls.DirCall.TheVariants as call
@@ -15,10 +16,6 @@ use Rattle.trace_text.specs.Document.{Act, make, drop_name, rename, find, count,
 -- a declared policy
 abbrev pub policy_of : NamedSource → PolicyLine
 policy_of p = record { name = p.name.items; source = p.source }
-
--- the bytes of a name
-abbrev pub name_at : List (List ℕ) → ℕ → List ℕ
-name_at names k = slice_index_or names k []
 
 -- a call on the directory, its names spelled out
 abbrev pub dir_act : List (List ℕ) → DirCall → Act

@@ -5,12 +5,11 @@ ghost use Rattle.trace_text.specs.CallLists.{list_said, IsListOf, numbered_said,
 ghost use Rattle.trace_text.specs.Spelled.{call_said, MayBe};
 ghost use Rattle.trace_text.specs.Traces.{policy_of};
 
-use crate::gathered::Gathered;
 use crate::numbering::numbered_act;
-use crate::ordered::put_in_order;
 use crate::renumbering::renumber;
 use crate::spelled::{SpelledCall, is_attach};
 use crate::trace::{NamedSource, TraceCall};
+use name_order::{Gathered, put_in_order};
 use policy_text::NoMemory;
 use std::alloc::Global;
 

@@ -2,9 +2,10 @@
 ghost use Rattle.std.specs.Prelude.{◌≡◌, ◌<◌, ◌≤◌, ◌+◌, ◌*◌, ◌/◌, ◌%◌, ℕ, List, [], ◌∷◌, ◌++◌, map, length, IfOk, OnOk, Some, None, slice_get};
 ghost use Rattle.trace_text.specs.CallLists.{list_said, IsListOf};
 ghost use Rattle.trace_text.specs.Generator.{states, drawn, number_of, name_of, dir_of, act_drawn, attached, call_drawn, calls_from, attr_of, workers_from, same_socket, generated_policies, generated};
-ghost use Rattle.trace_text.specs.Names.{AreRisingBy, SameMembers};
+ghost use Rattle.name_order.specs.Names.{AreRisingBy, SameMembers};
 ghost use Rattle.trace_text.specs.Spelled.{call_names, act_said};
-ghost use Rattle.trace_text.specs.Traces.{document_of, names_of, policy_of, name_at, IsWithin};
+ghost use Rattle.trace_text.specs.Traces.{document_of, names_of, policy_of, IsWithin};
+ghost use Rattle.name_order.specs.Names.{name_at};
 
 use crate::call_list::CallList;
 use crate::spelled::{SpelledAct, SpelledCall};

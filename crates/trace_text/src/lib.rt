@@ -4,15 +4,11 @@
 mod call_list;
 mod calls;
 mod error;
-mod gathered;
-#[cfg(test)]
-mod gathered_tests;
 #[cfg(test)]
 mod generated_tests;
 mod generator;
 mod laws;
 mod numbering;
-mod ordered;
 mod policies;
 mod read;
 mod renumbering;
@@ -21,6 +17,7 @@ mod shape;
 mod spelled;
 #[cfg(test)]
 mod tests;
+mod totals;
 mod trace;
 mod words;
 mod workers;
@@ -31,7 +28,8 @@ pub use generator::generate;
 pub use laws::laws_of_traces;
 pub use policy_text::NoMemory;
 pub use read::read_trace;
-pub use reports::{push_counted, push_rows, render, summary};
+pub use reports::{push_counted, push_rows, render};
+pub use totals::summary;
 pub use trace::{NamedSource, Trace, TraceAct, TraceCall};
 pub use words::{push_call, push_reply};
 pub use write::write_trace;

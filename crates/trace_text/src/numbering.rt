@@ -2,16 +2,17 @@
 ghost use Rattle.std.specs.Prelude.{◌≡◌, ◌<◌, ◌≤◌, [], ◌∷◌, length, map, true, IfOk, MatchOption, IfSome};
 ghost use Rattle.trace_text.specs.Document.{rename};
 ghost use Rattle.trace_text.specs.Lines.{is_declared, is_in_range, may_do, is_attach};
-ghost use Rattle.trace_text.specs.Places.{ArePutBehind};
+ghost use Rattle.name_order.specs.Places.{ArePutBehind};
 ghost use Rattle.trace_text.specs.Spelled.{act_said, act_names};
-ghost use Rattle.trace_text.specs.Traces.{policy_of, name_at, dir_act, act_of, IsActOf};
+ghost use Rattle.trace_text.specs.Traces.{policy_of, dir_act, act_of, IsActOf};
+ghost use Rattle.name_order.specs.Names.{name_at};
 ghost use Rattle.dir_table.specs.Meanings.{IsAdmitted};
 
-use crate::gathered::Gathered;
 use crate::spelled::SpelledAct;
 use crate::trace::{NamedSource, TraceAct};
 use dir_table::DirCall;
 use doc_text::is_same;
+use name_order::Gathered;
 use policy_text::NoMemory;
 
 // The place of a policy that is declared.

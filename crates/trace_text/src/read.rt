@@ -6,7 +6,7 @@ ghost use Rattle.trace_text.specs.Document.{Document};
 ghost use Rattle.trace_text.specs.Errors.{fault_of, Allows};
 ghost use Rattle.trace_text.specs.Grammar.{trace_heading, front_in, ReadsTrace};
 ghost use Rattle.trace_text.specs.Limits.{Fits};
-ghost use Rattle.trace_text.specs.Names.{AreRisingBy, SameMembers};
+ghost use Rattle.name_order.specs.Names.{AreRisingBy, SameMembers};
 ghost use Rattle.trace_text.specs.Spelled.{call_names};
 ghost use Rattle.trace_text.specs.Texts.{IsText};
 ghost use Rattle.trace_text.specs.Traces.{document_of, names_of, IsWithin};

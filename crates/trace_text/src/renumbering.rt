@@ -2,7 +2,7 @@
 ghost use Rattle.std.specs.Prelude.{◌≡◌, ℕ, List, length, map};
 ghost use Rattle.std.specs.List.{AllByRecursion};
 ghost use Rattle.dir_table.specs.Meanings.{IsAdmitted};
-ghost use Rattle.trace_text.specs.Places.{ArePlaces};
+ghost use Rattle.name_order.specs.Places.{ArePlaces};
 ghost use Rattle.trace_text.specs.Traces.{dir_act, act_of, call_of, IsActOf, IsCallOf};
 
 use crate::trace::{TraceAct, TraceCall};

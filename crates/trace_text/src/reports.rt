@@ -1,20 +1,33 @@
-ghost use Rattle.std.specs.Prelude.{◌≡◌, ◌+◌, ◌^◌, ◌<◌, ◌∷◌, ◌++◌, ◌==◌, ◌≤◌, if◌then◌else◌, [], ℕ, List, map, codes, length, decimal, count_by, OnOk, IfOk};
+//! The report of a replay.
+ghost use Rattle.std.specs.Prelude.{◌≡◌, ◌++◌, [], ℕ, List, map, codes, OnOk, IfOk};
 ghost use Rattle.std.specs.List.{flat_map};
 ghost use Rattle.doc_text.specs.Text.{ended};
 ghost use Rattle.dir_table.specs.Names.{entry_of};
-ghost use Rattle.trace_text.specs.Report.{report, done_of, entry_line, row_line, attach_line, report_heading, counted_line, kind_of, count_of, totals_line, changes_text, looks_text, kinds_line, bulk_report};
-ghost use Rattle.trace_text.specs.Reported.{replay_of, bulk_of, attachments};
-ghost use Rattle.trace_text.specs.Traces.{is_attachment};
+ghost use Rattle.trace_text.specs.Report.{report, done_of, entry_line, row_line, attach_line, report_heading, counted_line};
+ghost use Rattle.trace_text.specs.Reported.{replay_of};
 
-use crate::trace::{NamedSource, Trace, TraceAct};
+use crate::trace::{NamedSource, Trace};
 use crate::words::{name_at, push_call, push_reply};
 use crate::write::policy_name;
 use bpf_isa::Profile;
-use dir_table::{Dir, DirReply, DirRow, Rows};
+use dir_table::{Dir, DirRow, Rows};
 use doc_text::{push_decimal, push_line};
 use hist_log::Entry;
 use policy_text::{NoMemory, push_number, push_version, push_word};
 use std::alloc::Global;
+
+// An entry takes about so many bytes besides its name.
+const BESIDE_A_NAME: usize = 21;
+
+// About how many bytes so many lines take, each with a name.
+fn room_for(names: &[Vec<u8>], lines: usize) -> usize {
+    let mut bytes: usize = 0;
+    for name in names {
+        bytes = bytes.saturating_add(name.len());
+    }
+    let average = bytes.checked_div(names.len()).unwrap_or(0);
+    lines.saturating_mul(average.saturating_add(BESIDE_A_NAME))
+}
 
 #[tactic(auto, using(policy_text::proofs::Written::line_rules))]
 fn push_entry(out: &mut Vec<u8>, names: &[Vec<u8>], entry: &Entry<Dir>) -> Result<(), NoMemory>
@@ -141,10 +154,11 @@ pub fn render(
     ensures { IfOk result (λ v.
         v.items ≡ report (replay_of trace.now history.now dir.now attaches.now)) }
 {
-    let mut out: Vec<u8> = Vec::new(alloc);
     let names = trace.names.as_slice();
     let policies = trace.policies.as_slice();
     let rows = dir.rows();
+    let room = room_for(names, history.len().saturating_add(rows.len()));
+    let mut out: Vec<u8> = Vec::with_capacity(alloc, room)?;
     push_heading(
         &mut out,
         trace.version,
@@ -158,132 +172,5 @@ pub fn render(
     push_counted(&mut out, b"attaches", attaches.len())?;
     push_attaches(&mut out, policies, attaches)?;
     push_line(&mut out, b"end")?;
-    Ok(out)
-}
-
-fn kind_of(reply: &DirReply) -> u8
-    ensures { result ≡ kind_of reply.now }
-{
-    match reply {
-        DirReply::Ino(_) => 0,
-        DirReply::Done => 1,
-        DirReply::Exists => 2,
-        DirReply::Absent => 3,
-        DirReply::Number(_) => 4,
-        DirReply::Name(_) => 5,
-        DirReply::End => 6,
-    }
-}
-
-fn count_of(kind: u8, history: &[Entry<Dir>]) -> usize
-    ensures { result ≡ count_of kind (map (λ e. e.reply) history.now) }
-{
-    let mut count = 0;
-    for entry in history {
-        count = counted(count, kind_of(&entry.reply) == kind);
-    }
-    count
-}
-
-fn counted(count: usize, more: bool) -> usize
-    requires { count < 2 ^ 63 }
-    ensures { result ≡ count + (if more then 1 else 0) }
-{
-    if more { count + 1 } else { count }
-}
-
-/// How many of a trace's calls are attachments.
-fn attachments(trace: &Trace) -> usize
-    ensures exact { result ≡ attachments trace.now }
-    ensures within { result ≤ length trace.now.calls.items }
-{
-    let mut count = 0;
-    for call in trace.calls.as_slice() {
-        count = counted(count, matches!(call.act, TraceAct::Attach(_)));
-    }
-    count
-}
-
-#[tactic(auto, using(policy_text::proofs::Written::joined_rules))]
-fn push_pair(out: &mut Vec<u8>, word: &[u8], n: u64) -> Result<(), NoMemory>
-    ensures { OnOk result (out.new.items
-        ≡ out.old.items ++ ((32 ∷ word.now) ++ (32 ∷ decimal n))) }
-{
-    push_word(out, word)?;
-    push_number(out, n)
-}
-
-#[tactic(auto, using(policy_text::proofs::Written::joined_rules))]
-fn push_totals(
-    out: &mut Vec<u8>,
-    seed: u64,
-    workers: usize,
-    calls: usize,
-    attaches: usize,
-) -> Result<(), NoMemory>
-    ensures { OnOk result (out.new.items
-        ≡ out.old.items ++ ended (totals_line seed workers calls attaches)) }
-{
-    out.extend_from_slice(b"bulk")?;
-    push_pair(out, b"seed", seed)?;
-    push_pair(out, b"workers", workers as u64)?;
-    push_pair(out, b"calls", calls as u64)?;
-    push_pair(out, b"attaches", attaches as u64)?;
-    out.push(b'\n')?;
-    Ok(())
-}
-
-#[tactic(auto, using(policy_text::proofs::Written::joined_rules))]
-fn push_changes(out: &mut Vec<u8>, history: &[Entry<Dir>]) -> Result<(), NoMemory>
-    ensures { OnOk result (out.new.items
-        ≡ out.old.items ++ changes_text (map (λ e. e.reply) history.now)) }
-{
-    out.extend_from_slice(b"ino")?;
-    push_number(out, count_of(0, history) as u64)?;
-    push_pair(out, b"done", count_of(1, history) as u64)?;
-    push_pair(out, b"exists", count_of(2, history) as u64)?;
-    push_pair(out, b"absent", count_of(3, history) as u64)
-}
-
-#[tactic(auto, using(policy_text::proofs::Written::joined_rules))]
-fn push_looks(out: &mut Vec<u8>, history: &[Entry<Dir>]) -> Result<(), NoMemory>
-    ensures { OnOk result (out.new.items
-        ≡ out.old.items ++ looks_text (map (λ e. e.reply) history.now)) }
-{
-    push_pair(out, b"number", count_of(4, history) as u64)?;
-    push_pair(out, b"name", count_of(5, history) as u64)?;
-    push_pair(out, b"end", count_of(6, history) as u64)
-}
-
-#[tactic(auto, using(policy_text::proofs::Written::joined_rules))]
-fn push_kinds(out: &mut Vec<u8>, history: &[Entry<Dir>]) -> Result<(), NoMemory>
-    ensures { OnOk result (out.new.items
-        ≡ out.old.items ++ ended (kinds_line (map (λ e. e.reply) history.now))) }
-{
-    push_changes(out, history)?;
-    push_looks(out, history)?;
-    out.push(b'\n')?;
-    Ok(())
-}
-
-/// The summary of a bulk run: the seed, how many calls and attachments there were, how many replies of each kind, and how many
-/// names are left.
-#[tactic(auto, using(policy_text::proofs::Written::text_rules))]
-pub fn summary(
-    alloc: Global,
-    seed: u64,
-    trace: &Trace,
-    history: &[Entry<Dir>],
-    dir: &Dir,
-) -> Result<Vec<u8>, NoMemory>
-    ensures { IfOk result (λ v. v.items
-        ≡ bulk_report (bulk_of seed trace.now history.now dir.now)) }
-{
-    let mut out: Vec<u8> = Vec::new(alloc);
-    let attaches = attachments(trace);
-    let calls = trace.calls.len() - attaches;
-    push_totals(&mut out, seed, trace.workers.len(), calls, attaches)?;
-    push_kinds(&mut out, history)?;
-    push_counted(&mut out, b"left", dir.rows().len())?;
     Ok(out)
 }

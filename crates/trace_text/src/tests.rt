@@ -213,3 +213,43 @@ fn a_replay_is_reported(rt: HostRuntime) -> Result<(), Fail> {
     assert_eq!(rt; total.as_slice(), expected.as_slice());
     Ok(())
 }
+
+#[test]
+fn each_fault_is_told(rt: HostRuntime) -> Result<(), Fail> {
+    let alloc = rt.alloc();
+    let faults = [
+        (TraceError::Format { line: 7, what: 2 }, "line 7: fault 2"),
+        (TraceError::NoMemory, "out of memory"),
+    ];
+    for (fault, due) in faults {
+        let told = format!(in alloc; "{fault}")?;
+        assert_eq!(rt; told.as_str(), due);
+    }
+    Ok(())
+}
+
+// Each of the names makes a file and finds it, by a line of its own each time. All end in the same sixteen bytes.
+fn alike(rt: &HostRuntime) -> Result<Vec<u8>, NoMemory> {
+    let mut text = Vec::from_slice(
+        rt.alloc(),
+        b"syncord-trace 1\nworker 0 0 0 0\npolicy none - -\ncalls\n",
+    )?;
+    for call in [b"0 make 0 ".as_slice(), b"0 find 0 ".as_slice()] {
+        for number in 0..20_u8 {
+            text.extend_from_slice(call)?;
+            text.push(b'z' - number)?;
+            text.extend_from_slice(b"-sixteen-in-all-\n")?;
+        }
+    }
+    Ok(text)
+}
+
+#[test]
+fn names_that_end_alike_are_told_apart(rt: HostRuntime) -> Result<(), Fail> {
+    let alloc = rt.alloc();
+    let text = alike(&rt)?;
+    let trace = read_trace(alloc, text.as_slice())?;
+    assert_eq!(rt; trace.names.len(), 20);
+    assert_eq!(rt; write_trace(alloc, &trace)?.as_slice(), text.as_slice());
+    Ok(())
+}

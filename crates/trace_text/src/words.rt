@@ -2,7 +2,8 @@ ghost use Rattle.std.specs.Prelude.{◌≡◌, ◌∷◌, ◌++◌, map, decimal
 ghost use Rattle.policy_text.specs.Blanks.{blanked};
 ghost use Rattle.trace_text.specs.Spelling.{act_words};
 ghost use Rattle.trace_text.specs.Report.{reply_words};
-ghost use Rattle.trace_text.specs.Traces.{name_at, dir_act};
+ghost use Rattle.trace_text.specs.Traces.{dir_act};
+ghost use Rattle.name_order.specs.Names.{name_at};
 
 use dir_table::{DirCall, DirReply};
 use doc_text::push_decimal;

@@ -4,7 +4,8 @@ ghost use Rattle.doc_text.specs.Text.{ended};
 ghost use Rattle.trace_text.specs.Limits.{Fits};
 ghost use Rattle.trace_text.specs.Spelling.{worker_line, policy_line, call_line, spelling};
 ghost use Rattle.trace_text.specs.Texts.{IsText};
-ghost use Rattle.trace_text.specs.Traces.{policy_of, name_at, call_of, document_of};
+ghost use Rattle.trace_text.specs.Traces.{policy_of, call_of, document_of};
+ghost use Rattle.name_order.specs.Names.{name_at};
 
 use crate::trace::{NamedSource, Trace, TraceAct, TraceCall};
 use crate::words::push_call;

@@ -1,6 +1,6 @@
 use Rattle.std.proofs.Common.{◌≡◌, ℕ, ◌<◌, map, length}
 use Rattle.trace_text.specs.Generator.{name_of}
-use Rattle.trace_text.specs.Traces.{name_at}
+use Rattle.name_order.specs.Names.{name_at}
 use Rattle.trace_text.proofs.generator.name_table.Given as goal
 
 -- the names so far, by their numbers

@@ -1,7 +1,7 @@
 use Rattle.std.proofs.Common.{arith, sym, ◌∙◌, ap}
 use Rattle.doc_text.proofs.Joining.{same-true}
 use Rattle.trace_text.specs.declared.trace.NamedSource.{NamedSource}
-use Rattle.trace_text.proofs.Sorting.{bytes_at}
+use Rattle.name_order.proofs.Sorting.{bytes_at}
 use Rattle.trace_text.proofs.numbering.policy_place.Goals as goal
 
 pub returns-then-is_same-clause-found : goal.returns-then-is_same-clause-found

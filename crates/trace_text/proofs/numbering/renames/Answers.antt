@@ -1,4 +1,4 @@
-use Rattle.trace_text.proofs.Placing.{two_put}
+use Rattle.name_order.proofs.Placing.{two_put}
 use Rattle.trace_text.proofs.numbering.renames.Goals as goal
 
 pub returns-in_err-to_place-clause-put : goal.returns-in_err-to_place-clause-put

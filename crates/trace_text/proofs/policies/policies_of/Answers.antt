@@ -9,7 +9,7 @@ use Rattle.trace_text.specs.Grammar.{ReadsPolicies}
 use Rattle.std.specs.Option.{option_map}
 use Rattle.std.proofs.lemmas.List.{map-append}
 use Rattle.trace_text.proofs.PolicyLoop.{reads-odd, reads-error, reads-end, reads-refused, reads-more, reads-none}
-use Rattle.trace_text.proofs.Sorting.{ok_some}
+use Rattle.name_order.proofs.Sorting.{ok_some}
 use Rattle.trace_text.proofs.policies.policies_of.Goals as goal
 
 pub returns-in_default-clause-exact : goal.returns-in_default-clause-exact

@@ -6,7 +6,7 @@ use Rattle.doc_text.specs.Faults.{section_from}
 use Rattle.doc_text.proofs.LineEnds.{pieces-none}
 use Rattle.doc_text.proofs.Loops.{section_from-more, section_from-odd, section_from-bad, section_from-end, section_from-none}
 use Rattle.shfl_line.specs.declared.words.Attr.{Attr}
-use Rattle.trace_text.proofs.Sorting.{ok_some}
+use Rattle.name_order.proofs.Sorting.{ok_some}
 use Rattle.trace_text.specs.Grammar.{worker_says, worker_due, workers_in}
 use Rattle.trace_text.proofs.workers.workers_of.Goals as goal
 

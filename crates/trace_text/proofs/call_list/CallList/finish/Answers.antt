@@ -4,10 +4,10 @@ use Rattle.std.specs.List.{AllByRecursion}
 use Rattle.std.proofs.lemmas.List.{length-map}
 use Rattle.trace_text.specs.CallLists.{list_said}
 use Rattle.trace_text.specs.Document.{CallLine}
-use Rattle.trace_text.specs.Names.{SameMembers}
+use Rattle.name_order.specs.Names.{SameMembers}
 use Rattle.trace_text.specs.Spelled.{call_names}
 use Rattle.trace_text.specs.Traces.{call_of, IsCallOf}
-use Rattle.trace_text.specs.Places.{ArePlaces}
+use Rattle.name_order.specs.Places.{ArePlaces}
 use Rattle.trace_text.proofs.Gathering.{same_listed}
 use Rattle.trace_text.proofs.call_list.CallList.finish.Goals as goal
 

@@ -1,0 +1,4 @@
+pub mod Sorting
+pub mod Placing
+pub mod Heads
+pub mod InOrder

@@ -1,0 +1,10 @@
+//! Names as they are met, told apart by guesses that are compared, and put in order of their bytes.
+#![tactic(auto)]
+
+mod gathered;
+mod ordered;
+#[cfg(test)]
+mod tests;
+
+pub use gathered::Gathered;
+pub use ordered::{Ordered, put_in_order};
