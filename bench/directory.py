@@ -5,6 +5,7 @@ import resource
 import subprocess
 import sys
 
+ROUNDS = 15
 HEAD = "syncord-trace 1\nworker 0 0 0 0\npolicy none - -\ncalls\n"
 
 
@@ -36,7 +37,7 @@ def calls(kind, count):
         # a directory of one name behind a large one
         return [make(n) for n in range(half)] + ["0 make 63 last"] + ["0 count 63"] * (half - 1)
     if kind == "sizes":
-        # a large directory, whose count adds up its blocks
+        # a large directory, which is counted again and again
         return [make(n) for n in range(half)] + ["0 count 5"] * half
     if kind == "nexts":
         return [make(n) for n in range(half)] + [f"0 next 5 {name(draw.randrange(half))}" for _ in range(half)]
@@ -59,24 +60,31 @@ def seconds(program, words, text):
 
 def main(folder, program, peer):
     kinds = ["rising", "falling", "random", "middle", "drops", "renames", "counts", "sizes", "nexts", "long-names"]
+    counts = (8192, 65536)
     print("trace           calls   ours ms   peer ms   ratio")
     for kind in kinds:
-        first = ()
-        for count in (8192, 65536):
-            text = os.path.join(folder, "trace")
-            with open(text, "w") as out:
+        texts = {}
+        for count in counts:
+            texts[count] = os.path.join(folder, f"{kind}-{count}")
+            with open(texts[count], "w") as out:
                 out.write(HEAD + "\n".join(calls(kind, count)) + "\n")
-            best = {}
-            for _ in range(7):
+        # both programs and both lengths in turn, so that a machine that grows slower does so for all four
+        best, wrote = {}, {}
+        for _ in range(ROUNDS):
+            for count in counts:
                 for which, words in ((program, ["replay"]), (peer, [])):
-                    used, wrote = seconds(which, words, text)
-                    best[which] = min(best.get(which, (9e9, b""))[0], used), wrote
-            if best[program][1] != best[peer][1]:
+                    used, wrote[which, count] = seconds(which, words, texts[count])
+                    best[which, count] = min(best.get((which, count), 9e9), used * 1000)
+        for count in counts:
+            if wrote[program, count] != wrote[peer, count]:
                 sys.exit(f"{kind}: the two programs write different bytes")
-            ours, theirs = best[program][0] * 1000, best[peer][0] * 1000
-            growth = f"   {ours / first[0]:.1f} times {first[0]:.1f} ms, peer {theirs / first[1]:.1f} times" if first else ""
-            first = first or (ours, theirs)
+            ours, theirs = best[program, count], best[peer, count]
+            growth = ""
+            if count == counts[1]:
+                growth = f"   {ours / best[program, counts[0]]:.1f} times, peer {theirs / best[peer, counts[0]]:.1f} times"
             print(f"{kind:14} {count:6} {ours:9.1f} {theirs:9.1f} {ours / max(theirs, 0.001):7.2f}{growth}", flush=True)
+        for text in texts.values():
+            os.remove(text)
 
 
 main(*sys.argv[1:])
