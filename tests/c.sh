@@ -10,7 +10,7 @@ command -v "$cc" >/dev/null || { echo "tests/c.sh: no C compiler is there, so no
 room="$(mktemp -d)"
 trap 'rm -rf "$room"' EXIT
 archive="$top/crates/shfl_c/out/libshfl_c.a"
-(cd "$top/crates/shfl_c" && rt lib </dev/null) >"$room/built" 2>&1 || { tail -n 20 "$room/built" >&2; exit 1; }
+"$top/bin/build-program" shfl_c >"$room/built" 2>&1 || { tail -n 20 "$room/built" >&2; exit 1; }
 
 programs=(counter map policy)
 failed=0

@@ -1,6 +1,6 @@
 # For the scripts that run a program over a cell: cell_program TOP ROOM CELL SOURCE LOOP.. builds the program in a folder of its own in ROOM,
-# where the crates are proved first, and prints where it stands. CELL is shfl_cell or rw_cell. The register and the proofs are those of that
-# crate's tests in threads; each function LOOP is a loop of calls by one pass, as `work` there.
+# where the crates are proved first, and prints where it stands. CELL is shfl_cell or rw_cell. The register and the proofs are those of the
+# tests of that cell in threads (crates/cell_tests); each function LOOP is a loop of calls by one pass, as `work` there.
 
 # the crates of crates.txt that these stand on, and themselves, in its order
 crates_below() {
@@ -21,21 +21,23 @@ crates_below() {
 
 cell_program() {
     local top="$1" room="$2/$3" cell="$3" source="$4" crate name function uses=()
-    local tests="$1/crates/$3/proofs/tests" program="$2/$3/crates/program"
+    local program="$2/$3/crates/program" kind=cell tests
+    [ "$cell" = rw_cell ] && kind=copies
+    tests="$top/crates/cell_tests/proofs/$kind"
     shift 4
     mkdir -p "$program/src" "$program/proofs"
     cp "$top/HANDLES" "$room/"
     cp "$source" "$program/src/main.rt"
     : >"$program/proofs/Lib.antt"
-    # a proof of the crate's tests, as one of the program
+    # a proof of the cell's tests, as one of the program
     take() {
         mkdir -p "$program/proofs/$2"
         for name in "$tests/$1"/*.antt; do
-            sed "s/Rattle\.$cell\.proofs\.tests\.${1//\//.}/Rattle.program.proofs.${2//\//.}/" "$name" >"$program/proofs/$2/${name##*/}"
+            sed "s/Rattle\.cell_tests\.proofs\.$kind\.${1//\//.}/Rattle.program.proofs.${2//\//.}/" "$name" >"$program/proofs/$2/${name##*/}"
         done
     }
     if grep -q '^mod register;' "$source"; then
-        sed "s/^use crate::/use $cell::/" "$top/crates/$cell/src/tests/register.rt" >"$program/src/register.rt"
+        cp "$top/crates/cell_tests/src/$kind/register.rt" "$program/src/"
         for function in "$tests"/register/*/; do
             [ -d "$function" ] && take "register/$(basename "$function")" "register/$(basename "$function")"
         done

@@ -1,16 +1,16 @@
 #!/usr/bin/env bash
 # Runs the tests of a crate whose names contain a word so many times: tests/repeat.sh CRATE WORD COUNT, as
-#     tests/repeat.sh shfl_workers order 1000
+#     tests/repeat.sh command_tests order 1000
 # No part of the gate: it looks for schedules of threads that a single run doesn't meet. The first run that fails, that doesn't end in
 # 60 seconds, or that prints something else than the first did is shown, with status 1. The crate's tests are built (and proved) where
-# they aren't yet.
+# they aren't yet, or where a source is newer.
 set -u
 top="$(cd "$(dirname "$(readlink -f "${BASH_SOURCE[0]}")")/.." && pwd)"
 crate="${1:?the name of a crate}" word="${2:?a word of the tests}" count="${3:?how many times}"
 folder="$top/crates/$crate"
 program="$folder/out/${crate}_tests"
 run="$(dirname "$(readlink -f "$(command -v rt)")")/rattle-test"
-if ! [ -x "$program" ] || [ -n "$(find "$folder/src" -newer "$program" -name '*.rt' -print -quit)" ]; then
+if ! [ -x "$program" ] || [ -n "$(find "$top"/crates/*/src -newer "$program" -name '*.rt' -print -quit)" ]; then
     (cd "$folder" && rt test </dev/null >"$folder/out/repeat.log" 2>&1) || { tail "$folder/out/repeat.log" >&2; exit 1; }
 fi
 first=

@@ -15,6 +15,3 @@ mod survey;
 pub use assembler::assemble;
 pub use error::AsmError;
 pub use listing::disassemble;
-
-#[cfg(test)]
-mod tests;

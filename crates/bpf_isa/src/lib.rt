@@ -20,6 +20,3 @@ pub use flow::target;
 pub use insn::{AluOp, Cond, Insn, Operand, Order, Profile, Size, Width};
 pub use raw::{Raw, SLOT_BYTES};
 pub use table::insn_of;
-
-#[cfg(test)]
-mod tests;

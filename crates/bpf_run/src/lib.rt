@@ -11,6 +11,3 @@ mod steps;
 
 pub use running::{Ran, counted, run, value};
 pub use steps::Steps;
-
-#[cfg(test)]
-mod tests;

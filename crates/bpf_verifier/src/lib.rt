@@ -11,8 +11,6 @@ mod reads;
 mod refusal;
 mod safety;
 mod states;
-#[cfg(test)]
-mod tests;
 
 pub use accept::verify;
 pub use kind::{CONTEXT_BYTES, Kind, REGISTERS};

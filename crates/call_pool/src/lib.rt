@@ -6,8 +6,6 @@ mod opening;
 mod pool;
 mod run;
 mod taking;
-#[cfg(test)]
-mod tests;
 mod threads;
 
 pub use numbered_calls::{Numbered, NumberedCall};

@@ -5,7 +5,5 @@ mod closing;
 mod opening;
 mod queue;
 mod rule;
-#[cfg(test)]
-mod tests;
 
 pub use queue::{CallQueue, Taker};

@@ -15,8 +15,6 @@ mod opening;
 mod shard_pass;
 mod sharded;
 mod steps;
-#[cfg(test)]
-mod tests;
 
 pub use shard_pass::ShardPass;
 pub use sharded::ShardedDir;

@@ -9,8 +9,6 @@ mod dir;
 mod object;
 mod rows;
 mod search;
-#[cfg(test)]
-mod tests;
 mod view;
 
 pub use calls::{DirCall, DirReply, DirRow};

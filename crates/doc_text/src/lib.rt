@@ -9,8 +9,6 @@ mod lines;
 mod numbers;
 mod splits;
 mod spread;
-#[cfg(test)]
-mod tests;
 mod writing;
 
 pub use decimal::push_decimal;

@@ -5,8 +5,6 @@ mod entry;
 mod legality;
 mod merging;
 mod object;
-#[cfg(test)]
-mod tests;
 mod trail;
 
 pub use entry::{Entry, Receipt};

@@ -14,8 +14,6 @@ mod report;
 mod rows;
 mod shapes;
 mod svg;
-#[cfg(test)]
-mod tests;
 mod text;
 
 pub use error::ReportError;

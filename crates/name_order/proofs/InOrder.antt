@@ -1,5 +1,5 @@
 -- Names in order, each once, and where each stands then.
-use Rattle.std.proofs.Common.{◌≡◌, ℕ, ◌+◌, ◌-◌, ◌<◌, ◌≤◌, ◌⊎◌, inl, inr, List, [], ◌∷◌, ◌++◌, length, map, get_or, set, refl, sym, ap, ◌∙◌, subst, arith, length-append}
+use Rattle.std.proofs.Common.{◌≡◌, ℕ, zero, suc, ◌+◌, ◌-◌, ◌<◌, ◌≤◌, ◌⊎◌, inl, inr, List, [], ◌∷◌, ◌++◌, length, map, get_or, set, refl, sym, ap, ◌∙◌, subst, arith, length-append}
 use Rattle.std.specs.Prelude.{All, Contains, slice_index}
 use Rattle.std.specs.List.{AllWithin}
 use Rattle.std.specs.List.Sorted.{IsSorted, IsSortedBy, IsPermutation}
@@ -14,7 +14,7 @@ use Rattle.std.specs.Cmp.Lexicographic.{slice_cmp}
 use Rattle.name_order.specs.declared.ordered.Placed.{Placed}
 use Rattle.name_order.specs.Names.{EndsWith, SameMembers}
 use Rattle.name_order.specs.Names.{name_at}
-use Rattle.name_order.specs.Places.{StandsAt, ArePlaces, rank, ArePlaced, HaveOneName, IsHeaded, IsTold}
+use Rattle.name_order.specs.Places.{StandsAt, ArePlaces, rank, ArePlaced, HaveOneName, AreHeaded, IsTold}
 use Rattle.name_order.proofs.Heads.{names_behind}
 use Rattle.name_order.proofs.Placing.{read_stands}
 
@@ -23,15 +23,15 @@ use Rattle.name_order.proofs.Placing.{read_stands}
 -- the names before `i` with their places
 pub record PlacedBefore (names : List (List ℕ)) (i : ℕ) (ps : List Placed) : Type 0 where
   pub many : length ps ≡ i
-  pub each : (k : ℕ) (d : Placed) → k < i → ((get_or ps k d).place ≡ k) × ((get_or ps k d).name.now ≡ name_at names k)
+  pub each : (k : ℕ) (d : Placed) → k < i → ((get_or ps k d).place ≡ k) × ((get_or ps k d).name.items ≡ name_at names k)
 
 pub placed-none : (names : List (List ℕ)) → PlacedBefore names 0 []
 placed-none names = record { many = refl; each = λ k d lt. absurd (omega (arith, lt)) }
 
-pub placed-more : (names : List (List ℕ)) (i : ℕ) (ps : List Placed) (p : Placed) → p.place ≡ i → p.name.now ≡ name_at names i → PlacedBefore names i ps → PlacedBefore names (i + 1) (ps ++ p ∷ [])
+pub placed-more : (names : List (List ℕ)) (i : ℕ) (ps : List Placed) (p : Placed) → p.place ≡ i → p.name.items ≡ name_at names i → PlacedBefore names i ps → PlacedBefore names (i + 1) (ps ++ p ∷ [])
 placed-more names i ps p place name b = record { many = omega (arith, length-append ps (p ∷ []), b.many); each = λ k d lt. by_place k d lt (cases_lt k i) }
   where
-    by_place : (k : ℕ) (d : Placed) → k < i + 1 → (k < i) ⊎ (i ≤ k) → ((get_or (ps ++ p ∷ []) k d).place ≡ k) × ((get_or (ps ++ p ∷ []) k d).name.now ≡ name_at names k)
+    by_place : (k : ℕ) (d : Placed) → k < i + 1 → (k < i) ⊎ (i ≤ k) → ((get_or (ps ++ p ∷ []) k d).place ≡ k) × ((get_or (ps ++ p ∷ []) k d).name.items ≡ name_at names k)
     by_place k d lt (inl low) = let e : get_or (ps ++ p ∷ []) k d ≡ get_or ps k d = get_or-append ps (p ∷ []) d k (omega (arith, low, b.many)) in rw e (b.each k d low)
     by_place k d lt (inr high) =
         let at : k ≡ length ps = omega (arith, lt, high, b.many) in
@@ -39,59 +39,60 @@ placed-more names i ps p place name b = record { many = omega (arith, length-app
         let e : get_or (ps ++ p ∷ []) k d ≡ p = ap (λ (j : ℕ). get_or (ps ++ p ∷ []) j d) at ∙ get_or-append_seam ps p [] d in
         rw e (place ∙ sym on ∙ sym at, name ∙ sym (ap (name_at names) (at ∙ on)))
 
+-- the element at a place
+at-place : (ps : List Placed) (k : ℕ) → k < length ps → (p : Placed) × ((d : Placed) → get_or ps k d ≡ p)
+at-place [] k lt = absurd (omega (arith, lt))
+at-place (p ∷ ps) zero lt = (p, λ d. refl)
+at-place (p ∷ ps) (suc k) lt = at-place ps k (omega (arith, lt))
+
 pub all-placed : (names : List (List ℕ)) (i : ℕ) (ps : List Placed) → i ≡ length names → PlacedBefore names i ps → ArePlaced names ps
 all-placed names i ps all b = record {
   each = λ k d lt. (let inside : k < i = omega (arith, lt, b.many) in let e = b.each k d inside in (omega (arith, e.0, inside, all), ap (name_at names) e.0 ∙ sym e.1));
-  whole = λ k lt. (let inside : k < i = omega (arith, lt, all) in (get_or ps k none, (k, omega (arith, inside, b.many), get_or_default ps k (get_or ps k none) none (omega (arith, inside, b.many))), (b.each k none inside).0));
+  whole = λ k lt. (let inside : k < length ps = omega (arith, lt, all, b.many) in let p = at-place ps k inside in (p.0, (k, inside, p.1 p.0), ap (λ (q : Placed). q.place) (sym (p.1 p.0)) ∙ (b.each k p.0 (omega (arith, lt, all))).0));
 }
-  where
-    none : Placed
-    none = record { head = 0; name = record { ref_ptr = (0, 0); now = [] }; place = 0 }
 
 -- ---- sorted, they are the same names
 
 pub placed-permuted : (names : List (List ℕ)) (ps qs : List Placed) → IsPermutation ps qs → ArePlaced names ps → ArePlaced names qs
 placed-permuted names ps qs p a = record {
-  each = All-permutation (λ q. StandsAt names q.place q.name.now) ps qs p a.each;
+  each = All-permutation (λ q. StandsAt names q.place q.name.items) ps qs p a.each;
   whole = λ k lt. (let w = a.whole k lt in (w.0, Contains-permutation ps qs w.0 p w.1, w.2));
 }
 
 -- the same place is of the same name
 pub placed-apart : (names : List (List ℕ)) (ps : List Placed) → ArePlaced names ps → HaveOneName ps
 placed-apart names ps a p q inp inq e =
-    let s = All-contains (λ x. StandsAt names x.place x.name.now) ps p a.each inp in
-    let t = All-contains (λ x. StandsAt names x.place x.name.now) ps q a.each inq in
+    let s = All-contains (λ x. StandsAt names x.place x.name.items) ps p a.each inp in
+    let t = All-contains (λ x. StandsAt names x.place x.name.items) ps q a.each inq in
     sym s.1 ∙ ap (name_at names) e ∙ t.1
 
 pub placed-within : (names : List (List ℕ)) (ps : List Placed) (n : ℕ) → n ≡ length names → ArePlaced names ps → All (λ p. p.place < n) ps
 placed-within names ps n e a k d lt = omega (arith, e, (a.each k d lt).0)
 
-pub placed-same : (names : List (List ℕ)) (ps : List Placed) → ArePlaced names ps → SameMembers names (map (λ p. p.name.now) ps)
+pub placed-same : (names : List (List ℕ)) (ps : List Placed) → ArePlaced names ps → SameMembers names (map (λ p. p.name.items) ps)
 placed-same names ps a n = (to, from)
   where
     name : Placed → List ℕ
-    name p = p.name.now
+    name p = p.name.items
 
-    to : Contains names n → Contains (map (λ p. p.name.now) ps) n
+    to : Contains names n → Contains (map (λ p. p.name.items) ps) n
     to (k, lt, e) =
         let w = a.whole k lt in
-        let s = All-contains (λ x. StandsAt names x.place x.name.now) ps w.0 a.each w.1 in
-        let is : w.0.name.now ≡ n = sym s.1 ∙ ap (name_at names) w.2 ∙ get_or_default names k [] n lt ∙ e in
-        (w.1.0, omega (arith, w.1.1, length-map ps name), get_or-map (λ p. p.name.now) ps w.1.0 w.0 n w.1.1 ∙ ap (λ (p : Placed). p.name.now) w.1.2 ∙ is)
+        let s = All-contains (λ x. StandsAt names x.place x.name.items) ps w.0 a.each w.1 in
+        let is : w.0.name.items ≡ n = sym s.1 ∙ ap (name_at names) w.2 ∙ get_or_default names k [] n lt ∙ e in
+        (w.1.0, omega (arith, w.1.1, length-map ps name), get_or-map (λ p. p.name.items) ps w.1.0 w.0 n w.1.1 ∙ ap (λ (p : Placed). p.name.items) w.1.2 ∙ is)
 
-    from : Contains (map (λ p. p.name.now) ps) n → Contains names n
+    from : Contains (map (λ p. p.name.items) ps) n → Contains names n
     from (k, lt, e) =
         let inside : k < length ps = omega (arith, lt, length-map ps name) in
-        let d : Placed = record { head = 0; name = record { ref_ptr = (0, 0); now = [] }; place = 0 } in
+        let d : Placed = (at-place ps k inside).0 in
         let s = a.each k d inside in
-        ((get_or ps k d).place, s.0, get_or_default names (get_or ps k d).place n [] s.0 ∙ s.1 ∙ sym (get_or-map (λ p. p.name.now) ps k d n inside) ∙ e)
+        ((get_or ps k d).place, s.0, get_or_default names (get_or ps k d).place n [] s.0 ∙ s.1 ∙ sym (get_or-map (λ p. p.name.items) ps k d n inside) ∙ e)
 
 -- by the whole order they are in order of their names
-pub sorted-names : (ps : List Placed) → IsSorted rank ps → All IsHeaded ps → IsSortedBy (λ a b. is_lt (slice_cmp nat_cmp a.name.now b.name.now)) ps
-sorted-names ps s headed k d low high =
-    let b = get_or ps (k + 1) d in
-    let a = get_or ps k d in
-    names_behind b.head a.head b.name.now a.name.now _ (headed (k + 1) d (omega (arith, high))) (headed k d (omega (arith, high))) (s k d low high)
+pub sorted-names : (ps : List Placed) → IsSorted rank ps → AreHeaded ps → IsSortedBy (λ a b. is_lt (slice_cmp nat_cmp a.name.items b.name.items)) ps
+sorted-names ps s (front, headed) k d low high =
+    names_behind front (get_or ps (k + 1) d) (get_or ps k d) (headed (k + 1) d (omega (arith, high))) (headed k d (omega (arith, high))) (s k d low high)
 
 -- ---- what is told at their places
 
@@ -105,11 +106,11 @@ new-stands bytes xs y n e =
     let long = length-append xs (y ∷ []) in
     read_stands bytes (xs ++ y ∷ []) (length (xs ++ y ∷ []) - 1) y n (omega (arith, long)) (let at : length (xs ++ y ∷ []) - 1 ≡ length xs = omega (arith, long) in rw (at, get_or-append_seam xs y [] y) e)
 
-module _ (ps : List Placed) (apart : HaveOneName ps) (i : ℕ) (own : Placed) (inside : i < length ps) (is : (d : Placed) → get_or ps i d ≡ own) (old new : List (List ℕ)) (more : List (List ℕ)) (grown : new ≡ old ++ more) (places : List ℕ) (m : ℕ) (lt : own.place < length places) (stands : StandsAt new m own.name.now) where
+module _ (ps : List Placed) (apart : HaveOneName ps) (i : ℕ) (own : Placed) (inside : i < length ps) (is : (d : Placed) → get_or ps i d ≡ own) (old new : List (List ℕ)) (more : List (List ℕ)) (grown : new ≡ old ++ more) (places : List ℕ) (m : ℕ) (lt : own.place < length places) (stands : StandsAt new m own.name.items) where
   pub told-more : AllWithin (IsTold old places) ps 0 i → AllWithin (IsTold new (set places own.place m)) ps 0 (i + 1)
   told-more told k d low high = by_place (cases_lt k i)
     where
-      here : (p : Placed) → p.name.now ≡ own.name.now → p.place ≡ own.place → IsTold new (set places own.place m) p
+      here : (p : Placed) → p.name.items ≡ own.name.items → p.place ≡ own.place → IsTold new (set places own.place m) p
       here p name place = let e : slice_index (set places own.place m) p.place ≡ m = ap (λ (j : ℕ). get_or (set places own.place m) j 0) place ∙ get_or-set_same places own.place m 0 lt in rw (e, name) stands
 
       among : (j : ℕ) (e : Placed) → j < length ps → Contains ps (get_or ps j e)
@@ -136,6 +137,6 @@ told-places names others ps places many a told = record { many = many; each = λ
     by_name : (k : ℕ) → k < length names → (p : Placed) × Contains ps p × (p.place ≡ k) → StandsAt others (slice_index places k) (name_at names k)
     by_name k lt (p, within, e) =
         let s = All-contains (IsTold others places) ps p told within in
-        let t = All-contains (λ x. StandsAt names x.place x.name.now) ps p a.each within in
-        let name : p.name.now ≡ name_at names k = sym t.1 ∙ ap (name_at names) e in
+        let t = All-contains (λ x. StandsAt names x.place x.name.items) ps p a.each within in
+        let name : p.name.items ≡ name_at names k = sym t.1 ∙ ap (name_at names) e in
         subst (λ (j : ℕ). StandsAt others (slice_index places j) (name_at names k)) e (subst (λ (n : List ℕ). StandsAt others (slice_index places p.place) n) name s)

@@ -1,4 +1,5 @@
 pub mod Sorting
 pub mod Placing
+pub mod Fronts
 pub mod Heads
 pub mod InOrder

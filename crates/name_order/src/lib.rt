@@ -3,8 +3,6 @@
 
 mod gathered;
 mod ordered;
-#[cfg(test)]
-mod tests;
 
 pub use gathered::Gathered;
 pub use ordered::{Ordered, put_in_order};

@@ -6,8 +6,6 @@ mod attributes;
 mod error;
 mod heading;
 mod programs;
-#[cfg(test)]
-mod tests;
 mod writing;
 
 pub use acceptance::accepts;

@@ -11,6 +11,3 @@ pub use instance::Instance;
 pub use place::{Place, Right};
 pub use registry::{InUse, Published, Publisher, Registry, Using, VersionPass};
 pub use turns::{Lost, SlotTurns, Turns};
-
-#[cfg(test)]
-mod tests;

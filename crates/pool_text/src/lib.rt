@@ -3,8 +3,6 @@
 
 mod calls;
 mod report;
-#[cfg(test)]
-mod tests;
 
 pub use calls::{dir_calls, first_fault};
 pub use report::render_pool;

@@ -6,8 +6,6 @@ mod cell;
 mod closing;
 mod opening;
 mod reads;
-#[cfg(test)]
-mod tests;
 mod writes;
 
 pub use cell::{KeptRead, RwCell, RwCellOf, RwPass, RwPassOf};

@@ -3,15 +3,11 @@
 
 mod closing;
 mod commit;
-#[cfg(test)]
-mod drawn_tests;
 mod journal;
 mod laws;
 mod naming;
 mod shard;
 mod table;
-#[cfg(test)]
-mod tests;
 
 pub use commit::Committed;
 pub use journal::Journal;

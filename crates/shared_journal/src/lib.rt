@@ -13,15 +13,11 @@ pub use closing::Closing;
 pub use commit::{Committed, Step};
 pub use journal::Journal;
 pub use passes::{JournalPass, KnownPrefix};
-pub use table::JournalTable;
-pub use view::{Own, View};
-
-#[cfg(test)]
-mod tests;
-
 use std::alloc::{AllocError, AllocFailed};
 use std::error::Error;
 use std::fmt;
+pub use table::JournalTable;
+pub use view::{Own, View};
 
 /// A call could not have the memory that it needs.
 #[derive(Clone, Copy, Debug, PartialEq, Eq)]

@@ -5,7 +5,5 @@ mod calls;
 mod cell;
 mod closing;
 mod opening;
-#[cfg(test)]
-mod tests;
 
 pub use cell::{CellPass, CellPassOf, ShflCell, ShflCellOf};

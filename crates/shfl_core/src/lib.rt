@@ -8,8 +8,6 @@ pub mod local;
 pub mod phase;
 pub mod plans;
 pub mod rows;
-#[cfg(test)]
-mod tests;
 pub mod waiter;
 pub mod words;
 pub mod world;

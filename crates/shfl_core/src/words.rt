@@ -54,6 +54,24 @@ pub fn index(word: Word) -> usize
     }
 }
 
+/// The word that the operation touches.
+#[inline(always)]
+pub fn site(access: Access) -> Word
+    ensures { result ≡ words.site access }
+{
+    match access {
+        Access::Load { w } => w,
+        Access::Store { w, v: _ } => w,
+        Access::Swap { w, v: _ } => w,
+        Access::CompareSwap { w, old: _, new: _ } => w,
+        Access::Or { w, v: _ } => w,
+        Access::And { w, v: _ } => w,
+        Access::Xor { w, v: _ } => w,
+        Access::Add { w, v: _ } => w,
+        Access::Sub { w, v: _ } => w,
+    }
+}
+
 /// The words of a lock with a pass for each of these attributes, at its opening.
 pub fn opening_words(alloc: Global, attrs: &[Attributes]) -> Result<Vec<u64>, NoMemory>
     requires few { length attrs.now ≤ 64 }

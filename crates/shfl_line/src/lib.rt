@@ -5,8 +5,6 @@ mod choosers;
 mod events;
 mod laws;
 mod line_state;
-#[cfg(test)]
-mod tests;
 mod words;
 
 pub use choosers::{Always, Answer, BySocket, Chooser, Never};

@@ -6,8 +6,6 @@ ghost use Rattle.shfl_core.specs.declared.phase.Nap.TheVariants.{Awake};
 ghost use Rattle.shfl_park.specs.Parking.{parked, Spins};
 
 mod seen;
-#[cfg(test)]
-mod tests;
 
 use crate::seen::cleared;
 use shfl_core::asks::{is_moving, is_resting};

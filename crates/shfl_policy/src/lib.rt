@@ -16,6 +16,3 @@ pub use loading::load;
 pub use policy::Policy;
 pub use policy_source::PolicySource;
 pub use running::Running;
-
-#[cfg(test)]
-mod tests;

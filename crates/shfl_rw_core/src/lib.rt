@@ -5,9 +5,6 @@ ghost use Rattle.std.specs.Prelude.{◌≡◌, false};
 ghost use Rattle.shfl_core.specs.Plan.{parks};
 ghost use Rattle.shfl_core.specs.Waiting.{fresh};
 
-#[cfg(test)]
-mod tests;
-
 use shfl_core::asks::{
     acquire_row_in_place, ask_row, idle_pass, is_moving, release_row_in_place, watch_row,
 };

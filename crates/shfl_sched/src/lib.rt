@@ -16,8 +16,6 @@ mod rule;
 mod run;
 mod run_laws;
 mod schedule;
-#[cfg(test)]
-mod tests;
 
 pub use chooser::RuleChooser;
 pub use error::ScheduleError;

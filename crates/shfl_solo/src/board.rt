@@ -10,12 +10,12 @@ ghost use Rattle.shfl_line.specs.Steps.{Admits, after};
 ghost use Rattle.shfl_world.specs.LawfulLock.{line_event, shown_by, terms_of};
 ghost use Rattle.shfl_solo.specs.Steps.{MakesRow, BeginsShortRound};
 
-use crate::operation::{operate, read, site};
+use crate::operation::{operate, read};
 use crate::solo::Solo;
 use shfl_core::asks::{acquire_row, ask_row, is_moving, is_resting, release_row};
 use shfl_core::plans::plan_row;
 use shfl_core::rows::take_row;
-use shfl_core::words::index;
+use shfl_core::words::{index, site};
 use shfl_core::{Ask, Board, Nap, Phase, Word};
 use shfl_line::{LineState, Mode};
 use shfl_world::showing;

@@ -6,7 +6,5 @@ mod last_read;
 mod operation;
 mod rule;
 mod solo;
-#[cfg(test)]
-mod tests;
 
 pub use solo::Solo;

@@ -11,23 +11,6 @@ use shfl_core::words::index;
 use shfl_core::{Access, PassState, Rules, Word};
 use shfl_table::perform;
 
-/// The word that the operation touches.
-pub fn site(access: Access) -> Word
-    ensures { result ≡ words.site access }
-{
-    match access {
-        Access::Load { w } => w,
-        Access::Store { w, v: _ } => w,
-        Access::Swap { w, v: _ } => w,
-        Access::CompareSwap { w, old: _, new: _ } => w,
-        Access::Or { w, v: _ } => w,
-        Access::And { w, v: _ } => w,
-        Access::Xor { w, v: _ } => w,
-        Access::Add { w, v: _ } => w,
-        Access::Sub { w, v: _ } => w,
-    }
-}
-
 /// Makes the operation that the pass has planned, and tells what it found, or, of a store, what it stored. The rules, the pass,
 /// where it stands and the choice serve the proof alone.
 #[inline(always)]

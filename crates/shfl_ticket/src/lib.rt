@@ -14,6 +14,3 @@ pub use boxes::boxed_each;
 pub use opening::open;
 pub use ticket::Ticket;
 pub use told::{ShflAsk, ShflVerdict, ShflWatch, ask_told, verdict_told, watch_told};
-
-#[cfg(test)]
-mod tests;

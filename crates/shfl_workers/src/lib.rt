@@ -9,16 +9,10 @@ mod empty_dir;
 mod policies;
 mod prevailing;
 mod run;
-#[cfg(test)]
-mod run_tests;
 mod rw_dir;
 mod shard_dir;
-#[cfg(test)]
-mod shards_tests;
 mod shared_dir;
 mod shares;
-#[cfg(test)]
-mod tests;
 mod worker;
 
 pub use activity::{Activity, join, run_all, take_apart};
@@ -26,7 +20,7 @@ pub use attaching::{Attaching, copies_of};
 pub use chooser::UsingChooser;
 pub use policies::{load_all, load_one};
 pub use prevailing::do_writes_prevail;
-pub use run::{Outcome, run_shards, run_trace};
+pub use run::{Outcome, run_on, run_shards, run_trace};
 pub use shared_dir::SharedDir;
 pub use shares::shares_of;
 pub use worker::work;

@@ -63,8 +63,9 @@ fn open_registry(
     Ok((registry, Attaching { publisher, copies }, users))
 }
 
-/// Runs a trace by a worker in a thread for each of its workers, on a directory behind any lock.
-pub(crate) fn run_on<D: SharedDir + Sync, G: Gate + Sync, R: Threads + Wait + Sync>(
+/// Runs a trace by a worker in a thread for each of its workers, on a directory behind the lock that `D` is. Worker 0 publishes each policy
+/// that it attaches at its place among its calls. All memory for the workers is taken before they start.
+pub fn run_on<D: SharedDir + Sync, G: Gate + Sync, R: Threads + Wait + Sync>(
     rt: &R,
     alloc: Global,
     trace: &Trace,

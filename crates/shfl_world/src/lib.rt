@@ -7,8 +7,6 @@ mod laws;
 mod phases;
 pub mod showing;
 mod sight;
-#[cfg(test)]
-mod tests;
 mod world;
 
 pub use laws::{every_move_of_a_world, every_round_of_a_world, what_a_world_shows};

@@ -15,8 +15,6 @@ mod places;
 mod run;
 mod setup;
 mod steps;
-#[cfg(test)]
-mod tests;
 mod turns;
 mod waiter;
 

@@ -46,24 +46,6 @@ pub fn line_of(layout: Layout, word: Word) -> usize
     }
 }
 
-/// The word that the operation touches.
-#[inline(always)]
-pub fn site(access: Access) -> Word
-    ensures { result ≡ words.site access }
-{
-    match access {
-        Access::Load { w } => w,
-        Access::Store { w, v: _ } => w,
-        Access::Swap { w, v: _ } => w,
-        Access::CompareSwap { w, old: _, new: _ } => w,
-        Access::Or { w, v: _ } => w,
-        Access::And { w, v: _ } => w,
-        Access::Xor { w, v: _ } => w,
-        Access::Add { w, v: _ } => w,
-        Access::Sub { w, v: _ } => w,
-    }
-}
-
 /// Whether the operation only reads.
 #[inline(always)]
 pub fn is_load(access: Access) -> bool

@@ -11,12 +11,13 @@ use crate::clock::{later, plus, times};
 use crate::counts::{count_access, count_step};
 use crate::draws::think;
 use crate::lines::touch;
-use crate::places::{core_at, is_load, line_at, line_of, put_line, rung, site};
+use crate::places::{core_at, is_load, line_at, line_of, put_line, rung};
 use crate::setup::{Costs, PASSES, Setup};
 use crate::turns::{Stand, Turn, put_stand, stand_at, wake_line};
 use crate::waiter::AnyWaiter;
 use shfl_core::asks::{ask_row, is_resting};
 use shfl_core::plans::plan_row;
+use shfl_core::words::site;
 use shfl_core::{Access, Ask, Nap, PassState, Phase, PlainWorld};
 
 /// A step that was made: where the pass stood before and after, what it asked, and its operation.

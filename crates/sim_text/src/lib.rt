@@ -11,8 +11,6 @@ mod passes;
 mod policies;
 mod read;
 mod setup;
-#[cfg(test)]
-mod tests;
 mod words;
 
 pub use error::SetupError;

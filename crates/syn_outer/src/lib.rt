@@ -6,8 +6,6 @@ mod memory_sinks;
 mod memory_sources;
 mod standard;
 mod streams;
-#[cfg(test)]
-mod tests;
 mod whole;
 
 pub use gating::{Gate, OpenGate, Point};

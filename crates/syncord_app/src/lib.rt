@@ -3,8 +3,6 @@
 
 mod commands;
 mod takers;
-#[cfg(test)]
-mod tests;
 mod threads;
 mod top;
 

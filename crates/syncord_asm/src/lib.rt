@@ -5,7 +5,5 @@ mod assembling;
 mod listing;
 mod run;
 mod slots;
-#[cfg(test)]
-mod tests;
 
 pub use run::{run_asm, run_disasm};

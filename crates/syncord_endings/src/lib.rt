@@ -3,8 +3,6 @@
 
 mod ending;
 mod telling;
-#[cfg(test)]
-mod tests;
 mod work;
 
 pub use ending::{Ending, Refusal};

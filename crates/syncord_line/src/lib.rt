@@ -4,7 +4,5 @@
 mod line;
 mod locks;
 mod run;
-#[cfg(test)]
-mod tests;
 
 pub use run::run_line;

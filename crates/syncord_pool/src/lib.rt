@@ -4,8 +4,6 @@
 mod outcome;
 mod report;
 mod run;
-#[cfg(test)]
-mod tests;
 
 pub use outcome::PoolRun;
 pub use run::run_pool;

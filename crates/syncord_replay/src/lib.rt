@@ -5,10 +5,6 @@ mod bulk;
 mod outcome;
 mod replay;
 mod run;
-#[cfg(test)]
-mod serial;
-#[cfg(test)]
-mod tests;
 mod words;
 
 pub use bulk::run_bulk;

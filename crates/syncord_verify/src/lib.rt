@@ -4,8 +4,6 @@
 mod program;
 mod report;
 mod run;
-#[cfg(test)]
-mod tests;
 
 pub use program::program_in;
 pub use run::run_verify;

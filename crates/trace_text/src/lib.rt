@@ -4,8 +4,6 @@
 mod call_list;
 mod calls;
 mod error;
-#[cfg(test)]
-mod generated_tests;
 mod generator;
 mod laws;
 mod numbering;
@@ -15,8 +13,6 @@ mod renumbering;
 mod reports;
 mod shape;
 mod spelled;
-#[cfg(test)]
-mod tests;
 mod totals;
 mod trace;
 mod words;

@@ -12,40 +12,39 @@ use Rattle.name_order.proofs.ordered.put_in_order.Goals as goal
 pub each_once-requires-clause-within : goal.each_once-requires-clause-within
 each_once-requires-clause-within c =
     let names = map (λ n. n.now) c.args.names.now in
-    rw c.as_slice.ensures.value (placed-within names c.sort_unstable.new.self.items (length c.args.names.now) (sym (length-map c.args.names.now (λ n. n.now)))
-    (placed-permuted names c.in_ok-all.all.items c.sort_unstable.new.self.items c.sort_unstable.ensures.permutation c.in_ok-all.ensures.placed))
+    placed-within names c.sort_unstable.new.self.items (length c.args.names.now) (sym (length-map c.args.names.now (λ n. n.now)))
+    (placed-permuted names c.in_ok-all.all.items c.sort_unstable.new.self.items c.sort_unstable.ensures.permutation c.in_ok-all.ensures.placed)
 
 pub each_once-requires-clause-headed : goal.each_once-requires-clause-headed
 each_once-requires-clause-headed c =
-    rw c.as_slice.ensures.value (All-permutation IsHeaded c.in_ok-all.all.items c.sort_unstable.new.self.items c.sort_unstable.ensures.permutation c.in_ok-all.ensures.headed)
+    let headed = c.in_ok-all.ensures.headed in
+    (headed.0, All-permutation (IsHeaded headed.0) c.in_ok-all.all.items c.sort_unstable.new.self.items c.sort_unstable.ensures.permutation headed.1)
 
 pub each_once-requires-clause-apart : goal.each_once-requires-clause-apart
 each_once-requires-clause-apart c =
     let names = map (λ n. n.now) c.args.names.now in
-    rw c.as_slice.ensures.value (placed-apart names c.sort_unstable.new.self.items
-    (placed-permuted names c.in_ok-all.all.items c.sort_unstable.new.self.items c.sort_unstable.ensures.permutation c.in_ok-all.ensures.placed))
+    placed-apart names c.sort_unstable.new.self.items
+    (placed-permuted names c.in_ok-all.all.items c.sort_unstable.new.self.items c.sort_unstable.ensures.permutation c.in_ok-all.ensures.placed)
 
 pub each_once-requires-clause-few : goal.each_once-requires-clause-few
-each_once-requires-clause-few c = rw c.as_slice.ensures.value (omega (arith, length_permutation c.in_ok-all.all.items c.sort_unstable.new.self.items c.sort_unstable.ensures.permutation, c.in_ok-all.ensures.many, c.requires))
+each_once-requires-clause-few c = omega (arith, length_permutation c.in_ok-all.all.items c.sort_unstable.new.self.items c.sort_unstable.ensures.permutation, c.in_ok-all.ensures.many, c.requires)
 
 pub returns-clause-same : goal.returns-clause-same
 returns-clause-same c =
     let names = map (λ n. n.now) c.args.names.now in
-    let placed = placed-permuted names c.in_ok-all.all.items c.sort_unstable.new.self.items c.sort_unstable.ensures.permutation c.in_ok-all.ensures.placed in
+    let sorted = c.sort_unstable.new.self.items in
+    let placed = placed-permuted names c.in_ok-all.all.items sorted c.sort_unstable.ensures.permutation c.in_ok-all.ensures.placed in
     ok_then c.each_once.result
-    (λ o. SameMembers (map (λ (p : Placed). p.name.now) c.as_slice.result.now) (map (λ n. n.items) o.names.items))
+    (λ o. SameMembers (map (λ (p : Placed). p.name.items) sorted) (map (λ n. n.items) o.names.items))
     (λ o. SameMembers names (map (λ n. n.items) o.names.items))
-    (λ o h n.
-    let s = placed-same names c.sort_unstable.new.self.items placed n in
-    let t : SameMembers (map (λ (p : Placed). p.name.now) c.sort_unstable.new.self.items) (map (λ n. n.items) o.names.items) = rw c.as_slice.ensures.value at h in
-    (λ x. (t n).0 (s.0 x), λ x. s.1 ((t n).1 x)))
+    (λ o t n. (let s = placed-same names sorted placed n in (λ x. (t n).0 (s.0 x), λ x. s.1 ((t n).1 x))))
     c.each_once.ensures.same
 
 pub returns-clause-few : goal.returns-clause-few
 returns-clause-few c =
-    let long : length c.as_slice.result.now ≡ length c.args.names.now = rw c.as_slice.ensures.value (length_permutation c.in_ok-all.all.items c.sort_unstable.new.self.items c.sort_unstable.ensures.permutation ∙ c.in_ok-all.ensures.many) in
+    let long : length c.sort_unstable.new.self.items ≡ length c.args.names.now = length_permutation c.in_ok-all.all.items c.sort_unstable.new.self.items c.sort_unstable.ensures.permutation ∙ c.in_ok-all.ensures.many in
     ok_then c.each_once.result
-    (λ o. length o.names.items ≤ length c.as_slice.result.now)
+    (λ o. length o.names.items ≤ length c.sort_unstable.new.self.items)
     (λ o. length o.names.items ≤ length c.args.names.now)
     (λ o h. omega (arith, h, long))
     c.each_once.ensures.few
@@ -53,12 +52,11 @@ returns-clause-few c =
 pub returns-clause-places : goal.returns-clause-places
 returns-clause-places c =
     let names = map (λ n. n.now) c.args.names.now in
-    let placed = placed-permuted names c.in_ok-all.all.items c.sort_unstable.new.self.items c.sort_unstable.ensures.permutation c.in_ok-all.ensures.placed in
+    let sorted = c.sort_unstable.new.self.items in
+    let placed = placed-permuted names c.in_ok-all.all.items sorted c.sort_unstable.ensures.permutation c.in_ok-all.ensures.placed in
     ok_both c.each_once.result
     (λ o. length o.places.items ≡ length c.args.names.now)
-    (λ o. All (IsTold (map (λ n. n.items) o.names.items) o.places.items) c.as_slice.result.now)
+    (λ o. All (IsTold (map (λ n. n.items) o.names.items) o.places.items) sorted)
     (λ o. ArePlaces names (map (λ n. n.items) o.names.items) o.places.items)
-    (λ o many told.
-    let all : All (IsTold (map (λ n. n.items) o.names.items) o.places.items) c.sort_unstable.new.self.items = rw c.as_slice.ensures.value at told in
-    told-places names (map (λ n. n.items) o.names.items) c.sort_unstable.new.self.items o.places.items (many ∙ sym (length-map c.args.names.now (λ n. n.now))) placed all)
+    (λ o many told. told-places names (map (λ n. n.items) o.names.items) sorted o.places.items (many ∙ sym (length-map c.args.names.now (λ n. n.now))) placed told)
     c.each_once.ensures.many c.each_once.ensures.told

@@ -1,9 +1,0 @@
-use Rattle.std.proofs.Common.{◌≡◌, All, vec_len}
-use Rattle.dir_table.specs.Meanings.{IsAdmitted}
-use Rattle.call_pool.proofs.tests.threads.makes.Given as goal
-
-abbrev pub invariant-loop-name : goal.invariant-loop-name
-invariant-loop-name l = record {
-  len : vec_len l.calls ≡ l.name;
-  admitted : All (IsAdmitted 4096) l.calls.items;
-}

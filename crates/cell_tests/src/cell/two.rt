@@ -1,0 +1,223 @@
+//! Two passes whose calls overlap.
+ghost use Rattle.std.specs.Prelude.{◌≡◌, ◌<◌, All, [], IfOk};
+
+use super::marks::TwoMarks;
+use super::register::Register;
+use shfl_cell::{CellPass, ShflCell};
+use shfl_line::{Answer, Attr, Chooser, Form, Never, NoMemory};
+use std::alloc::Global;
+use std::sync::Wait;
+use std::sync::atomic::{AtomicU64, Ordering};
+use std::test::Fail;
+use std::thread;
+use std::thread::Threads;
+
+const ATTR: Attr = Attr {
+    socket: 0,
+    prio: 0,
+    class: 0,
+    kind: 0,
+};
+
+/// A policy that keeps its answers, which are no.
+#[derive(Drop)]
+struct Recorder {
+    answers: Vec<Answer>,
+    lost: bool,
+    asking: bool,
+}
+
+impl Chooser for Recorder {
+    ghost use Rattle.std.specs.Prelude.{List, Some, None, if◌then◌else◌};
+
+    ghost home = { λ _. [] };
+
+    ghost in_round = { λ s. s.asking };
+
+    ghost told = { λ s. if s.lost then None else Some s.answers.items };
+
+    fn begin<Rt: Wait>(&mut self, _rt: &Rt) {
+        self.asking = true;
+    }
+
+    fn skip(&mut self, anchor: &Attr, batch: u16) -> bool {
+        let answer = Answer {
+            anchor: *anchor,
+            waiter: None,
+            batch,
+            answer: false,
+        };
+        match self.answers.push(answer) {
+            Ok(()) => {}
+            Err(_) => self.lost = true,
+        }
+        false
+    }
+
+    fn should(&mut self, anchor: &Attr, waiter: &Attr, batch: u16) -> bool {
+        let answer = Answer {
+            anchor: *anchor,
+            waiter: Some(*waiter),
+            batch,
+            answer: false,
+        };
+        match self.answers.push(answer) {
+            Ok(()) => {}
+            Err(_) => self.lost = true,
+        }
+        false
+    }
+
+    fn end(&mut self) {
+        self.asking = false;
+    }
+}
+
+/// What two calls told.
+#[derive(Drop)]
+struct Told {
+    // The word that a try found, the place of the next one, and its reply.
+    word: AtomicU64,
+    place: AtomicU64,
+    reply: AtomicU64,
+    // How many answers the policy of pass 1 gave, and the batch of the last that was no to a skip.
+    answers: AtomicU64,
+    batch: AtomicU64,
+}
+
+impl Told {
+    fn new() -> Told {
+        Told {
+            word: AtomicU64::new(0),
+            place: AtomicU64::new(0),
+            reply: AtomicU64::new(0),
+            answers: AtomicU64::new(0),
+            batch: AtomicU64::new(0),
+        }
+    }
+
+    fn keep(&self, answers: &[Answer]) {
+        self.answers.store(answers.len() as u64, Ordering::SeqCst);
+        if let Some(last) = answers.last() {
+            if last.waiter.is_none() && !last.answer {
+                self.batch.store(u64::from(last.batch), Ordering::SeqCst);
+            }
+        }
+    }
+}
+
+// Pass 0 calls while pass 1 tries, and tries again when the lock is free.
+fn overlap<R: Wait>(
+    rt: &R,
+    cell: &ShflCell<Register>,
+    gate: &TwoMarks,
+    told: &Told,
+    pass: &mut CellPass<Register>,
+)
+    requires cell { pass.old.cell ≡ cell.now.id }
+    requires left { 1 < pass.old.left }
+{
+    if pass.number() == 0 {
+        let _ = cell.apply(rt, pass, &mut Never, gate, &7);
+        return;
+    }
+    gate.held.wait(1, &gate.late);
+    if let Err(busy) = cell.try_apply(pass, &8) {
+        told.word.store(busy.word, Ordering::SeqCst);
+    }
+    gate.waited.set();
+    gate.freed.wait(1, &gate.late);
+    if let Ok((reply, receipt)) = cell.try_apply(pass, &9) {
+        told.reply.store(u64::from(reply), Ordering::SeqCst);
+        told.place.store(receipt.place, Ordering::SeqCst);
+    }
+}
+
+// Pass 1 waits behind pass 0, and its policy keeps its answers.
+fn wait_behind<R: Wait>(
+    rt: &R,
+    alloc: Global,
+    cell: &ShflCell<Register>,
+    gate: &TwoMarks,
+    told: &Told,
+    pass: &mut CellPass<Register>,
+)
+    requires cell { pass.old.cell ≡ cell.now.id }
+    requires left { 0 < pass.old.left }
+{
+    let mut policy = Recorder {
+        answers: Vec::new(alloc),
+        lost: false,
+        asking: false,
+    };
+    let _ = cell.apply(rt, pass, &mut policy, gate, &pass.number());
+    if pass.number() == 1 && !policy.lost {
+        told.keep(&policy.answers);
+    }
+}
+
+fn overlap_all<R: Threads + Wait + Sync>(
+    rt: &R,
+    cell: &ShflCell<Register>,
+    gate: &TwoMarks,
+    told: &Told,
+    passes: &mut [CellPass<Register>],
+)
+    requires cell { All (λ p. (p.cell ≡ cell.now.id) × (1 < p.left)) passes.old }
+{
+    let job = |_place: usize, pass: &mut CellPass<Register>|
+        requires { (pass.now.cell ≡ cell.now.id) × (1 < pass.now.left) }
+    {
+        overlap(rt, cell, gate, told, pass);
+    };
+    thread::for_each_mut(rt, passes, 2, &job);
+}
+
+fn wait_all<R: Threads + Wait + Sync>(
+    rt: &R,
+    alloc: Global,
+    cell: &ShflCell<Register>,
+    gate: &TwoMarks,
+    told: &Told,
+    passes: &mut [CellPass<Register>],
+)
+    requires cell { All (λ p. (p.cell ≡ cell.now.id) × (1 < p.left)) passes.old }
+{
+    let job = |_place: usize, pass: &mut CellPass<Register>|
+        requires { (pass.now.cell ≡ cell.now.id) × (1 < pass.now.left) }
+    {
+        wait_behind(rt, alloc, cell, gate, told, pass);
+    };
+    thread::for_each_mut(rt, passes, 2, &job);
+}
+
+// A cell of two passes, with two calls each.
+fn two_passes(alloc: Global) -> Result<(ShflCell<Register>, Vec<CellPass<Register>>), NoMemory>
+    ensures { IfOk result (λ r. All (λ p. (p.cell ≡ r.0.id) × (1 < p.left)) r.1.items) }
+{
+    let register = Register { value: 0, spare: 4 };
+    ShflCell::<Register>::open(alloc, register, &[ATTR, ATTR], Form::Spin, 1024, &[2, 2])
+}
+
+#[test]
+fn a_try_beside_a_holder_is_told_the_lock_word(rt: HostRuntime) -> Result<(), Fail> {
+    let (cell, mut passes) = two_passes(rt.alloc())?;
+    let (gate, told) = (TwoMarks::new(1), Told::new());
+    overlap_all(&rt, &cell, &gate, &told, &mut passes);
+    assert_eq!(rt; gate.late.count(), 0);
+    assert_eq!(rt; told.word.load(Ordering::SeqCst), 1);
+    assert_eq!(rt; told.place.load(Ordering::SeqCst), 1);
+    assert_eq!(rt; told.reply.load(Ordering::SeqCst), 7);
+    Ok(())
+}
+
+#[test]
+fn the_policy_of_a_waiter_is_asked_once_whether_to_skip(rt: HostRuntime) -> Result<(), Fail> {
+    let (cell, mut passes) = two_passes(rt.alloc())?;
+    let (gate, told) = (TwoMarks::new(2), Told::new());
+    wait_all(&rt, rt.alloc(), &cell, &gate, &told, &mut passes);
+    assert_eq!(rt; gate.late.count(), 0);
+    assert_eq!(rt; told.answers.load(Ordering::SeqCst), 1);
+    assert_eq!(rt; told.batch.load(Ordering::SeqCst), 1);
+    Ok(())
+}

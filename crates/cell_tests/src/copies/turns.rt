@@ -1,0 +1,60 @@
+//! Two passes that call in turn, on one thread.
+ghost use Rattle.std.specs.Prelude.{◌≡◌, ◌<◌, All, length};
+
+use super::register::{LOOK, Register, open};
+use rw_cell::{RwCell, RwPass};
+use shfl_line::{Attr, Form, Never};
+use std::sync::Wait;
+use std::test::Fail;
+use syn_outer::OpenGate;
+
+const ATTR: Attr = Attr {
+    socket: 0,
+    prio: 0,
+    class: 0,
+    kind: 0,
+};
+
+// The first pass writes and the second reads: what each was answered, and at which place.
+fn write_and_read<Rt: Wait>(
+    rt: &Rt,
+    cell: &RwCell<Register>,
+    passes: &mut [RwPass<Register>],
+) -> [(u32, u64); 2]
+    requires two { length passes.old ≡ 2 }
+    requires cell { All (λ p. (p.cell ≡ cell.now.id) × (1 < p.left)) passes.old }
+{
+    let (before, wrote) = cell.write(rt, &mut passes[0], &mut Never, &OpenGate, &7);
+    let (value, read) = cell.read(rt, &mut passes[1], &mut Never, &OpenGate, &LOOK);
+    [(before, wrote.place), (value, read.place)]
+}
+
+// The same by tries.
+fn try_both(cell: &RwCell<Register>, passes: &mut [RwPass<Register>]) -> Option<[(u32, u64); 2]>
+    requires two { length passes.old ≡ 2 }
+    requires cell { All (λ p. (p.cell ≡ cell.now.id) × (1 < p.left)) passes.old }
+{
+    let Ok((before, wrote)) = cell.try_write(&mut passes[0], &7) else {
+        return None;
+    };
+    let Ok((value, read)) = cell.try_read(&mut passes[1], &LOOK) else {
+        return None;
+    };
+    Some([(before, wrote.place), (value, read.place)])
+}
+
+#[test]
+fn a_read_sees_the_write_of_another_pass(rt: HostRuntime) -> Result<(), Fail> {
+    let (cell, mut passes) = open(rt.alloc(), &[ATTR, ATTR], Form::RwPark, &[2, 2])?;
+    let told = write_and_read(&rt, &cell, &mut passes);
+    assert_eq!(rt; told, [(0, 0), (7, 1)]);
+    Ok(())
+}
+
+#[test]
+fn tries_at_a_free_lock_succeed(rt: HostRuntime) -> Result<(), Fail> {
+    let (cell, mut passes) = open(rt.alloc(), &[ATTR, ATTR], Form::Rw, &[2, 2])?;
+    assert_eq!(rt; try_both(&cell, &mut passes), Some([(0, 0), (7, 1)]));
+    assert_eq!(rt; passes[0].left(), 1);
+    Ok(())
+}

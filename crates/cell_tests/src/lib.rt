@@ -1,0 +1,7 @@
+//! Tests of the cells behind the lock, on one thread and on several.
+#![tactic(auto)]
+
+#[cfg(test)]
+mod cell;
+#[cfg(test)]
+mod copies;

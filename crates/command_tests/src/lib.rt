@@ -1,0 +1,25 @@
+//! Tests of the workers of a trace, and of each command from bytes to bytes.
+#![tactic(auto)]
+
+#[cfg(test)]
+mod asm;
+#[cfg(test)]
+mod choosers;
+#[cfg(test)]
+mod endings;
+#[cfg(test)]
+mod line;
+#[cfg(test)]
+mod pool;
+#[cfg(test)]
+mod replay;
+#[cfg(test)]
+mod serial;
+#[cfg(test)]
+mod shards;
+#[cfg(test)]
+mod threads;
+#[cfg(test)]
+mod verify;
+#[cfg(test)]
+mod words;

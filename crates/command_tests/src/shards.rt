@@ -1,0 +1,74 @@
+//! Traces that are run by threads with a lock for each directory.
+use crate::threads::{FOUR_WORKERS, wait_for, workers_of};
+use dir_table::DirReply;
+use shfl_workers::{Outcome, run_shards};
+use std::alloc::Global;
+use std::sync::Wait;
+use std::sync::atomic::{AtomicU64, Ordering};
+use std::test::Fail;
+use std::thread::Threads;
+use syn_outer::{Gate, OpenGate, Point};
+use trace_text::read_trace;
+
+// Two workers, each of whom makes a name in a directory of its own.
+const TWO_SHARDS: &[u8] =
+    b"syncord-trace 1\nworker 0 0 0 0\nworker 0 0 0 0\npolicy none - -\ncalls\n0 make 0 a\n1 make 1 a\n";
+
+/// Lets worker 0 hold its directory's lock until worker 1 has made its call in the other directory.
+#[derive(Drop)]
+struct ShardGate {
+    held: AtomicU64,
+    made: AtomicU64,
+    gave_up: AtomicU64,
+}
+
+impl Gate for ShardGate {
+    fn at<Rt: Wait>(&self, _rt: &Rt, worker: u32, point: Point) {
+        match (worker, point) {
+            (1, Point::BeforeCall) => wait_for(&self.held, 1, &self.gave_up),
+            (0, Point::Holding) => {
+                self.held.store(1, Ordering::SeqCst);
+                wait_for(&self.made, 1, &self.gave_up);
+            }
+            (1, Point::AfterCall) => self.made.store(1, Ordering::SeqCst),
+            _ => {}
+        }
+    }
+}
+
+// Runs the trace that the text is, behind the gate.
+fn run_text<G: Gate + Sync, R: Threads + Wait + Sync>(
+    rt: &R,
+    alloc: Global,
+    text: &[u8],
+    gate: &G,
+) -> Result<Outcome, Fail> {
+    let trace = read_trace(alloc, text)?;
+    Ok(run_shards(rt, alloc, &trace, gate)?)
+}
+
+#[test]
+fn two_shards(rt: HostRuntime) -> Result<(), Fail> {
+    let gate = ShardGate {
+        held: AtomicU64::new(0),
+        made: AtomicU64::new(0),
+        gave_up: AtomicU64::new(0),
+    };
+    let outcome = run_text(&rt, rt.alloc(), TWO_SHARDS, &gate)?;
+    let workers = workers_of(rt.alloc(), &outcome)?;
+    assert_eq!(&rt; gate.gave_up.load(Ordering::SeqCst), 0);
+    assert_eq!(&rt; workers.as_slice(), [1, 0].as_slice());
+    assert_eq!(&rt; outcome.dir.count(0), DirReply::Number(1));
+    assert_eq!(&rt; outcome.dir.count(1), DirReply::Number(1));
+    Ok(())
+}
+
+#[test]
+fn four_workers_share_shards(rt: HostRuntime) -> Result<(), Fail> {
+    let outcome = run_text(&rt, rt.alloc(), FOUR_WORKERS, &OpenGate)?;
+    assert_eq!(&rt; outcome.history.len(), 12);
+    assert_eq!(&rt; outcome.versions.rows(), [(1, 1), (2, 0)].as_slice());
+    assert_eq!(&rt; outcome.dir.count(5), DirReply::Number(1));
+    assert_eq!(&rt; outcome.dir.count(6), DirReply::Number(0));
+    Ok(())
+}

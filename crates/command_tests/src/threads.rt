@@ -1,0 +1,244 @@
+//! Traces that are run by threads.
+use dir_table::{Dir, DirReply};
+use rw_cell::RwCell;
+use shfl_workers::{Outcome, do_writes_prevail, run_on, run_trace};
+use std::alloc::Global;
+use std::process::Abort;
+use std::sync::Wait;
+use std::sync::atomic::{AtomicU64, Ordering};
+use std::test::Fail;
+use std::thread;
+use std::thread::Threads;
+use syn_outer::{Gate, OpenGate, Point};
+use trace_text::read_trace;
+
+// How often a test looks at its counters before it gives up.
+const LOOKS: u64 = 100_000_000;
+
+// Five workers on the sockets 0, 0, 1, 0 and 1; the first policy prefers waiters of the own socket.
+const GROUPED: &[u8] =
+    b"syncord-trace 1\nworker 0 0 0 0\nworker 0 0 0 0\nworker 1 0 0 0\nworker 0 0 0 0\nworker 1 0 0 0\npolicy socket 61120000000000006111040000000000b7000000010000001d21010000000000b7000000000000009500000000000000 -\ncalls\n0 make 0 a\n1 make 1 a\n2 make 2 a\n3 make 3 a\n4 make 4 a\n";
+
+// The same with that policy attached by worker 0, before its call.
+const ATTACHED: &[u8] =
+    b"syncord-trace 1\nworker 0 0 0 0\nworker 0 0 0 0\nworker 1 0 0 0\nworker 0 0 0 0\nworker 1 0 0 0\npolicy none - -\npolicy socket 61120000000000006111040000000000b7000000010000001d21010000000000b7000000000000009500000000000000 -\ncalls\n0 attach socket\n0 make 0 a\n1 make 1 a\n2 make 2 a\n3 make 3 a\n4 make 4 a\n";
+
+/// Four workers on two sockets, each of whom makes a name, looks for it and counts; worker 3 drops what it made.
+pub(crate) const FOUR_WORKERS: &[u8] =
+    b"syncord-trace 1\nworker 0 0 0 0\nworker 0 0 0 0\nworker 1 0 0 0\nworker 1 0 0 0\npolicy none - -\npolicy socket 61120000000000006111040000000000b7000000010000001d21010000000000b7000000000000009500000000000000 -\ncalls\n0 attach socket\n0 make 5 a\n0 find 5 a\n0 attach none\n0 count 5\n1 make 5 a\n1 find 5 a\n1 next 5\n2 make 5 a\n2 find 5 a\n2 count 6\n3 make 6 b\n3 drop 6 b\n3 count 6\n";
+
+// Two workers who look for a name that nobody makes.
+const TWO_READERS: &[u8] =
+    b"syncord-trace 1\nworker 0 0 0 0\nworker 0 0 0 0\npolicy none - -\ncalls\n0 find 0 a\n1 find 0 a\n";
+
+/// Lets worker 0 hold the lock until the others have queued in their order and worker 1 has ended its round.
+#[derive(Drop)]
+struct QueueGate {
+    held: AtomicU64,
+    queued: [AtomicU64; 5],
+    gave_up: AtomicU64,
+}
+
+/// Waits until the counter is that high, or until someone gave up.
+pub(crate) fn wait_for(counter: &AtomicU64, least: u64, gave_up: &AtomicU64) {
+    for _ in 0..LOOKS {
+        if counter.load(Ordering::SeqCst) >= least || gave_up.load(Ordering::SeqCst) > 0 {
+            return;
+        }
+        thread::yield_now();
+    }
+    gave_up.store(1, Ordering::SeqCst);
+}
+
+impl QueueGate {
+    // Waits until the counter is that high, or until someone gave up.
+    fn wait(&self, counter: &AtomicU64, least: u64) {
+        wait_for(counter, least, &self.gave_up);
+    }
+}
+
+impl Gate for QueueGate {
+    fn at<Rt: Wait>(&self, _rt: &Rt, worker: u32, point: Point) {
+        match (worker, point) {
+            (1, Point::BeforeCall) => self.wait(&self.held, 1),
+            (2, Point::BeforeCall) => self.wait(&self.queued[1], 1),
+            (3, Point::BeforeCall) => self.wait(&self.queued[2], 1),
+            (4, Point::BeforeCall) => self.wait(&self.queued[3], 1),
+            (0, Point::Holding) => {
+                self.held.store(1, Ordering::SeqCst);
+                self.wait(&self.queued[1], 2);
+            }
+            (1, Point::Queued) => {
+                if self.queued[1].fetch_add(1, Ordering::SeqCst) == 0 {
+                    self.wait(&self.queued[2], 1);
+                    self.wait(&self.queued[3], 1);
+                    self.wait(&self.queued[4], 1);
+                }
+            }
+            (2, Point::Queued) => {
+                self.queued[2].fetch_add(1, Ordering::SeqCst);
+            }
+            (3, Point::Queued) => {
+                self.queued[3].fetch_add(1, Ordering::SeqCst);
+            }
+            (4, Point::Queued) => {
+                self.queued[4].fetch_add(1, Ordering::SeqCst);
+            }
+            _ => {}
+        }
+    }
+}
+
+fn queue_gate() -> QueueGate {
+    QueueGate {
+        held: AtomicU64::new(0),
+        queued: [
+            AtomicU64::new(0),
+            AtomicU64::new(0),
+            AtomicU64::new(0),
+            AtomicU64::new(0),
+            AtomicU64::new(0),
+        ],
+        gave_up: AtomicU64::new(0),
+    }
+}
+
+// Runs the trace that the text is, behind the gate.
+fn run_text<G: Gate + Sync, R: Threads + Wait + Sync>(
+    rt: &R,
+    alloc: Global,
+    text: &[u8],
+    gate: &G,
+) -> Result<Outcome, Fail> {
+    let trace = read_trace(alloc, text)?;
+    Ok(run_trace(rt, alloc, &trace, gate)?)
+}
+
+// The same with a copy of the directory for each worker, whatever the calls are.
+fn run_text_on_copies<G: Gate + Sync, R: Threads + Wait + Sync>(
+    rt: &R,
+    alloc: Global,
+    text: &[u8],
+    gate: &G,
+) -> Result<Outcome, Fail> {
+    let trace = read_trace(alloc, text)?;
+    Ok(run_on::<RwCell<Dir>, G, R>(rt, alloc, &trace, gate)?)
+}
+
+/// The workers of a history, in its order.
+pub(crate) fn workers_of(alloc: Global, outcome: &Outcome) -> Result<Vec<u32>, Fail> {
+    let mut workers = Vec::new(alloc);
+    for entry in outcome.history.as_slice() {
+        workers.push(entry.worker)?;
+    }
+    Ok(workers)
+}
+
+// Nobody gave up, the queue was ordered by the policy that prefers the own socket, and so much was published.
+fn check_order<R: Abort>(
+    rt: &R,
+    alloc: Global,
+    gate: &QueueGate,
+    outcome: &Outcome,
+    published: &[(u64, u32)],
+) -> Result<(), Fail> {
+    let workers = workers_of(alloc, outcome)?;
+    assert_eq!(rt; gate.gave_up.load(Ordering::SeqCst), 0);
+    assert_eq!(rt; workers.as_slice(), [0, 1, 3, 2, 4].as_slice());
+    assert_eq!(rt; outcome.versions.rows(), published);
+    Ok(())
+}
+
+#[test]
+fn grouped_order(rt: HostRuntime) -> Result<(), Fail> {
+    let gate = queue_gate();
+    let outcome = run_text(&rt, rt.alloc(), GROUPED, &gate)?;
+    check_order(&rt, rt.alloc(), &gate, &outcome, &[])
+}
+
+#[test]
+fn attached_order(rt: HostRuntime) -> Result<(), Fail> {
+    let gate = queue_gate();
+    let outcome = run_text(&rt, rt.alloc(), ATTACHED, &gate)?;
+    check_order(&rt, rt.alloc(), &gate, &outcome, &[(1, 1)])
+}
+
+#[test]
+fn grouped_order_on_copies(rt: HostRuntime) -> Result<(), Fail> {
+    let gate = queue_gate();
+    let outcome = run_text_on_copies(&rt, rt.alloc(), GROUPED, &gate)?;
+    check_order(&rt, rt.alloc(), &gate, &outcome, &[])
+}
+
+#[test]
+fn attached_order_on_copies(rt: HostRuntime) -> Result<(), Fail> {
+    let gate = queue_gate();
+    let outcome = run_text_on_copies(&rt, rt.alloc(), ATTACHED, &gate)?;
+    check_order(&rt, rt.alloc(), &gate, &outcome, &[(1, 1)])
+}
+
+/// Lets each of two workers hold the lock until the other one holds it too.
+#[derive(Drop)]
+struct ReadersGate {
+    held: [AtomicU64; 2],
+    gave_up: AtomicU64,
+}
+
+impl Gate for ReadersGate {
+    fn at<Rt: Wait>(&self, _rt: &Rt, worker: u32, point: Point) {
+        match (worker, point) {
+            (0, Point::Holding) => {
+                self.held[0].store(1, Ordering::SeqCst);
+                wait_for(&self.held[1], 1, &self.gave_up);
+            }
+            (1, Point::Holding) => {
+                self.held[1].store(1, Ordering::SeqCst);
+                wait_for(&self.held[0], 1, &self.gave_up);
+            }
+            _ => {}
+        }
+    }
+}
+
+#[test]
+fn readers_hold_at_once(rt: HostRuntime) -> Result<(), Fail> {
+    let gate = ReadersGate {
+        held: [AtomicU64::new(0), AtomicU64::new(0)],
+        gave_up: AtomicU64::new(0),
+    };
+    let outcome = run_text(&rt, rt.alloc(), TWO_READERS, &gate)?;
+    assert_eq!(&rt; gate.gave_up.load(Ordering::SeqCst), 0);
+    assert_eq!(&rt; outcome.history.len(), 2);
+    assert_eq!(&rt; outcome.dir.count(0), DirReply::Number(0));
+    Ok(())
+}
+
+#[test]
+fn writes_of_four_workers_prevail(rt: HostRuntime) -> Result<(), Fail> {
+    let alloc = rt.alloc();
+    let four = read_trace(alloc, FOUR_WORKERS)?;
+    assert_eq!(&rt; do_writes_prevail(&four), true);
+    let readers = read_trace(alloc, TWO_READERS)?;
+    assert_eq!(&rt; do_writes_prevail(&readers), false);
+    Ok(())
+}
+
+#[test]
+fn four_workers_have_copies(rt: HostRuntime) -> Result<(), Fail> {
+    let outcome = run_text_on_copies(&rt, rt.alloc(), FOUR_WORKERS, &OpenGate)?;
+    assert_eq!(&rt; outcome.history.len(), 12);
+    assert_eq!(&rt; outcome.versions.rows(), [(1, 1), (2, 0)].as_slice());
+    assert_eq!(&rt; outcome.dir.count(5), DirReply::Number(1));
+    assert_eq!(&rt; outcome.dir.count(6), DirReply::Number(0));
+    Ok(())
+}
+
+#[test]
+fn four_workers_share_a_directory(rt: HostRuntime) -> Result<(), Fail> {
+    let outcome = run_text(&rt, rt.alloc(), FOUR_WORKERS, &OpenGate)?;
+    assert_eq!(&rt; outcome.history.len(), 12);
+    assert_eq!(&rt; outcome.versions.rows(), [(1, 1), (2, 0)].as_slice());
+    assert_eq!(&rt; outcome.dir.count(5), DirReply::Number(1));
+    assert_eq!(&rt; outcome.dir.count(6), DirReply::Number(0));
+    Ok(())
+}

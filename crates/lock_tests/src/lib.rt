@@ -1,0 +1,17 @@
+//! Tests of the lock: its line states, its machine over plain words, one seat of its shared words, tickets.
+#![tactic(auto)]
+
+#[cfg(test)]
+mod line_states;
+#[cfg(test)]
+mod one_seat;
+#[cfg(test)]
+mod parking_waiter;
+#[cfg(test)]
+mod plain_world;
+#[cfg(test)]
+mod shared_waiter;
+#[cfg(test)]
+mod tickets;
+#[cfg(test)]
+mod word_machine;

@@ -1,0 +1,71 @@
+//! Two callers.
+use shfl_core::{Access, Local, Nap, Phase, Waiter, Word};
+use shfl_line::{Attr, Mode};
+use shfl_park::Parked;
+use std::test::Fail;
+
+const PLAIN: Attr = Attr {
+    socket: 0,
+    prio: 0,
+    class: 0,
+    kind: 0,
+};
+
+#[test]
+fn a_waiter_in_no_batch_dozes(rt: HostRuntime) -> Result<(), Fail> {
+    let mut waiter = Parked::new(Local::new(2, PLAIN, 1024));
+    let begun = waiter.acquire(Mode::Write);
+    assert!(rt; begun);
+
+    // The lock is held, and pass 1 stands before it: lost, cleared, queued behind 1, linked, looked.
+    waiter.take(1, false);
+    waiter.take(0, false);
+    waiter.take(2, false);
+    waiter.take(0, false);
+    assert_eq!(rt; waiter.phase(), Phase::Look);
+    waiter.take(0, false);
+    assert_eq!(rt; waiter.nap(), Nap::Doze);
+    let announces = Access::Or {
+        w: Word::State(2),
+        v: 4,
+    };
+    assert_eq!(rt; waiter.plan(), announces);
+    waiter.take(0, false);
+    assert_eq!(rt; waiter.nap(), Nap::Hear);
+    Ok(())
+}
+
+#[test]
+fn a_holder_rings_the_successor_that_sleeps(rt: HostRuntime) -> Result<(), Fail> {
+    let mut waiter = Parked::new(Local::new(0, PLAIN, 1024));
+    let begun = waiter.acquire(Mode::Write);
+    assert!(rt; begun);
+
+    // The lock is held, and nobody waits: lost, cleared, queued, closed, and a round that is skipped.
+    waiter.take(1, false);
+    waiter.take(0, false);
+    waiter.take(0, false);
+    waiter.take(1, false);
+    waiter.take(0, true);
+    waiter.take(65536, false);
+
+    // Then it is free: seen, taken, and pass 2 stands behind, parked.
+    waiter.take(256, false);
+    waiter.take(256, false);
+    waiter.take(3, false);
+    assert_eq!(rt; waiter.phase(), Phase::Ready);
+    waiter.take(4, false);
+    assert_eq!(rt; waiter.nap(), Nap::Ring { whom: 2 });
+    let early = waiter.release();
+    assert!(rt; !early);
+    let rings = Access::Store {
+        w: Word::Bell(2),
+        v: 1,
+    };
+    assert_eq!(rt; waiter.plan(), rings);
+    waiter.take(0, false);
+    assert_eq!(rt; waiter.nap(), Nap::Awake);
+    let freed = waiter.release();
+    assert!(rt; freed);
+    Ok(())
+}

@@ -1,0 +1,15 @@
+//! Tests of programs and policies.
+#![tactic(auto)]
+
+#[cfg(test)]
+mod assembly;
+#[cfg(test)]
+mod instructions;
+#[cfg(test)]
+mod policies;
+#[cfg(test)]
+mod running;
+#[cfg(test)]
+mod verifying;
+#[cfg(test)]
+mod versions;

@@ -1,7 +1,0 @@
-use Rattle.std.proofs.Common.{rules, ap}
-use Rattle.shfl_line.specs.declared.events.Form.TheVariants.{Park}
-use Rattle.shfl_core.specs.Runner.{Lock}
-use Rattle.shfl_solo.proofs.tests.parked.Goals as goal
-
-pub new-requires-clause-plain : goal.new-requires-clause-plain
-new-requires-clause-plain c = ap (λ (l : Lock). l.rules.form) (c.in_ok-plain.ensures Park (search rules))

@@ -1,5 +1,0 @@
-use Rattle.shfl_line.specs.declared.events.Form.TheVariants.{RwPark}
-use Rattle.shfl_solo.proofs.tests.parked_and_shared.Given as goal
-
-abbrev pub ghost-open : goal.ghost-open
-ghost-open a = RwPark

@@ -1,5 +1,0 @@
-use Rattle.shfl_line.specs.declared.events.Form.TheVariants.{Spin}
-use Rattle.shfl_world.proofs.tests.open.Given as goal
-
-abbrev pub ghost-open : goal.ghost-open
-ghost-open a = Spin
