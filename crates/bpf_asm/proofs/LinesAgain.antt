@@ -26,7 +26,8 @@ use Rattle.doc_text.specs.Words.{HasNoBlank}
 use Rattle.bpf_asm.specs.declared.form.Form.{Form}
 use Rattle.bpf_asm.specs.declared.form.Form.TheVariants as form
 use Rattle.bpf_asm.specs.Disassembly.{operation_name, condition_name, width_name, load_name, signed_load_name, swap_name, wide_number, words_of}
-use Rattle.bpf_asm.specs.Faults.{◌>>=◌, both, found}
+use Rattle.bpf_isa.specs.Checks.{◌>>=◌}
+use Rattle.bpf_asm.specs.Faults.{both, found}
 use Rattle.bpf_asm.specs.Forms.{form_of}
 use Rattle.bpf_asm.specs.Operands.{Place}
 use Rattle.bpf_asm.specs.Statements.{Statement, jump, wide_slots, extension_named, swap_named, one_slot, of_form, line_says}

@@ -18,10 +18,11 @@ use Rattle.doc_text.specs.Words.{words, spaced, HasNoBlank}
 use Rattle.doc_text.proofs.Joining.{text_in-ended, words-spaced, plain-spaced, decimal-word}
 use Rattle.bpf_asm.specs.Assembly.{Line}
 use Rattle.bpf_asm.specs.Disassembly.{register_text, source_text, wide_number, words_of}
-use Rattle.bpf_asm.specs.Faults.{◌>>=◌}
+use Rattle.bpf_isa.specs.Checks.{◌>>=◌}
 use Rattle.bpf_asm.specs.Statements.{Statement, line_says, or_unfinished, line_in}
 use Rattle.bpf_isa.specs.Flow.{insn_at}
 use Rattle.bpf_isa.proofs.Raws.{Shape}
+use Rattle.bpf_isa.proofs.EncodedAgain.{small_bits, small_swap}
 use Rattle.doc_text.proofs.Joining.{pieces-ended}
 use Rattle.bpf_asm.specs.Assembly.{layout, lines_in}
 use Rattle.bpf_asm.specs.Disassembly.{disassembly}
@@ -48,19 +49,6 @@ short_word (negsuc n) f = let d = natural_word (suc n) (omega (arith, f.sfits)) 
 source_word : (o : Operand) → HasOperand o → IsWord (source_text o)
 source_word (operand.Reg n) le = register_word n le
 source_word (operand.Imm z) f = number_word z f
-
-small_bits : (w : Width) (bits : ℕ) → is_extended w bits ≡ true → bits ≤ 32
-small_bits width.W32 bits e = elim (or_cases (bits == 8) (bits == 16) e) [ inl a ↦ omega (arith, eqb-true bits 8 a) | inr a ↦ omega (arith, eqb-true bits 16 a) ]
-small_bits width.W64 bits e = elim (or_cases ((bits == 8) || (bits == 16)) (bits == 32) e) [
-  | inl b ↦ elim (or_cases (bits == 8) (bits == 16) b) [ inl a ↦ omega (arith, eqb-true bits 8 a) | inr a ↦ omega (arith, eqb-true bits 16 a) ]
-  | inr a ↦ omega (arith, eqb-true bits 32 a)
-]
-
-small_swap : (bits : ℕ) → ((bits == 16) || (bits == 32) || (bits == 64)) ≡ true → bits ≤ 64
-small_swap bits e = elim (or_cases ((bits == 16) || (bits == 32)) (bits == 64) e) [
-  | inl b ↦ elim (or_cases (bits == 16) (bits == 32) b) [ inl a ↦ omega (arith, eqb-true bits 16 a) | inr a ↦ omega (arith, eqb-true bits 32 a) ]
-  | inr a ↦ omega (arith, eqb-true bits 64 a)
-]
 
 words_good : (x : Insn) → HasFields x → AllByRecursion IsWord (words_of x)
 words_good (insn.Alu w op dst src) f = let b = alu_begins w op in ((b.plain, b.whole), (register_word dst f.0, (source_word src f.1, tt)))

@@ -25,7 +25,8 @@ use Rattle.bpf_asm.specs.declared.form.Form.{Form}
 use Rattle.bpf_asm.specs.declared.form.Form.TheVariants as form
 use Rattle.bpf_asm.specs.Assembly.{Line, layout, into_half, first_offset, code_at, slots_in, in_front, followed, slots_from, some_slots, lines_in, assembly}
 use Rattle.bpf_asm.specs.Disassembly.{register_text, source_text, wide_number, words_of, line_text, disassembly}
-use Rattle.bpf_asm.specs.Faults.{◌>>=◌, both}
+use Rattle.bpf_isa.specs.Checks.{◌>>=◌}
+use Rattle.bpf_asm.specs.Faults.{both}
 use Rattle.bpf_asm.specs.Forms.{form_of}
 use Rattle.bpf_asm.specs.Operands.{short_in, long_in, wide_in, register_in, source_in, is_name, Place, place_in}
 use Rattle.bpf_asm.specs.Plain.{HasNoName, HasNoNames}

@@ -5,7 +5,8 @@ use Rattle.std.proofs.lemmas.Bool.{cond_both, leb-true, ne_eqb}
 use Rattle.bpf_isa.specs.declared.insn.Operand.TheVariants as operand
 use Rattle.bpf_isa.specs.WellFormed.{HasOperand}
 use Rattle.doc_text.specs.Numbers.{is_decimal, value_on}
-use Rattle.bpf_asm.specs.Faults.{◌>>=◌, both, found}
+use Rattle.bpf_isa.specs.Checks.{◌>>=◌}
+use Rattle.bpf_asm.specs.Faults.{both, found}
 use Rattle.bpf_asm.specs.Operands.{magnitude_in, below_zero, signed_in, short_in, long_in, wide_in, register_number, register_in, source_in, is_name, Place, place_in}
 
 -- the value that a result has is such

@@ -11,7 +11,7 @@ use Rattle.bpf_isa.specs.WellFormed.{HasOperand}
 use Rattle.doc_text.specs.Numbers.{is_decimal, is_padded}
 use Rattle.doc_text.proofs.Counting.{is_decimal-decimal, decimal-value}
 use Rattle.bpf_asm.specs.Disassembly.{register_text, source_text}
-use Rattle.bpf_asm.specs.Faults.{◌>>=◌}
+use Rattle.bpf_isa.specs.Checks.{◌>>=◌}
 use Rattle.bpf_asm.specs.Operands.{magnitude_in, below_zero, signed_in, short_in, long_in, wide_in, register_number, register_in, source_in, Place, place_in}
 use Rattle.bpf_asm.proofs.Sound.{Within}
 

@@ -11,12 +11,6 @@ no_register = 3
 abbrev pub out_of_range : ℕ
 out_of_range = 4
 
--- the second step, unless the first has a fault
-infixl 10 ◌>>=◌
-abbrev pub ◌>>=◌ : {A B : Type 0} → Result A ℕ → (A → Result B ℕ) → Result B ℕ
-(Ok x) >>= f = f x
-(Err e) >>= f = Err e
-
 -- both values, or the lowest fault of the two
 abbrev pub both : {A B : Type 0} → Result A ℕ → Result B ℕ → Result (A × B) ℕ
 both (Ok a) (Ok b) = Ok (a, b)

@@ -4,7 +4,8 @@ use Rattle.std.specs.List.{list_all}
 use Rattle.bpf_isa.specs.declared.insn.Operand.{Operand}
 use Rattle.bpf_isa.specs.declared.insn.Operand.TheVariants as operand
 use Rattle.doc_text.specs.Numbers.{is_decimal, value_on}
-use Rattle.bpf_asm.specs.Faults.{no_form, no_register, out_of_range, ◌>>=◌}
+use Rattle.bpf_isa.specs.Checks.{◌>>=◌}
+use Rattle.bpf_asm.specs.Faults.{no_form, no_register, out_of_range}
 
 -- a well-spelled number of at most this
 abbrev pub magnitude_in : ℕ → List ℕ → Result ℕ ℕ

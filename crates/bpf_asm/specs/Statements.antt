@@ -12,7 +12,8 @@ use Rattle.bpf_isa.specs.declared.insn.Width.{Width}
 use Rattle.bpf_isa.specs.declared.insn.Width.TheVariants as width
 use Rattle.bpf_asm.specs.declared.form.Form.{Form}
 use Rattle.bpf_asm.specs.declared.form.Form.TheVariants as form
-use Rattle.bpf_asm.specs.Faults.{no_form, ◌>>=◌, both, found}
+use Rattle.bpf_isa.specs.Checks.{◌>>=◌}
+use Rattle.bpf_asm.specs.Faults.{no_form, both, found}
 use Rattle.bpf_asm.specs.Forms.{form_of}
 use Rattle.bpf_asm.specs.Operands.{register_in, source_in, short_in, long_in, wide_in, is_name, Place, place_in}
 use Rattle.doc_text.specs.Text.{text_in}

@@ -23,14 +23,15 @@ zero_fits_16 = record { sfits = omega arith }
 zero_fits_32 : FitsSigned w32 (pos 0)
 zero_fits_32 = record { sfits = omega arith }
 
-small : (w : Width) (bits : ℕ) → is_extended w bits ≡ true → bits ≤ 32
-small width.W32 bits e = elim (or_cases (bits == 8) (bits == 16) e) [ inl a ↦ omega (arith, eqb-true bits 8 a) | inr a ↦ omega (arith, eqb-true bits 16 a) ]
-small width.W64 bits e = elim (or_cases ((bits == 8) || (bits == 16)) (bits == 32) e) [
+-- a sign extension takes at most 32 bits, and a swap at most 64
+pub small_bits : (w : Width) (bits : ℕ) → is_extended w bits ≡ true → bits ≤ 32
+small_bits width.W32 bits e = elim (or_cases (bits == 8) (bits == 16) e) [ inl a ↦ omega (arith, eqb-true bits 8 a) | inr a ↦ omega (arith, eqb-true bits 16 a) ]
+small_bits width.W64 bits e = elim (or_cases ((bits == 8) || (bits == 16)) (bits == 32) e) [
   | inl b ↦ elim (or_cases (bits == 8) (bits == 16) b) [ inl a ↦ omega (arith, eqb-true bits 8 a) | inr a ↦ omega (arith, eqb-true bits 16 a) ]
   | inr a ↦ omega (arith, eqb-true bits 32 a)
 ]
 
-small_swap : (bits : ℕ) → ((bits == 16) || (bits == 32) || (bits == 64)) ≡ true → bits ≤ 64
+pub small_swap : (bits : ℕ) → ((bits == 16) || (bits == 32) || (bits == 64)) ≡ true → bits ≤ 64
 small_swap bits e = elim (or_cases ((bits == 16) || (bits == 32)) (bits == 64) e) [
   | inl b ↦ elim (or_cases (bits == 16) (bits == 32) b) [ inl a ↦ omega (arith, eqb-true bits 16 a) | inr a ↦ omega (arith, eqb-true bits 32 a) ]
   | inr a ↦ omega (arith, eqb-true bits 64 a)
@@ -53,7 +54,7 @@ fields_fit high (insn.Jump w c dst (operand.Reg src) off) h f = record { dst = o
 fields_fit high (insn.Jump w c dst (operand.Imm imm) off) h f = record { dst = omega (arith, f.0); src = omega arith; off = f.2; imm = f.1 }
 fields_fit high insn.Exit h f = record { dst = omega arith; src = omega arith; off = zero_fits_16; imm = zero_fits_32 }
 fields_fit high (insn.LoadSigned s dst src off) h f = record { dst = omega (arith, f.1); src = omega (arith, f.2); off = f.3; imm = zero_fits_32 }
-fields_fit high (insn.MovSigned w bits dst src) h f = record { dst = omega (arith, f.1); src = omega (arith, f.2); off = record { sfits = omega (arith, small w bits f.0) }; imm = zero_fits_32 }
+fields_fit high (insn.MovSigned w bits dst src) h f = record { dst = omega (arith, f.1); src = omega (arith, f.2); off = record { sfits = omega (arith, small_bits w bits f.0) }; imm = zero_fits_32 }
 fields_fit high (insn.Swap o bits dst) h f = record { dst = omega (arith, f.1); src = omega arith; off = zero_fits_16; imm = record { sfits = omega (arith, small_swap bits f.0) } }
 
 before_fits : (xs : List Insn) (slot : ℕ) → IsWellFormed xs → slot < length xs → FitsSigned w32 (high_before (pos 0) xs slot)

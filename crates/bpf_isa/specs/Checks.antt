@@ -16,8 +16,9 @@ is_zero (negsuc n) = false
 abbrev pub checked : {A : Type 0} → Bool → Bool → A → Result A SlotFault
 checked registers reserved x = if registers then (if reserved then Ok x else Err Field) else Err Register
 
+-- the second step, unless the first has a fault
 infixl 10 ◌>>=◌
-abbrev pub ◌>>=◌ : {A B : Type 0} → Result A SlotFault → (A → Result B SlotFault) → Result B SlotFault
+abbrev pub ◌>>=◌ : {A B E : Type 0} → Result A E → (A → Result B E) → Result B E
 (Ok x) >>= f = f x
 (Err e) >>= f = Err e
 

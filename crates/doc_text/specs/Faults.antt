@@ -18,6 +18,11 @@ abbrev pub or_fault : {A : Type 0} → ℕ → ℕ → Option A → Result A Fau
 or_fault line what None = fault line what
 or_fault line what (Some x) = Ok x
 
+-- behind a step of a relation: its fault, or what its value leads to
+abbrev pub Then : {A B : Type 0} → Result A Fault → (A → Result B Fault → Type 0) → Result B Fault → Type 0
+Then (Ok x) next read = next x read
+Then (Err e) next read = read ≡ Err e
+
 -- the text of a line that is due, and the pieces behind it; an unfinished line or a bad byte is fault 1
 unfoldable pub line_due : ℕ → ℕ → List (List ℕ) → Result (List ℕ × List (List ℕ)) Fault
 line_due line what [] = fault line what

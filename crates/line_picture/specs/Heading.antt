@@ -1,18 +1,10 @@
 -- The first line of a report.
 use Rattle.std.specs.Prelude.{ℕ, List, ◌||◌, Option, Some, None, ◌==◌, codes, if◌then◌else◌}
 use Rattle.shfl_line.specs.declared.events.Form.{Form}
-use Rattle.shfl_line.specs.declared.events.Form.TheVariants as forms
 use Rattle.doc_text.specs.Words.{same, ◌>>?◌}
 use Rattle.doc_text.specs.Numbers.{number_in}
+use Rattle.lock_words.specs.Forms.{form_named}
 use Rattle.line_picture.specs.Columns.{labelled_in, last_in}
-
-abbrev pub form_named : List ℕ → Option Form
-form_named word =
-    if same word (codes "spin") then Some forms.Spin
-    else if same word (codes "rw") then Some forms.Rw
-    else if same word (codes "park") then Some forms.Park
-    else if same word (codes "rw-park") then Some forms.RwPark
-    else None
 
 -- a number from 1 to the most
 abbrev pub count_in : ℕ → List ℕ → Option ℕ

@@ -1,27 +1,12 @@
 //! The first line of a report.
 ghost use Rattle.std.specs.Prelude.{◌≡◌, ◌≤◌, ◌<◌, Some, None, IfSome, MatchOption};
 ghost use Rattle.doc_text.specs.Words.{words};
-ghost use Rattle.line_picture.specs.Heading.{form_named, count_in, sizes_in, profile_in, heading_in};
+ghost use Rattle.line_picture.specs.Heading.{count_in, sizes_in, profile_in, heading_in};
 
 use crate::columns::{labelled, last};
 use doc_text::{is_same, number};
+use lock_words::form_named;
 use shfl_line::Form;
-
-fn form_named(word: &[u8]) -> Option<Form>
-    ensures { result ≡ form_named word.now }
-{
-    if is_same(word, b"spin") {
-        Some(Form::Spin)
-    } else if is_same(word, b"rw") {
-        Some(Form::Rw)
-    } else if is_same(word, b"park") {
-        Some(Form::Park)
-    } else if is_same(word, b"rw-park") {
-        Some(Form::RwPark)
-    } else {
-        None
-    }
-}
 
 fn count_of(most: u64, word: &[u8]) -> Option<u64>
     ensures exact { result ≡ count_in most word.now }

@@ -9,7 +9,7 @@ use Rattle.shfl_line.specs.declared.events.Form.{Form}
 use Rattle.doc_text.specs.declared.fault.Fault.{Fault}
 use Rattle.doc_text.specs.Text.{pieces, ended}
 use Rattle.doc_text.specs.Words.{words, same}
-use Rattle.doc_text.specs.Faults.{fault, ◌>>=◌, or_fault, fixed_due, lines_from}
+use Rattle.doc_text.specs.Faults.{fault, ◌>>=◌, or_fault, fixed_due, lines_from, Then}
 use Rattle.doc_text.proofs.Joining.{joined, joined-pieces}
 use Rattle.doc_text.proofs.Due.{bind-some, or_fault-some, fixed_due-some}
 use Rattle.policy_text.specs.Attributes.{attr_in, attr_line, IsAttr}
@@ -20,7 +20,7 @@ use Rattle.shfl_sched.specs.declared.schedule.Rule.{Rule}
 use Rattle.shfl_sched.specs.declared.schedule.Event.{Event}
 use Rattle.shfl_sched.specs.Schedules.{ScheduleModel, IsEventOf, IsWithin}
 use Rattle.shfl_sched.specs.Lines.{event_in}
-use Rattle.shfl_sched.specs.Grammar.{Front, front_in, policy_line, Then, ReadsRule, pass_says, passes_in, event_says, events_in, schedule_in, ReadsSchedule}
+use Rattle.shfl_sched.specs.Grammar.{Front, front_in, policy_line, ReadsRule, pass_says, passes_in, event_says, events_in, schedule_in, ReadsSchedule}
 use Rattle.shfl_sched.specs.Spelling.{form_line, limit_line, event_line, body_lines, IsRuleLine, IsText}
 use Rattle.shfl_sched.proofs.Wording.{event-some}
 use Rattle.shfl_sched.proofs.Sections.{lines-some, section-some}

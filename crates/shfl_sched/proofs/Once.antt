@@ -5,7 +5,7 @@ use Rattle.bpf_isa.specs.declared.insn.Profile.{Profile}
 use Rattle.doc_text.specs.declared.fault.Fault.{Fault}
 use Rattle.doc_text.specs.Text.{pieces}
 use Rattle.doc_text.specs.Words.{words}
-use Rattle.doc_text.specs.Faults.{or_fault}
+use Rattle.doc_text.specs.Faults.{or_fault, Then}
 use Rattle.policy_source.specs.Source.{SourceModel}
 use Rattle.shfl_policy.specs.Loading.{Loads, IsLoaded}
 use Rattle.shfl_policy.specs.Policies.{PolicyModel}
@@ -15,7 +15,7 @@ use Rattle.shfl_sched.specs.declared.rule.RuleLine.{RuleLine}
 use Rattle.shfl_sched.specs.declared.rule.RuleLine.TheVariants as said
 use Rattle.shfl_sched.specs.Schedules.{ScheduleModel}
 use Rattle.shfl_sched.specs.Lines.{rule_in}
-use Rattle.shfl_sched.specs.Grammar.{Front, front_in, policy_line, LoadsPolicy, ReadsSaid, ReadsRule, Then, schedule_in, ReadsSchedule}
+use Rattle.shfl_sched.specs.Grammar.{Front, front_in, policy_line, LoadsPolicy, ReadsSaid, ReadsRule, schedule_in, ReadsSchedule}
 
 loads-once : (profile : Profile) (source : Option (List ℕ)) (a b : Option (List Insn)) → Loads profile source a → Loads profile source b → a ≡ b
 loads-once profile None None None h k = refl

@@ -3,7 +3,7 @@ use Rattle.std.proofs.Common.{◌≡◌, ℕ, List, [], ◌∷◌, Bool, true, f
 use Rattle.std.specs.Prelude.{codes}
 use Rattle.bpf_isa.specs.declared.insn.Profile.{Profile}
 use Rattle.doc_text.specs.Words.{words, spaced, same, is_word, four, ◌>>?◌}
-use Rattle.doc_text.specs.Faults.{or_fault}
+use Rattle.doc_text.specs.Faults.{or_fault, Then}
 use Rattle.doc_text.proofs.Joining.{same-true}
 use Rattle.policy_source.specs.Source.{SourceModel}
 use Rattle.policy_text.specs.Programs.{source_in, IsProgramWord}
@@ -15,7 +15,7 @@ use Rattle.shfl_sched.specs.declared.schedule.Rule.TheVariants as rules
 use Rattle.shfl_sched.specs.declared.rule.RuleLine.{RuleLine}
 use Rattle.shfl_sched.specs.declared.rule.RuleLine.TheVariants as said
 use Rattle.shfl_sched.specs.Lines.{rule_named, named_rule_in, program_words_in, program_rule_in, otherwise, rule_in}
-use Rattle.shfl_sched.specs.Grammar.{ReadsSaid, ReadsRule, Then}
+use Rattle.shfl_sched.specs.Grammar.{ReadsSaid, ReadsRule}
 use Rattle.shfl_sched.specs.Spelling.{IsRuleLine}
 use Rattle.shfl_sched.proofs.Wording.{keyed-some}
 

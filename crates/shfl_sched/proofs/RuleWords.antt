@@ -6,7 +6,7 @@ use Rattle.bpf_isa.specs.declared.insn.Insn.{Insn}
 use Rattle.bpf_isa.specs.declared.insn.Profile.{Profile}
 use Rattle.doc_text.specs.Text.{IsPlain}
 use Rattle.doc_text.specs.Words.{words, spaced, is_word}
-use Rattle.doc_text.specs.Faults.{or_fault}
+use Rattle.doc_text.specs.Faults.{or_fault, Then}
 use Rattle.policy_source.specs.Source.{SourceModel}
 use Rattle.shfl_policy.specs.Loading.{Loads}
 use Rattle.policy_text.specs.Programs.{source_in}
@@ -18,7 +18,7 @@ use Rattle.shfl_sched.specs.declared.schedule.Rule.TheVariants as rules
 use Rattle.shfl_sched.specs.declared.rule.RuleLine.{RuleLine}
 use Rattle.shfl_sched.specs.declared.rule.RuleLine.TheVariants as said
 use Rattle.shfl_sched.specs.Lines.{rule_in}
-use Rattle.shfl_sched.specs.Grammar.{ReadsSaid, ReadsRule, Then}
+use Rattle.shfl_sched.specs.Grammar.{ReadsSaid, ReadsRule}
 use Rattle.shfl_sched.specs.Spelling.{IsRuleLine}
 
 -- a program that is loaded is accepted

@@ -14,8 +14,9 @@ use Rattle.shfl_sched.specs.declared.schedule.Act.{Act}
 use Rattle.shfl_sched.specs.declared.schedule.Act.TheVariants as acts
 use Rattle.shfl_sched.specs.declared.schedule.Event.{Event}
 use Rattle.shfl_sched.specs.Schedules.{IsEventOf}
-use Rattle.shfl_sched.specs.Lines.{form_named, form_in, batch_in, limit_in, act_named, event_in}
-use Rattle.shfl_sched.specs.Spelling.{form_word, form_line, limit_line, act_word, event_line}
+use Rattle.lock_words.specs.Forms.{form_text, form_named, batch_in}
+use Rattle.shfl_sched.specs.Lines.{form_in, limit_in, act_named, event_in}
+use Rattle.shfl_sched.specs.Spelling.{form_line, limit_line, act_word, event_line}
 use Rattle.shfl_sched.proofs.Wording.{keyed}
 
 pub keyed-read : {A : Type 0} (word u : List ℕ) (find : List ℕ → Option A) (x : A) → IsPart word → IsPart u → find u ≡ Some x → keyed word find (words (spaced (word ∷ u ∷ []))) ≡ Some x
@@ -26,20 +27,20 @@ number-part most n small le = decimal-word n (omega (arith, small, le))
 
 -- ---- the form
 
-form_word-part : (f : Form) → IsPart (form_word f)
-form_word-part forms.Spin = (refl, refl)
-form_word-part forms.Rw = (refl, refl)
-form_word-part forms.Park = (refl, refl)
-form_word-part forms.RwPark = (refl, refl)
+form_text-part : (f : Form) → IsPart (form_text f)
+form_text-part forms.Spin = (refl, refl)
+form_text-part forms.Rw = (refl, refl)
+form_text-part forms.Park = (refl, refl)
+form_text-part forms.RwPark = (refl, refl)
 
-form_named-word : (f : Form) → form_named (form_word f) ≡ Some f
+form_named-word : (f : Form) → form_named (form_text f) ≡ Some f
 form_named-word forms.Spin = refl
 form_named-word forms.Rw = refl
 form_named-word forms.Park = refl
 form_named-word forms.RwPark = refl
 
 pub form-read : (f : Form) → IsPlain (form_line f) × (form_in (words (form_line f)) ≡ Some f)
-form-read f = (line-plain (codes "form" ∷ form_word f ∷ []) ((refl, refl), (form_word-part f, tt)), keyed-read (codes "form") (form_word f) form_named f (refl, refl) (form_word-part f) (form_named-word f))
+form-read f = (line-plain (codes "form" ∷ form_text f ∷ []) ((refl, refl), (form_text-part f, tt)), keyed-read (codes "form") (form_text f) form_named f (refl, refl) (form_text-part f) (form_named-word f))
 
 -- ---- the limit
 

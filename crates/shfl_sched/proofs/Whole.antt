@@ -17,11 +17,12 @@ use Rattle.policy_text.specs.Headings.{heading_lines, IsVersion}
 use Rattle.policy_text.proofs.AttrLines.{attr-plain, attr_in-line}
 use Rattle.policy_text.proofs.HeadingLines.{heading_in-lines}
 use Rattle.policy_text.proofs.Parts.{pieces-lines_before}
+use Rattle.doc_text.specs.Faults.{Then}
 use Rattle.shfl_sched.specs.declared.schedule.Rule.{Rule}
 use Rattle.shfl_sched.specs.declared.schedule.Event.{Event}
 use Rattle.shfl_sched.specs.Schedules.{ScheduleModel, IsEventOf, IsWithin}
 use Rattle.shfl_sched.specs.Lines.{form_in, limit_in}
-use Rattle.shfl_sched.specs.Grammar.{Front, front_in, policy_line, Then, ReadsRule, pass_says, passes_in, event_says, events_in, schedule_in, ReadsSchedule}
+use Rattle.shfl_sched.specs.Grammar.{Front, front_in, policy_line, ReadsRule, pass_says, passes_in, event_says, events_in, schedule_in, ReadsSchedule}
 use Rattle.shfl_sched.specs.Spelling.{form_line, limit_line, event_line, body_lines, schedule_lines, IsText}
 use Rattle.shfl_sched.proofs.Spelled.{form-read, limit-read, event-read}
 use Rattle.shfl_sched.proofs.RuleWords.{rule-read}

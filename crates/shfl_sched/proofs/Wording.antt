@@ -16,8 +16,9 @@ use Rattle.shfl_sched.specs.declared.schedule.Act.{Act}
 use Rattle.shfl_sched.specs.declared.schedule.Act.TheVariants as acts
 use Rattle.shfl_sched.specs.declared.schedule.Event.{Event}
 use Rattle.shfl_sched.specs.Schedules.{IsEventOf, is_act_of}
-use Rattle.shfl_sched.specs.Lines.{form_named, form_in, batch_in, limit_in, act_named, pass_in, event_in}
-use Rattle.shfl_sched.specs.Spelling.{form_word, form_line, limit_line, act_word, event_line}
+use Rattle.lock_words.specs.Forms.{form_text, form_named, batch_in}
+use Rattle.shfl_sched.specs.Lines.{form_in, limit_in, act_named, pass_in, event_in}
+use Rattle.shfl_sched.specs.Spelling.{form_line, limit_line, act_word, event_line}
 
 two-line : (a b c d : List ℕ) → a ≡ c → b ≡ d → spaced (a ∷ b ∷ []) ≡ spaced (c ∷ d ∷ [])
 two-line a b c d e f = rw (e, f) refl
@@ -39,15 +40,15 @@ keyed-some {A} word find t x h =
 
 -- ---- the form
 
-form_named-some : (w : List ℕ) (f : Form) → form_named w ≡ Some f → w ≡ form_word f
+form_named-some : (w : List ℕ) (f : Form) → form_named w ≡ Some f → w ≡ form_text f
 form_named-some w f h = by_tests (same w (codes "spin")) (same w (codes "rw")) (same w (codes "park")) (same w (codes "rw-park")) refl refl refl refl h
   where
     by_tests : (a b c d : Bool) → same w (codes "spin") ≡ a → same w (codes "rw") ≡ b → same w (codes "park") ≡ c → same w (codes "rw-park") ≡ d
-        → cond a (Some forms.Spin) (cond b (Some forms.Rw) (cond c (Some forms.Park) (cond d (Some forms.RwPark) None))) ≡ Some f → w ≡ form_word f
-    by_tests true b c d p q r s k = same-true w (codes "spin") p ∙ ap form_word (some-same forms.Spin f k)
-    by_tests false true c d p q r s k = same-true w (codes "rw") q ∙ ap form_word (some-same forms.Rw f k)
-    by_tests false false true d p q r s k = same-true w (codes "park") r ∙ ap form_word (some-same forms.Park f k)
-    by_tests false false false true p q r s k = same-true w (codes "rw-park") s ∙ ap form_word (some-same forms.RwPark f k)
+        → cond a (Some forms.Spin) (cond b (Some forms.Rw) (cond c (Some forms.Park) (cond d (Some forms.RwPark) None))) ≡ Some f → w ≡ form_text f
+    by_tests true b c d p q r s k = same-true w (codes "spin") p ∙ ap form_text (some-same forms.Spin f k)
+    by_tests false true c d p q r s k = same-true w (codes "rw") q ∙ ap form_text (some-same forms.Rw f k)
+    by_tests false false true d p q r s k = same-true w (codes "park") r ∙ ap form_text (some-same forms.Park f k)
+    by_tests false false false true p q r s k = same-true w (codes "rw-park") s ∙ ap form_text (some-same forms.RwPark f k)
     by_tests false false false false p q r s k = cc
 
 pub form-some : (t : List ℕ) (f : Form) → form_in (words t) ≡ Some f → t ≡ form_line f

@@ -9,7 +9,7 @@ use Rattle.shfl_policy.specs.Policies.{PolicyModel}
 use Rattle.doc_text.specs.declared.fault.Fault.{Fault}
 use Rattle.doc_text.specs.Text.{pieces}
 use Rattle.doc_text.specs.Words.{words, same}
-use Rattle.doc_text.specs.Faults.{fault, ◌>>=◌, or_fault, line_due, one_of, fixed_due, lines_from, section_from}
+use Rattle.doc_text.specs.Faults.{fault, ◌>>=◌, or_fault, line_due, one_of, fixed_due, lines_from, section_from, Then}
 use Rattle.policy_text.specs.Attributes.{attr_in}
 use Rattle.policy_text.specs.Headings.{heading_in}
 use Rattle.shfl_sched.specs.declared.schedule.Rule.{Rule}
@@ -42,11 +42,6 @@ abbrev pub policy_line : Front → ℕ
 policy_line f = f.version + 3
 
 -- ---- the policy
-
--- behind a step: its fault, or what its value leads to
-abbrev pub Then : {A B : Type 0} → Result A Fault → (A → Result B Fault → Type 0) → Result B Fault → Type 0
-Then (Ok x) next read = next x read
-Then (Err e) next read = read ≡ Err e
 
 -- The policy of the name 0 whose programs these bytes are; where they aren't both accepted, fault 6.
 -- It is a relation, since acceptance speaks of all paths through a program.

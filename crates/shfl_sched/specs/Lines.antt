@@ -1,9 +1,9 @@
 -- What one line of a schedule says.
 use Rattle.std.specs.Prelude.{ℕ, List, ◌&&◌, Option, Some, None, nat_lt, ◌==◌, if◌then◌else◌, codes}
 use Rattle.shfl_line.specs.declared.events.Form.{Form}
-use Rattle.shfl_line.specs.declared.events.Form.TheVariants as forms
 use Rattle.doc_text.specs.Words.{is_word, same, two, four, ◌>>?◌}
 use Rattle.doc_text.specs.Numbers.{number_in}
+use Rattle.lock_words.specs.Forms.{form_named, batch_in}
 use Rattle.policy_text.specs.Programs.{source_in}
 use Rattle.shfl_sched.specs.declared.schedule.Act.{Act}
 use Rattle.shfl_sched.specs.declared.schedule.Act.TheVariants as acts
@@ -14,23 +14,11 @@ use Rattle.shfl_sched.specs.Schedules.{is_act_of}
 
 -- ---- the form
 
-abbrev pub form_named : List ℕ → Option Form
-form_named word =
-    if same word (codes "spin") then Some forms.Spin
-    else if same word (codes "rw") then Some forms.Rw
-    else if same word (codes "park") then Some forms.Park
-    else if same word (codes "rw-park") then Some forms.RwPark
-    else None
-
 -- `form spin`, `form rw`, `form park` or `form rw-park`
 abbrev pub form_in : List (List ℕ) → Option Form
 form_in ws = two ws >>? λ w. if same w.0 (codes "form") then form_named w.1 else None
 
 -- ---- the limit
-
--- 1 to 1024
-abbrev pub batch_in : List ℕ → Option ℕ
-batch_in word = number_in 1024 word >>? λ n. if n == 0 then None else Some n
 
 -- `limit N`
 abbrev pub limit_in : List (List ℕ) → Option ℕ

@@ -2,6 +2,7 @@
 use Rattle.std.specs.Prelude.{ℕ, ◌+◌, List, [], ◌∷◌, ◌++◌, Bool, not, codes, count_by, length, if◌then◌else◌}
 use Rattle.std.specs.Fmt.{decimal}
 use Rattle.bpf_isa.specs.declared.insn.Profile.{Profile}
+use Rattle.lock_words.specs.Forms.{form_text}
 use Rattle.policy_text.specs.Blanks.{blanked}
 use Rattle.policy_text.specs.Headings.{version_words}
 use Rattle.shfl_line.specs.declared.events.Form.{Form}
@@ -13,7 +14,7 @@ use Rattle.shfl_core.specs.Words.{look}
 use Rattle.shfl_core.specs.Worlds.{World}
 use Rattle.shfl_sched.specs.declared.schedule.Event.{Event}
 use Rattle.shfl_sched.specs.Schedules.{ScheduleModel}
-use Rattle.shfl_sched.specs.ReportParts.{form_text, act_text, answer_text, hold_text, queue_text, hand_text, role_text, parked_text}
+use Rattle.shfl_sched.specs.ReportParts.{act_text, answer_text, hold_text, queue_text, hand_text, role_text, parked_text}
 use Rattle.shfl_sched.specs.Run.{Moment, moments_of}
 
 -- `K EVENT P yes|no`

@@ -4,8 +4,6 @@ use Rattle.std.specs.List.{flat_map}
 use Rattle.std.specs.Fmt.{decimal}
 use Rattle.shfl_line.specs.declared.events.Mode.{Mode}
 use Rattle.shfl_line.specs.declared.events.Mode.TheVariants.{Write as Alone, Read as Beside}
-use Rattle.shfl_line.specs.declared.events.Form.{Form}
-use Rattle.shfl_line.specs.declared.events.Form.TheVariants.{Spin, Rw, Park, RwPark}
 use Rattle.shfl_line.specs.declared.events.Role.{Role}
 use Rattle.shfl_line.specs.declared.events.Role.TheVariants.{Nobody, Rest, Walk}
 use Rattle.shfl_line.specs.Line.{Line}
@@ -13,12 +11,6 @@ use Rattle.shfl_core.specs.Runner.{is_parked}
 use Rattle.shfl_core.specs.Worlds.{World, known}
 use Rattle.shfl_sched.specs.declared.schedule.Act.{Act}
 use Rattle.shfl_sched.specs.declared.schedule.Act.TheVariants.{Write, Read, Free, Step}
-
-abbrev pub form_text : Form → List ℕ
-form_text Spin = codes "spin"
-form_text Rw = codes "rw"
-form_text Park = codes "park"
-form_text RwPark = codes "rw-park"
 
 abbrev pub act_text : Act → List ℕ
 act_text Write = codes "write"

@@ -5,9 +5,9 @@ use Rattle.std.specs.Fmt.{decimal}
 use Rattle.bpf_isa.specs.declared.insn.Profile.{Profile}
 use Rattle.shfl_line.specs.declared.words.Attr.{Attr}
 use Rattle.shfl_line.specs.declared.events.Form.{Form}
-use Rattle.shfl_line.specs.declared.events.Form.TheVariants as forms
 use Rattle.doc_text.specs.Text.{ended}
 use Rattle.doc_text.specs.Words.{spaced}
+use Rattle.lock_words.specs.Forms.{form_text}
 use Rattle.policy_source.specs.Source.{SourceModel}
 use Rattle.shfl_policy.specs.Loading.{IsLoaded}
 use Rattle.policy_text.specs.Attributes.{attr_line}
@@ -20,12 +20,6 @@ use Rattle.shfl_sched.specs.declared.schedule.Act.TheVariants as acts
 use Rattle.shfl_sched.specs.declared.schedule.Event.{Event}
 use Rattle.shfl_sched.specs.Schedules.{ScheduleModel}
 
-abbrev pub form_word : Form → List ℕ
-form_word forms.Spin = codes "spin"
-form_word forms.Rw = codes "rw"
-form_word forms.Park = codes "park"
-form_word forms.RwPark = codes "rw-park"
-
 abbrev pub act_word : Act → List ℕ
 act_word acts.Write = codes "write"
 act_word acts.Read = codes "read"
@@ -33,7 +27,7 @@ act_word acts.Free = codes "free"
 act_word acts.Step = codes "step"
 
 abbrev pub form_line : Form → List ℕ
-form_line form = spaced (codes "form" ∷ form_word form ∷ [])
+form_line form = spaced (codes "form" ∷ form_text form ∷ [])
 
 abbrev pub limit_line : ℕ → List ℕ
 limit_line limit = spaced (codes "limit" ∷ decimal limit ∷ [])

@@ -3,12 +3,13 @@ ghost use Rattle.std.specs.Prelude.{◌≡◌, ◌<◌, ◌≤◌, IfOk, IfSome}
 ghost use Rattle.doc_text.specs.Text.{pieces};
 ghost use Rattle.doc_text.specs.Words.{words};
 ghost use Rattle.doc_text.specs.Faults.{Gives, one_of};
-ghost use Rattle.shfl_sched.specs.Lines.{form_named, form_in, batch_in, limit_in};
+ghost use Rattle.shfl_sched.specs.Lines.{form_in, limit_in};
 ghost use Rattle.shfl_sched.specs.Grammar.{front_in};
 ghost use Rattle.shfl_sched.specs.Said.{front_said};
 
 use bpf_isa::Profile;
-use doc_text::{Fault, is_same, line_due, number, or_fault, two_words};
+use doc_text::{Fault, is_same, line_due, or_fault, two_words};
+use lock_words::{batch_of, form_named};
 use policy_text::heading_of;
 use shfl_line::Form;
 
@@ -23,22 +24,6 @@ pub struct Front<'a> {
     pub rest: &'a [u8],
 }
 
-fn form_named(word: &[u8]) -> Option<Form>
-    ensures { result ≡ form_named word.now }
-{
-    if is_same(word, b"spin") {
-        Some(Form::Spin)
-    } else if is_same(word, b"rw") {
-        Some(Form::Rw)
-    } else if is_same(word, b"park") {
-        Some(Form::Park)
-    } else if is_same(word, b"rw-park") {
-        Some(Form::RwPark)
-    } else {
-        None
-    }
-}
-
 fn form_of(text: &[u8]) -> Option<Form>
     ensures { result ≡ form_in (words text.now) }
 {
@@ -47,16 +32,6 @@ fn form_of(text: &[u8]) -> Option<Form>
         return None;
     }
     form_named(name)
-}
-
-fn batch_of(word: &[u8]) -> Option<u16>
-    ensures { result ≡ batch_in word.now }
-{
-    let batch = number(1024, word)?;
-    if batch == 0 {
-        return None;
-    }
-    Some(batch as u16)
 }
 
 fn limit_of(text: &[u8]) -> Option<u16>

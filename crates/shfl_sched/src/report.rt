@@ -7,10 +7,11 @@ ghost use Rattle.shfl_sched.specs.Report.{version_text, sizes_text, heading_text
 
 use crate::parked_text::ParkedText;
 use crate::queue_text::QueueText;
-use crate::report_parts::{form_name, push_act, push_answer, push_hand, push_hold, push_role};
+use crate::report_parts::{push_act, push_answer, push_hand, push_hold, push_role};
 use crate::schedule::{Event, Schedule};
 use bpf_isa::Profile;
 use doc_text::push_decimal;
+use lock_words::form_name;
 use policy_text::push_version;
 use shfl_core::Board;
 use shfl_line::{Form, LineState, NoMemory, Role};

@@ -1,22 +1,11 @@
 //! The texts of a line report's parts, written behind what stands there.
 ghost use Rattle.std.specs.Prelude.{◌≡◌, ◌++◌, ◌≤◌, ℕ, length, map, OnOk, codes, decimal};
-ghost use Rattle.shfl_sched.specs.ReportParts.{form_text, act_text, answer_text, mode_text, hand_text, role_text, listed, holder_text, waiter_text};
+ghost use Rattle.shfl_sched.specs.ReportParts.{act_text, answer_text, mode_text, hand_text, role_text, listed, holder_text, waiter_text};
 
 use crate::schedule::Act;
 use doc_text::push_decimal;
-use shfl_line::{Form, Mode, Role};
+use shfl_line::{Mode, Role};
 use std::alloc::AllocError;
-
-pub fn form_name(form: Form) -> &'static [u8]
-    ensures { result.now ≡ form_text form }
-{
-    match form {
-        Form::Spin => b"spin",
-        Form::Rw => b"rw",
-        Form::Park => b"park",
-        Form::RwPark => b"rw-park",
-    }
-}
 
 // Each of the next three writes pieces whose lengths are known where it is compiled, so that they are stored and not copied.
 

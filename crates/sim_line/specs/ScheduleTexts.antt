@@ -19,7 +19,8 @@ use Rattle.sim_line.specs.Events.{first_events}
 use Rattle.sim_text.specs.declared.setup.Rule.{Rule}
 use Rattle.sim_text.specs.declared.setup.Rule.TheVariants.{Simple, Program}
 use Rattle.sim_text.specs.Answering.{rule_advice}
-use Rattle.sim_report.specs.Reports.{form_text, run_setup}
+use Rattle.lock_words.specs.Forms.{form_text}
+use Rattle.sim_report.specs.Reports.{run_setup}
 use Rattle.sim_text.specs.Setups.{CandidateModel, SetupModel}
 
 -- the most events of a schedule

@@ -4,8 +4,8 @@ use Rattle.std.specs.List.{flat_map}
 use Rattle.std.specs.Fmt.{decimal}
 use Rattle.std.specs.Int.{w64, to_be_bytes}
 use Rattle.hex.specs.Hex.{encode_lower}
+use Rattle.lock_words.specs.Forms.{form_text}
 use Rattle.shfl_line.specs.declared.events.Form.{Form}
-use Rattle.shfl_line.specs.declared.events.Form.TheVariants.{Spin, Rw, Park, RwPark}
 use Rattle.shfl_line.specs.declared.words.Attr.{Attr}
 use Rattle.sim_model.specs.declared.bench.Bench.{Bench}
 use Rattle.sim_model.specs.declared.counts.Counts.{Counts}
@@ -47,12 +47,6 @@ unfoldable pub cut_of : SetupModel → ℕ → Rule → Bool
 cut_of s seed rule = is_cut (run_setup s seed) (end_of s seed rule).bench
 
 -- ---- the lines
-
-abbrev pub form_text : Form → List ℕ
-form_text Spin = codes "spin"
-form_text Rw = codes "rw"
-form_text Park = codes "park"
-form_text RwPark = codes "rw-park"
 
 abbrev pub title_text : List ℕ
 title_text = codes "syncord-sim 1"

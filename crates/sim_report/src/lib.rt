@@ -12,6 +12,6 @@ mod whole;
 
 pub use laws::tallies_add_up;
 pub use report::run_setup;
-pub use report_parts::{form_name, push_figure};
+pub use report_parts::push_figure;
 pub use tallies::{Key, Tally, tally_of, values_of};
 pub use whole::report_of;

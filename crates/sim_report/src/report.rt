@@ -6,10 +6,10 @@ ghost use Rattle.sim_text.specs.Setups.{IsWithin};
 ghost use Rattle.sim_report.specs.Tallies.{rising};
 
 use crate::report_parts::{
-    form_name, push_counts, push_cut, push_figure, push_gains, push_name, push_order, push_tally,
-    push_waits,
+    push_counts, push_cut, push_figure, push_gains, push_name, push_order, push_tally, push_waits,
 };
 use crate::tallies::{Key, tally_of, values_of};
+use lock_words::form_name;
 use shfl_core::Rules;
 use shfl_line::{Attr, Form, NoMemory};
 use sim_model::{Bench, Served, Setup, cores_of, is_cut, simulate};

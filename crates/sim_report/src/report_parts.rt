@@ -6,7 +6,6 @@ ghost use Rattle.sim_report.specs.Tallies.{half_of, most_of};
 
 use crate::tallies::{Key, Tally};
 use doc_text::{push_decimal, push_hex};
-use shfl_line::Form;
 use sim_model::{Counts, Order, Reaches};
 use std::alloc::{AllocError, Global};
 
@@ -16,17 +15,6 @@ pub fn push_figure(out: &mut Vec<u8>, label: &[u8], n: u64) -> Result<(), AllocE
 {
     out.extend_from_slice(label)?;
     push_decimal(out, n)
-}
-
-pub fn form_name(form: Form) -> &'static [u8]
-    ensures { result.now ≡ texts.form_text form }
-{
-    match form {
-        Form::Spin => b"spin",
-        Form::Rw => b"rw",
-        Form::Park => b"park",
-        Form::RwPark => b"rw-park",
-    }
 }
 
 #[tactic(auto, unfolding(crate::specs::Reports::name_text))]

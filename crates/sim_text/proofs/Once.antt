@@ -5,7 +5,7 @@ use Rattle.bpf_isa.specs.declared.insn.Insn.{Insn}
 use Rattle.bpf_isa.specs.declared.insn.Profile.{Profile}
 use Rattle.doc_text.specs.declared.fault.Fault.{Fault}
 use Rattle.doc_text.specs.Text.{pieces, text_in}
-use Rattle.doc_text.specs.Faults.{◌>>=◌, or_fault}
+use Rattle.doc_text.specs.Faults.{◌>>=◌, or_fault, Then}
 use Rattle.policy_source.specs.Source.{SourceModel}
 use Rattle.shfl_policy.specs.Loading.{Loads, IsLoaded}
 use Rattle.shfl_policy.specs.Policies.{PolicyModel}
@@ -15,7 +15,7 @@ use Rattle.sim_text.specs.declared.setup.Rule.{Rule}
 use Rattle.sim_text.specs.declared.setup.Rule.TheVariants as rules
 use Rattle.sim_text.specs.declared.policies.RuleLine.{RuleLine}
 use Rattle.sim_text.specs.declared.policies.RuleLine.TheVariants as said
-use Rattle.sim_text.specs.Grammar.{Then, LoadsPolicy, ReadsRule, policy_says, candidate, ReadsPolicies, setup_in, front_in, ReadsBehind, ReadsSetup}
+use Rattle.sim_text.specs.Grammar.{LoadsPolicy, ReadsRule, policy_says, candidate, ReadsPolicies, setup_in, front_in, ReadsBehind, ReadsSetup}
 use Rattle.sim_text.specs.Lines.{PolicyLine}
 use Rattle.sim_text.specs.Setups.{CandidateModel, SetupModel}
 

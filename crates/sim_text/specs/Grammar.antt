@@ -8,7 +8,7 @@ use Rattle.shfl_policy.specs.Policies.{PolicyModel}
 use Rattle.doc_text.specs.declared.fault.Fault.{Fault}
 use Rattle.doc_text.specs.Text.{pieces, text_in}
 use Rattle.doc_text.specs.Words.{words, same}
-use Rattle.doc_text.specs.Faults.{fault, ◌>>=◌, or_fault, one_of, fixed_due, section_from}
+use Rattle.doc_text.specs.Faults.{fault, ◌>>=◌, or_fault, one_of, fixed_due, section_from, Then}
 use Rattle.policy_text.specs.Attributes.{attr_in}
 use Rattle.sim_text.specs.declared.setup.Machine.{Machine}
 use Rattle.sim_text.specs.declared.setup.Load.{Load}
@@ -33,11 +33,6 @@ load_in ps = one_of 7 8 work_in ps >>= λ work. one_of 8 9 until_in work.1 >>= �
     Ok (record { work = work.0; until = until.0.0; turns = until.0.1; seeds = seeds.0 }, seeds.1)
 
 -- ---- the policies
-
--- behind a step: its fault, or what its value leads to
-abbrev pub Then : {A B : Type 0} → Result A Fault → (A → Result B Fault → Type 0) → Result B Fault → Type 0
-Then (Ok x) next read = next x read
-Then (Err e) next read = read ≡ Err e
 
 -- A line that begins with `pass` ends the policies, of which there is one at least. Any other is a policy line: bad words or
 -- digits are fault 11, and one more than 16 is fault 12.

@@ -3,9 +3,9 @@ use Rattle.std.specs.Prelude.{ℕ, ◌+◌, List, [], ◌∷◌, ◌&&◌, Bool,
 use Rattle.bpf_isa.specs.declared.insn.Profile.{Profile}
 use Rattle.bpf_isa.specs.declared.insn.Profile.TheVariants as profiles
 use Rattle.shfl_line.specs.declared.events.Form.{Form}
-use Rattle.shfl_line.specs.declared.events.Form.TheVariants as forms
 use Rattle.doc_text.specs.Words.{is_word, same, three, four, five, ◌>>?◌}
 use Rattle.doc_text.specs.Numbers.{number_in}
+use Rattle.lock_words.specs.Forms.{form_named, batch_in}
 use Rattle.policy_text.specs.Programs.{source_in}
 use Rattle.sim_model.specs.declared.setup.Costs.{Costs}
 use Rattle.sim_model.specs.declared.setup.Layout.{Layout}
@@ -23,18 +23,6 @@ use Rattle.sim_text.specs.Words.{behind, number_next, name_next, none_left}
 -- `profile 1` or `profile 2`
 abbrev pub profile_named : List ℕ → Option Profile
 profile_named word = if same word (codes "1") then Some profiles.One else if same word (codes "2") then Some profiles.Two else None
-
-abbrev pub form_named : List ℕ → Option Form
-form_named word =
-    if same word (codes "spin") then Some forms.Spin
-    else if same word (codes "rw") then Some forms.Rw
-    else if same word (codes "park") then Some forms.Park
-    else if same word (codes "rw-park") then Some forms.RwPark
-    else None
-
--- 1 to 1024
-abbrev pub batch_in : List ℕ → Option ℕ
-batch_in word = number_in 1024 word >>? λ n. if n == 0 then None else Some n
 
 abbrev pub layout_named : List ℕ → Option Layout
 layout_named word =

@@ -1,7 +1,7 @@
 //! The lines of a setup up to its policies, word by word.
 ghost use Rattle.std.specs.Prelude.{◌≡◌, ◌<◌, ◌≤◌, ◌+◌, IfSome, nat_le, option_map};
 ghost use Rattle.doc_text.specs.Words.{words};
-ghost use Rattle.sim_text.specs.Lines.{profile_named, form_named, batch_in, layout_named};
+ghost use Rattle.sim_text.specs.Lines.{profile_named, layout_named};
 ghost use Rattle.sim_text.specs.Lines.{profile_in, form_in, limit_in, layout_in, work_in};
 ghost use Rattle.sim_text.specs.Lines.{one_seed, count_in, several_seeds, seeds_in};
 ghost use Rattle.sim_text.specs.Lines.{wide_in, until_alone, until_turns, turns_in, until_in};
@@ -10,6 +10,7 @@ use crate::setup::Seeds;
 use crate::words::behind;
 use bpf_isa::Profile;
 use doc_text::{five_words, four_words, is_same, number, three_words};
+use lock_words::{batch_of, form_named};
 use shfl_line::Form;
 use sim_model::{Layout, Work};
 
@@ -23,33 +24,6 @@ fn profile_named(word: &[u8]) -> Option<Profile>
     } else {
         None
     }
-}
-
-fn form_named(word: &[u8]) -> Option<Form>
-    ensures { result ≡ form_named word.now }
-{
-    if is_same(word, b"spin") {
-        Some(Form::Spin)
-    } else if is_same(word, b"rw") {
-        Some(Form::Rw)
-    } else if is_same(word, b"park") {
-        Some(Form::Park)
-    } else if is_same(word, b"rw-park") {
-        Some(Form::RwPark)
-    } else {
-        None
-    }
-}
-
-fn batch_of(word: &[u8]) -> Option<u16>
-    ensures exact { result ≡ batch_in word.now }
-    ensures within { IfSome result (λ n. (0 < n) × (n ≤ 1024)) }
-{
-    let batch = number(1024, word)?;
-    if batch == 0 {
-        return None;
-    }
-    Some(batch as u16)
 }
 
 fn layout_named(word: &[u8]) -> Option<Layout>

@@ -12,8 +12,9 @@ use Rattle.policy_text.proofs.Chains.{ok-same}
 use Rattle.policy_text.proofs.HeadingLines.{Heads, heading_in-some}
 use Rattle.policy_text.proofs.Parts.{joined-lines}
 use Rattle.shfl_line.specs.declared.words.Attr.{Attr}
+use Rattle.doc_text.specs.Faults.{Then}
 use Rattle.trace_text.specs.Document.{PolicyLine, CallLine, Document}
-use Rattle.trace_text.specs.Grammar.{Front, trace_heading, workers_in, front_in, policies_line, document_in, calls_in, ReadsPolicies, Then, ReadsTrace}
+use Rattle.trace_text.specs.Grammar.{Front, trace_heading, workers_in, front_in, policies_line, document_in, calls_in, ReadsPolicies, ReadsTrace}
 use Rattle.trace_text.specs.Spelling.{worker_line, call_line, lines_with}
 use Rattle.trace_text.specs.Texts.{IsPolicyText, IsText}
 use Rattle.trace_text.specs.Limits.{Fits}

@@ -4,10 +4,10 @@ use Rattle.std.specs.Prelude.{MatchOption}
 use Rattle.bpf_isa.specs.declared.insn.Profile.{Profile}
 use Rattle.doc_text.specs.declared.fault.Fault.{Fault}
 use Rattle.doc_text.specs.Text.{pieces, text_in}
-use Rattle.doc_text.specs.Faults.{fault, ◌>>=◌, or_fault}
+use Rattle.doc_text.specs.Faults.{fault, ◌>>=◌, or_fault, Then}
 use Rattle.policy_text.specs.Accepted.{Judged}
 use Rattle.trace_text.specs.Document.{PolicyLine, Document}
-use Rattle.trace_text.specs.Grammar.{Front, front_in, policies_line, document_in, policy_says, ReadsPolicies, Then, ReadsTrace}
+use Rattle.trace_text.specs.Grammar.{Front, front_in, policies_line, document_in, policy_says, ReadsPolicies, ReadsTrace}
 
 abbrev Policies : Type 0
 Policies = Result (List PolicyLine × List (List ℕ)) Fault

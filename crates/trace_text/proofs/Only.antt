@@ -7,7 +7,7 @@ use Rattle.bpf_isa.specs.declared.insn.Profile.{Profile}
 use Rattle.shfl_line.specs.declared.words.Attr.{Attr}
 use Rattle.doc_text.specs.declared.fault.Fault.{Fault}
 use Rattle.doc_text.specs.Text.{pieces, ended}
-use Rattle.doc_text.specs.Faults.{GivesOrWants}
+use Rattle.doc_text.specs.Faults.{GivesOrWants, Then}
 use Rattle.doc_text.proofs.Joining.{pieces-ended}
 use Rattle.policy_text.specs.declared.error.NoMemory.{NoMemory}
 use Rattle.policy_text.specs.Attributes.{IsAttr}
@@ -20,7 +20,7 @@ use Rattle.trace_text.specs.declared.error.TraceError.TheVariants as errors
 use Rattle.trace_text.specs.declared.trace.Trace.{Trace}
 use Rattle.trace_text.specs.Document.{PolicyLine, CallLine, Document}
 use Rattle.trace_text.specs.Errors.{fault_of, Allows}
-use Rattle.trace_text.specs.Grammar.{Front, trace_heading, workers_in, front_in, policies_line, document_in, calls_in, ReadsPolicies, Then, ReadsTrace}
+use Rattle.trace_text.specs.Grammar.{Front, trace_heading, workers_in, front_in, policies_line, document_in, calls_in, ReadsPolicies, ReadsTrace}
 use Rattle.trace_text.specs.Spelling.{worker_line, policy_line, call_line, lines_with, spelling}
 use Rattle.trace_text.specs.Texts.{IsPolicyText, IsText}
 use Rattle.trace_text.specs.Limits.{IsPolicy, AreNamedApart, Fits}

@@ -8,7 +8,7 @@ use Rattle.bpf_isa.specs.declared.insn.Profile.{Profile}
 use Rattle.doc_text.specs.declared.fault.Fault.{Fault}
 use Rattle.doc_text.specs.Text.{text_in, ended}
 use Rattle.doc_text.specs.Words.{words, same, four, is_word}
-use Rattle.doc_text.specs.Faults.{fault, ◌>>=◌, or_fault}
+use Rattle.doc_text.specs.Faults.{fault, ◌>>=◌, or_fault, Then}
 use Rattle.doc_text.proofs.Due.{bind-some, or_fault-some}
 use Rattle.doc_text.proofs.Joining.{same-true, text_in-some}
 use Rattle.policy_text.specs.Accepted.{Judged}
@@ -18,7 +18,7 @@ use Rattle.policy_text.proofs.Parts.{text-spaced}
 use Rattle.policy_text.proofs.ProgramWords.{source_in-some, program-bytes}
 use Rattle.trace_text.specs.Document.{PolicyLine}
 use Rattle.trace_text.specs.Lines.{is_policy_name, PolicyWords, policy_in, programs_in, is_declared}
-use Rattle.trace_text.specs.Grammar.{policy_says, Then, ReadsPolicies}
+use Rattle.trace_text.specs.Grammar.{policy_says, ReadsPolicies}
 use Rattle.trace_text.specs.Texts.{IsPolicyText}
 use Rattle.trace_text.specs.Limits.{IsPolicy, AreNamedApart}
 use Rattle.name_order.proofs.Placing.{all-push}

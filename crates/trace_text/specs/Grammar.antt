@@ -5,7 +5,7 @@ use Rattle.bpf_isa.specs.declared.insn.Profile.{Profile}
 use Rattle.doc_text.specs.declared.fault.Fault.{Fault}
 use Rattle.doc_text.specs.Text.{pieces, text_in}
 use Rattle.doc_text.specs.Words.{words, same}
-use Rattle.doc_text.specs.Faults.{fault, ◌>>=◌, or_fault, fixed_due, lines_from, section_from}
+use Rattle.doc_text.specs.Faults.{fault, ◌>>=◌, or_fault, fixed_due, lines_from, section_from, Then}
 use Rattle.trace_text.specs.Document.{CallLine, PolicyLine, Document}
 use Rattle.policy_text.specs.Attributes.{attr_in}
 use Rattle.policy_text.specs.Headings.{Heading, heading_in}
@@ -39,11 +39,6 @@ policy_says before line text =
     if nat_le 64 (length before) then fault line 6
     else if is_declared before p.name then fault line 7
     else or_fault line 8 (programs_in p) >>= λ policy. Ok (Some policy)
-
--- behind a step: its fault, or what its value leads to
-abbrev pub Then : {A B : Type 0} → Result A Fault → (A → Result B Fault → Type 0) → Result B Fault → Type 0
-Then (Ok x) next read = next x read
-Then (Err e) next read = read ≡ Err e
 
 -- The policies and the pieces from the line `calls` on, or a fault. A policy whose programs aren't both accepted is fault 9.
 -- It is a relation, since acceptance speaks of all paths through a program.

@@ -1,0 +1,8 @@
+//! How documents spell what a lock is opened with: its form, and the limit of its batches.
+#![tactic(auto)]
+
+mod forms;
+mod limits;
+
+pub use forms::{form_name, form_named};
+pub use limits::batch_of;
