@@ -3,3 +3,4 @@ pub mod KeptOnce
 pub mod LegalMerge
 pub mod LongerHistories
 pub mod Points
+pub mod ReadsLeave

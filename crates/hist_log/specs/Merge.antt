@@ -38,6 +38,10 @@ module _ {E : Type 0} (receipt : E → ℕ) where
     pub as_many : length starts ≡ length reads
     pub each : (k : ℕ) → k < length reads → StartsAt point (slice_index_or reads k []) (slice_index starts k)
 
+-- each entry of each list is a read
+abbrev pub AreReads : {O C R : Type 0} → (C → List ℕ) → (List ℕ → Type 0) → List (List (Entry O C R)) → Type 0
+AreReads call is_read reads = All (All (λ e. is_read (call e.call))) reads
+
 -- each read is answered by the state that as many writes leave as its receipt says
 abbrev pub ReadsFit : {O C R : Type 0} → (C → List ℕ) → (R → List ℕ) → (List ℕ → Type 0)
     → (List ℕ → List ℕ → List ℕ) → (List ℕ → List ℕ → List ℕ) → List ℕ → List (Entry O C R) → List (List (Entry O C R)) → Type 0

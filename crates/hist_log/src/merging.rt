@@ -2,8 +2,8 @@
 ghost use Rattle.std.specs.Prelude.{◌≡◌, ℕ, ◌≤◌, ◌<◌, ◌+◌, ◌==◌, ◌++◌, List, map, filter, IfOk, OnOk};
 ghost use Rattle.std.specs.List.{flat_map};
 ghost use Rattle.std.specs.List.Sorted.{IsNonDecreasingBy, IsPermutation};
-ghost use Rattle.hist_log.specs.History.{operations, IsLegal};
-ghost use Rattle.hist_log.specs.Merge.{reads_at, merged, AreInOrder, AreWithin, StartsAt, AllStartAt, ReadsFit};
+ghost use Rattle.hist_log.specs.History.{operations, state_left, IsLegal};
+ghost use Rattle.hist_log.specs.Merge.{reads_at, merged, AreInOrder, AreWithin, StartsAt, AllStartAt, AreReads, ReadsFit};
 
 use crate::NoMemory;
 use crate::entry::Entry;
@@ -33,6 +33,14 @@ pub fn merge<O: Object>(
         writes.now (map (λ v. v.items) reads.now)
         → IfOk result (λ v. IsLegal O.reply_at O.state_after state
         (operations O.call_numbers O.reply_numbers v.items)) }
+
+    // Where only reads are put between them, the whole leaves what the writes leave.
+    ensures state { (state : List ℕ)
+        → AreReads O.call_numbers O.reads (map (λ v. v.items) reads.now)
+        → IfOk result (λ v. state_left O.state_after state
+        (operations O.call_numbers O.reply_numbers v.items)
+        ≡ state_left O.state_after state
+        (operations O.call_numbers O.reply_numbers writes.now)) }
 {
     let mut merged = Vec::with_capacity(alloc, entries_in(writes, reads))?;
     let mut starts = vec![in alloc; 0; reads.len()]?;

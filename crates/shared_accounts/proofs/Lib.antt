@@ -1,0 +1,2 @@
+pub mod LongerRounds
+pub mod OwnCalls

@@ -9,6 +9,9 @@ abbrev pub call_numbers : Call → List ℕ
 call_numbers (Transfer amount) = amount ∷ []
 call_numbers Balance = []
 
+abbrev pub reply_numbers : ℕ → List ℕ
+reply_numbers reply = reply ∷ []
+
 abbrev pub state_numbers : Accounts → List ℕ
 state_numbers a = a.first ∷ a.second ∷ []
 

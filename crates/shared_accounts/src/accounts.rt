@@ -33,7 +33,7 @@ impl Object for Accounts {
 
     ghost call_numbers = { meaning.call_numbers };
 
-    ghost reply_numbers = { λ reply. reply ∷ [] };
+    ghost reply_numbers = { meaning.reply_numbers };
 
     ghost reply_at = { meaning.reply_at };
 

@@ -1,10 +1,11 @@
 //! Four threads transfer between two accounts behind one lock, and look at them beside one another.
 #![tactic(auto)]
 
-ghost use Rattle.std.specs.Prelude.{◌≡◌, ◌∷◌, [], All, vec_len, IfSome};
-ghost use Rattle.hist_log.specs.History.{operations, IsLegal};
+ghost use Rattle.std.specs.Prelude.{◌≡◌, ℕ, ◌+◌, ◌%◌, ◌<◌, ◌∷◌, [], All, vec_len, IfSome};
+ghost use Rattle.hist_log.specs.History.{operations, state_left, IsLegal};
 ghost use Rattle.rw_cell.specs.RwCells.{AreInOrder, IsPassOf, number};
-ghost use Rattle.shared_accounts.specs.Accounts.{call_numbers, reply_at, state_after};
+ghost use Rattle.shared_accounts.specs.Accounts.{call_numbers, reply_numbers, state_numbers, reply_at, state_after};
+ghost use Rattle.shared_accounts.specs.Rounds.{rounds, calls_by, IsReady, HasWorked};
 
 mod accounts;
 
@@ -31,15 +32,14 @@ const ROUNDS: u32 = 100;
 // The transfers of one thread, each with a look at the balance after it.
 fn work<R: Wait>(rt: &R, bank: &RwCell<Accounts>, policy: &Policy, pass: &mut RwPass<Accounts>)
     requires bank { pass.old.cell ≡ bank.now.id }
+    requires ready { IsReady pass.old }
     ensures same { (pass.new.cell ≡ pass.old.cell) × (pass.new.opening ≡ pass.old.opening)
         × (number pass.new ≡ number pass.old) }
+    ensures worked { HasWorked pass.new }
 {
     let mut chooser = policy.running();
     let amount = 1 + pass.number() % 4;
-    for _ in 0..ROUNDS {
-        if pass.left() < 2 {
-            return;
-        }
+    for _round in 0..ROUNDS {
         let transfer = Call::Transfer { amount };
         let _ = bank.write(rt, pass, &mut chooser, &OpenGate, &transfer);
         let _ = bank.read(rt, pass, &mut chooser, &OpenGate, &Call::Balance);
@@ -55,14 +55,17 @@ fn work_all<R: Threads + Wait + Sync>(
 )
     requires bank { All (IsPassOf bank.now) passes.old }
     requires in_order { AreInOrder passes.old }
+    requires ready { All IsReady passes.old }
     ensures bank { All (IsPassOf bank.now) passes.new }
     ensures in_order { AreInOrder passes.new }
+    ensures worked { All HasWorked passes.new }
 {
     let job = |_place: usize, pass: &mut RwPass<Accounts>|
-        requires { pass.now.cell ≡ bank.now.id }
+        requires { (pass.now.cell ≡ bank.now.id) × IsReady pass.now }
         ensures { (pass.exit.now.cell ≡ pass.entry.now.cell)
             × (pass.exit.now.opening ≡ pass.entry.now.opening)
-            × (number pass.exit.now ≡ number pass.entry.now) }
+            × (number pass.exit.now ≡ number pass.entry.now)
+            × HasWorked pass.exit.now }
     {
         work(rt, bank, policy, pass);
     };
@@ -78,8 +81,19 @@ fn close(
     requires bank { All (IsPassOf bank) passes.items }
     requires all { vec_len passes ≡ bank.count }
     requires in_order { AreInOrder passes.items }
+    requires worked { All HasWorked passes.items }
     ensures legal { IfSome result (λ r. IsLegal reply_at state_after bank.opening
-        (operations call_numbers (λ reply. reply ∷ []) r.1.items)) }
+        (operations call_numbers reply_numbers r.1.items)) }
+
+    // The history leaves the balances that are given.
+    ensures balances { IfSome result (λ r. state_numbers r.0
+        ≡ state_left state_after bank.opening
+        (operations call_numbers reply_numbers r.1.items)) }
+
+    // It has the rounds of each worker, in order, and no other calls.
+    ensures calls { IfSome result (λ r. (k : ℕ) → k < bank.count
+        → calls_by k r.1.items ≡ rounds (1 + k % 4) ROUNDS) }
+    ensures nobody_else { IfSome result (λ r. All (λ e. e.worker < bank.count) r.1.items) }
 {
     let (mut copies, writes, reads) = bank.close(passes);
     let history = merge(alloc, &writes, &reads).ok()?;
@@ -96,14 +110,25 @@ fn of_socket(socket: u16) -> Attr {
     }
 }
 
-/// What four threads leave of two accounts, with the one legal history of all their calls.
+/// What four threads leave of two accounts, with the one legal history of all their calls. `None`
+/// where there is no memory.
 fn run<R: Threads + Wait + Sync>(
     rt: &R,
     alloc: Global,
     policy: &Policy,
 ) -> Option<(Accounts, Vec<Entry<Accounts>>)>
     ensures legal { IfSome result (λ r. IsLegal reply_at state_after (5000 ∷ 0 ∷ [])
-        (operations call_numbers (λ reply. reply ∷ []) r.1.items)) }
+        (operations call_numbers reply_numbers r.1.items)) }
+
+    // The history leaves the balances that are given.
+    ensures balances { IfSome result (λ r. state_numbers r.0
+        ≡ state_left state_after (5000 ∷ 0 ∷ [])
+        (operations call_numbers reply_numbers r.1.items)) }
+
+    // It has the rounds of each worker, in order, and no other calls: worker k transfers 1 + k.
+    ensures calls { IfSome result (λ r. (k : ℕ) → k < 4
+        → calls_by k r.1.items ≡ rounds (1 + k) 100) }
+    ensures nobody_else { IfSome result (λ r. All (λ e. e.worker < 4) r.1.items) }
 {
     let opening = Accounts {
         first: 5000,

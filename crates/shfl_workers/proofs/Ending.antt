@@ -5,9 +5,11 @@ use Rattle.dir_table.specs.declared.calls.DirReply.{DirReply}
 use Rattle.dir_table.specs.Directory.{Directory}
 use Rattle.dir_table.specs.Numbers.{call_numbers, reply_numbers, state_numbers}
 use Rattle.dir_table.specs.Meanings.{reply_at, state_after, Reads}
+use Rattle.dir_table.specs.ObjectLaws.{reads_leave}
 use Rattle.hist_log.specs.declared.entry.Entry.{Entry}
 use Rattle.hist_log.specs.History.{IsLegal, operations, state_left}
 use Rattle.hist_log.specs.Merge.{merged}
+use Rattle.hist_log.proofs.ReadsLeave.{reads_leave_all}
 use Rattle.shfl_table.specs.declared.kept.Action.{Action}
 use Rattle.shfl_table.specs.Histories.{actions_by}
 use Rattle.shfl_table.specs.Books.{actions}
@@ -22,7 +24,7 @@ use Rattle.shfl_workers.specs.Passes.{AtEachPlace, IsDone}
 use Rattle.shfl_workers.specs.Opened.{IsCellFor}
 use Rattle.shfl_workers.specs.RwDirs.{HasMade}
 use Rattle.shfl_workers.proofs.Numbered.{of_all}
-use Rattle.shfl_workers.proofs.Merging.{made_once, nobody, reads_leave_all}
+use Rattle.shfl_workers.proofs.Merging.{made_once, nobody}
 use Rattle.shfl_workers.proofs.Histories.{HasAll, has_all, is_history}
 
 any_default : {X : Type 0} (xs : List X) (i : ℕ) (d e : X) → i < length xs → get_or xs i d ≡ get_or xs i e
@@ -72,4 +74,4 @@ module _ {O : Type 0} (t : Trace) (within : IsWithin t) (cell : RwCellModel) (op
       subst (λ (l : List (Entry O DirCall DirReply)). IsHistoryOf t (map done_of l) dir) (sym order)
       (is_history t within history (has_all t within history ps many own nobody_else) dir
       (subst (λ s. at_beginning s history) opened.1 (subst (at_beginning cell.opening) order legal))
-      (state ∙ sym (reads_leave_all cell.opening 0 reads writes only_reads) ∙ ap (λ s. state_left state_after s (operations call_numbers reply_numbers history)) opened.1))
+      (state ∙ sym (reads_leave_all call_numbers reply_numbers Reads state_after reads_leave cell.opening writes reads only_reads) ∙ ap (λ s. state_left state_after s (operations call_numbers reply_numbers history)) opened.1))

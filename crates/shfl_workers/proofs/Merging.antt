@@ -6,12 +6,9 @@ use Rattle.std.proofs.lemmas.List.Elements.{All-head, All-tail}
 use Rattle.dir_table.specs.declared.calls.DirCall.{DirCall}
 use Rattle.dir_table.specs.declared.calls.DirReply.{DirReply}
 use Rattle.dir_table.specs.Numbers.{call_numbers, reply_numbers}
-use Rattle.dir_table.specs.Meanings.{reply_at, state_after, Reads}
-use Rattle.dir_table.specs.ObjectLaws.{calls_differ, reads_leave}
+use Rattle.dir_table.specs.ObjectLaws.{calls_differ}
 use Rattle.hist_log.specs.declared.entry.Entry.{Entry}
-use Rattle.hist_log.specs.History.{operation, operations, state_left}
 use Rattle.hist_log.specs.Merge.{reads_at, merged_from}
-use Rattle.hist_log.proofs.LongerHistories.{state_left-append}
 use Rattle.shfl_table.specs.declared.kept.Action.{Action}
 use Rattle.shfl_table.specs.Histories.{actions_by}
 use Rattle.shfl_table.proofs.Histories.{said_by-append}
@@ -83,42 +80,6 @@ module _ {O : Type 0} where
       ap (actions_by k) (map-append (action call_numbers reply_numbers) here (w ∷ later)) ∙ said_by-append k (acts here) (acts (w ∷ later))
       ∙ (λ j. none_at k point ls other j ++ cond (split.0 j) (action call_numbers reply_numbers w ∷ actions_by k (acts later)) (actions_by k (acts later)))
       ∙ nobody k (suc point) ls ws other split.1
-
-  left_append : (state : List ℕ) (xs ys : List (Entry O DirCall DirReply)) → state_left state_after state (operations call_numbers reply_numbers (xs ++ ys))
-      ≡ state_left state_after (state_left state_after state (operations call_numbers reply_numbers xs)) (operations call_numbers reply_numbers ys)
-  left_append state xs ys = ap (state_left state_after state) (map-append (operation call_numbers reply_numbers) xs ys)
-      ∙ state_left-append reply_at state_after state (operations call_numbers reply_numbers xs) (operations call_numbers reply_numbers ys)
-
-  kept_leave : (state : List ℕ) (point : ℕ) (l : List (Entry O DirCall DirReply)) → All (λ e. Reads (call_numbers e.call)) l
-      → state_left state_after state (operations call_numbers reply_numbers (filter (λ e. eqb e.receipt point) l)) ≡ state
-  kept_leave state point [] reads = refl
-  kept_leave state point (e ∷ es) reads =
-      let P : Entry O DirCall DirReply → Type 0 = λ x. Reads (call_numbers x.call) in
-      let rest = kept_leave state point es (All-tail P e es reads) in
-      let kept = filter (λ (x : Entry O DirCall DirReply). eqb x.receipt point) es in
-      elim (eqb e.receipt point) as (λ b. state_left state_after state (operations call_numbers reply_numbers (cond b (e ∷ kept) kept)) ≡ state) [
-        | true ↦ ap (λ s. state_left state_after s (operations call_numbers reply_numbers kept)) (reads_leave state (call_numbers e.call) (All-head P e es reads)) ∙ rest
-        | false ↦ rest
-      ]
-
-  at_leave : (state : List ℕ) (point : ℕ) (ls : List (List (Entry O DirCall DirReply))) → All (All (λ e. Reads (call_numbers e.call))) ls
-      → state_left state_after state (operations call_numbers reply_numbers (reads_at (λ e. e.receipt) ls point)) ≡ state
-  at_leave state point [] reads = refl
-  at_leave state point (l ∷ ls) reads =
-      let P : List (Entry O DirCall DirReply) → Type 0 = All (λ x. Reads (call_numbers x.call)) in
-      left_append state (filter (λ (e : Entry O DirCall DirReply). eqb e.receipt point) l) (reads_at (λ (e : Entry O DirCall DirReply). e.receipt) ls point)
-      ∙ ap (λ s. state_left state_after s (operations call_numbers reply_numbers (reads_at (λ (e : Entry O DirCall DirReply). e.receipt) ls point))) (kept_leave state point l (All-head P l ls reads))
-      ∙ at_leave state point ls (All-tail P l ls reads)
-
-  -- the reads leave what the writes leave
-  pub reads_leave_all : (state : List ℕ) (point : ℕ) (ls : List (List (Entry O DirCall DirReply))) (ws : List (Entry O DirCall DirReply)) → All (All (λ e. Reads (call_numbers e.call))) ls
-      → state_left state_after state (operations call_numbers reply_numbers (merged_from (λ e. e.receipt) ls point ws)) ≡ state_left state_after state (operations call_numbers reply_numbers ws)
-  reads_leave_all state point ls [] reads = at_leave state point ls reads
-  reads_leave_all state point ls (w ∷ ws) reads =
-      let here = reads_at (λ (e : Entry O DirCall DirReply). e.receipt) ls point in let later = merged_from (λ (e : Entry O DirCall DirReply). e.receipt) ls (suc point) ws in
-      left_append state here (w ∷ later)
-      ∙ ap (λ s. state_left state_after s (operations call_numbers reply_numbers (w ∷ later))) (at_leave state point ls reads)
-      ∙ reads_leave_all (state_after state (call_numbers w.call)) (suc point) ls ws reads
 
 -- nobody else makes a call
 pub nobody_makes : (k workers names policies : ℕ) (calls : List TraceCall) → workers ≤ k → AllByRecursion (IsCallOf workers names policies) calls → of_worker k (made_in calls) ≡ []

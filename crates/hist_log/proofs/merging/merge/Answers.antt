@@ -2,11 +2,12 @@ use Rattle.std.proofs.Common.{◌≡◌, ◌+◌, ◌++◌, [], ◌∷◌, map, 
 use Rattle.std.specs.List.{flat_map}
 use Rattle.std.specs.List.Sorted.{IsPermutation}
 use Rattle.std.proofs.lemmas.List.{take_at}
-use Rattle.hist_log.specs.History.{operations, IsLegal}
+use Rattle.hist_log.specs.History.{operations, state_left, IsLegal}
 use Rattle.hist_log.specs.Merge.{AllStartAt}
 use Rattle.hist_log.proofs.KeptOnce.{kept_once}
 use Rattle.hist_log.proofs.LegalMerge.{legal_merge}
 use Rattle.hist_log.proofs.Points.{point_merged, all_merged}
+use Rattle.hist_log.proofs.ReadsLeave.{reads_leave_all}
 use Rattle.hist_log.proofs.merging.merge.Goals as goal
 
 pub loop-point-preserved : goal.loop-point-preserved
@@ -43,3 +44,9 @@ returns-clause-legal g c state writes_legal fits =
     let O = g.O.Object in
     subst (λ l. IsLegal O.reply_at O.state_after state (operations O.call_numbers O.reply_numbers l)) (sym (returns-clause-order g c))
     (legal_merge O.call_numbers O.reply_numbers O.reads O.reply_at O.state_after g.met.O.Object.reads_leave (map (λ v. v.items) c.args.reads.now) state c.args.writes.now writes_legal fits)
+
+pub returns-clause-state : goal.returns-clause-state
+returns-clause-state g c state are =
+    let O = g.O.Object in
+    ap (λ l. state_left O.state_after state (operations O.call_numbers O.reply_numbers l)) (returns-clause-order g c)
+    ∙ reads_leave_all O.call_numbers O.reply_numbers O.reads O.state_after g.met.O.Object.reads_leave state c.args.writes.now (map (λ v. v.items) c.args.reads.now) are
