@@ -16,4 +16,7 @@ lines="$(bin/draw --text <examples/half-done-relink.line.out | wc -l)"
 for report in examples/*.line.out; do
     bin/draw --text --all <"$report" >/dev/null || { echo "FAILED $report is refused"; failed=1; }
 done
+# the program's own name isn't looked at
+(exec -a $'\xff' crates/syncord_draw/out/syncord_draw --text <examples/half-done-relink.line.out) | cmp -s - <(bin/draw --text <examples/half-done-relink.line.out) ||
+    { echo "FAILED a name of the program that is no text"; failed=1; }
 exit "$failed"

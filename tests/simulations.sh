@@ -51,5 +51,8 @@ for setup in "$top"/examples/*.sim; do
         [ -z "$due" ] || [ "$(holders "$got/rows")" = "$due" ] || fail "$name: others hold in the run of $policy: $(holders "$got/rows") for $due"
     done < <(grep '^policy ' "$setup")
 done
+# the program's own name isn't looked at
+setup="$top/examples/$(cd "$top/examples" && ls -- *.sim | head -n 1)"
+(exec -a $'\xff' "$top/crates/syncord_sim/out/syncord_sim" <"$setup") | cmp -s - "$setup.out" || fail "$(basename "$setup"): another report under a name that is no text"
 [ "$failed" = 0 ] && echo "simulations: $runs runs are reported as they must be, and are schedules of the lock"
 exit "$failed"

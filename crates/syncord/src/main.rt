@@ -4,9 +4,7 @@
 ghost use Rattle.std.specs.Prelude.{◌≡◌};
 ghost use Rattle.std.specs.Process.{exit_status};
 
-mod words;
-
-use crate::words::words_of;
+use process_words::words_of;
 use std::process::ExitCode;
 use syn_outer::{OpenGate, StdSink, StdSource};
 use syncord_app::syncord;
