@@ -2,10 +2,11 @@
 import os
 import random
 import resource
+import statistics
 import subprocess
 import sys
 
-ROUNDS = 15
+ROUNDS = 25
 HEAD = "syncord-trace 1\nworker 0 0 0 0\npolicy none - -\ncalls\n"
 
 
@@ -58,10 +59,16 @@ def seconds(program, words, text):
     return used() - before, done.stdout
 
 
+def growths(took, which, counts):
+    """By how many times the longer trace takes longer: the best of each length, and the median of each."""
+    small, large = (took[which, count] for count in counts)
+    return f"{min(large) / min(small):.1f} {statistics.median(large) / statistics.median(small):.1f}"
+
+
 def main(folder, program, peer):
     kinds = ["rising", "falling", "random", "middle", "drops", "renames", "counts", "sizes", "nexts", "long-names"]
     counts = (8192, 65536)
-    print("trace           calls   ours ms   peer ms   ratio")
+    print("trace           calls   ours ms   peer ms   ratio   growth of the best, and of the median")
     for kind in kinds:
         texts = {}
         for count in counts:
@@ -69,19 +76,19 @@ def main(folder, program, peer):
             with open(texts[count], "w") as out:
                 out.write(HEAD + "\n".join(calls(kind, count)) + "\n")
         # both programs and both lengths in turn, so that a machine that grows slower does so for all four
-        best, wrote = {}, {}
+        took, wrote = {}, {}
         for _ in range(ROUNDS):
             for count in counts:
                 for which, words in ((program, ["replay"]), (peer, [])):
                     used, wrote[which, count] = seconds(which, words, texts[count])
-                    best[which, count] = min(best.get((which, count), 9e9), used * 1000)
+                    took.setdefault((which, count), []).append(used * 1000)
         for count in counts:
             if wrote[program, count] != wrote[peer, count]:
                 sys.exit(f"{kind}: the two programs write different bytes")
-            ours, theirs = best[program, count], best[peer, count]
+            ours, theirs = min(took[program, count]), min(took[peer, count])
             growth = ""
             if count == counts[1]:
-                growth = f"   {ours / best[program, counts[0]]:.1f} times, peer {theirs / best[peer, counts[0]]:.1f} times"
+                growth = f"   ours {growths(took, program, counts)}, peer {growths(took, peer, counts)}"
             print(f"{kind:14} {count:6} {ours:9.1f} {theirs:9.1f} {ours / max(theirs, 0.001):7.2f}{growth}", flush=True)
         for text in texts.values():
             os.remove(text)
