@@ -5,8 +5,10 @@ import resource
 import statistics
 import subprocess
 import sys
+import time
 
-ROUNDS = 25
+# A trace is run so often, or as often as it can be in so many seconds, but at least so often.
+ROUNDS, SECONDS, AT_LEAST = 100, 20, 15
 HEAD = "syncord-trace 1\nworker 0 0 0 0\npolicy none - -\ncalls\n"
 
 
@@ -77,7 +79,10 @@ def main(folder, program, peer):
                 out.write(HEAD + "\n".join(calls(kind, count)) + "\n")
         # both programs and both lengths in turn, so that a machine that grows slower does so for all four
         took, wrote = {}, {}
-        for _ in range(ROUNDS):
+        begun = time.monotonic()
+        for turn in range(ROUNDS):
+            if turn >= AT_LEAST and time.monotonic() - begun > SECONDS:
+                break
             for count in counts:
                 for which, words in ((program, ["replay"]), (peer, [])):
                     used, wrote[which, count] = seconds(which, words, texts[count])

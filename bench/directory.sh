@@ -1,6 +1,6 @@
 #!/usr/bin/env bash
 # Times `syncord replay` beside a Rust program over a BTreeMap that writes the same bytes, on traces of 8,192 and of 65,536
-# calls: processor milliseconds, the best of 25 in turn, and how both grow. Not a part of the gate. It builds the peer in a folder that it removes.
+# calls: processor milliseconds, the best of up to 100 in turn, and by how much the best and the median grow. Not a part of the gate. It builds the peer in a folder that it removes.
 set -eu
 top="$(cd "$(dirname "$(readlink -f "${BASH_SOURCE[0]}")")/.." && pwd)"
 program="${SYNCORD:-$top/crates/syncord/out/syncord}"
