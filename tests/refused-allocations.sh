@@ -93,6 +93,9 @@ cd "$top/examples" || exit 1
 refuse half-done-relink.line line
 refuse half-done-relink-by-program.line line
 refuse parking-beside-readers.line line
+# a report that goes out in several pieces
+{ cat parking-beside-readers.line; yes 'step 1' | head -n 3000; } >"$got/long.line"
+refuse "$got/long.line" line
 refuse policies/socket.hex verify
 refuse policies/socket.asm asm
 refuse policies/socket.hex disasm

@@ -191,6 +191,40 @@ fn a_sink_fails_at_each_call(rt: HostRuntime) -> Result<(), Fail> {
 }
 
 #[test]
+fn a_sink_fails_at_each_piece_of_a_long_report(rt: HostRuntime) -> Result<(), Fail> {
+    let alloc = rt.alloc();
+    let mut bytes = Vec::from_slice(alloc, FAST_PATH.as_bytes().get(..67).ok_or("bytes")?)?;
+    for _ in 0..1000 {
+        bytes.extend_from_slice(b"free 0\n")?;
+    }
+    let mut src = SureSource::new(Vec::from_slice(alloc, &bytes)?);
+    let mut whole = SureSink::open(alloc, 60_000).ok().ok_or("memory")?;
+    let mut err = SureSink::open(alloc, 100).ok().ok_or("memory")?;
+    assert_eq!(rt; run_line(alloc, &mut src, &mut whole, &mut err), 0);
+    assert!(rt; whole.bytes().len() > 40_000);
+    // two pieces, the first of them as long as a piece may get
+    for call in 1u32..=3 {
+        let mut src = SureSource::new(Vec::from_slice(alloc, &bytes)?);
+        let mut out = MemSink::open(alloc, 60_000, 60_000, vec![in alloc; call]?)
+            .ok()
+            .ok_or("memory")?;
+        let mut err = SureSink::open(alloc, 100).ok().ok_or("memory")?;
+        let status = run_line(alloc, &mut src, &mut out, &mut err);
+        let written = out.bytes().len();
+        assert_eq!(rt; status, if call <= 2 { 4 } else { 0 });
+        assert_eq!(rt; Some(out.bytes()), whole.bytes().get(..written));
+        if call <= 2 {
+            let message = format!(in alloc; "syncord: write fault after {written} bytes\n")?;
+            assert_eq!(rt; err.bytes(), message.as_bytes());
+            assert_eq!(rt; written >= 32_768, call == 2);
+        } else {
+            assert_eq!(rt; written, whole.bytes().len());
+        }
+    }
+    Ok(())
+}
+
+#[test]
 fn as_many_events_as_a_schedule_may_have_are_reported(rt: HostRuntime) -> Result<(), Fail> {
     let alloc = rt.alloc();
     let heading = FAST_PATH.as_bytes().get(..67).ok_or("bytes")?;

@@ -13,3 +13,10 @@ pub mod Found
 pub mod Spelled
 pub mod RuleWords
 pub mod Whole
+pub mod Putting
+pub mod Digits
+pub mod Shown
+pub mod Pieces
+pub mod RunEnds
+pub mod ActsAt
+pub mod Unmoved

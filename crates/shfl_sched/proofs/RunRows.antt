@@ -1,5 +1,5 @@
 -- One turn of the loop over the events: the rows and the counts that are still to come.
-use Rattle.std.proofs.Common.{◌≡◌, ℕ, ◌+◌, ◌<◌, List, ◌∷◌, ◌++◌, Bool, true, false, not, cond, length, get_or, drop, drop-cons, add-one, append_assoc, refl, ap, ◌∙◌, arith}
+use Rattle.std.proofs.Common.{◌≡◌, ℕ, ◌+◌, ◌<◌, List, ◌∷◌, ◌++◌, Bool, true, false, not, cond, length, get_or, drop, drop-cons, add-one, refl, ap, ◌∙◌, arith}
 use Rattle.std.proofs.lemmas.List.Sums.{sum_by-cons}
 use Rattle.shfl_line.specs.declared.events.Form.{Form}
 use Rattle.shfl_core.specs.Worlds.{World, admitted}
@@ -23,11 +23,10 @@ module _ (t : Setup) (w : World) (events : List Event) (i : ℕ) (d : Event) whe
   next_refused : i < length events → count_refused (moments t w (drop i events)) ≡ cond (not was_admitted) 1 0 + count_refused (moments t (after_event t w item) (drop (i + 1) events))
   next_refused lt = ap count_refused (next_moment lt) ∙ sum_by-cons (λ (m : Moment). cond (not m.admitted) 1 0) (moment_of t w item) (moments t (after_event t w item) (drop (i + 1) events))
 
-  pub rows_go_on : (form : Form) (text text' total : List ℕ) (k : ℕ) (v : World) (a : Bool) → i < length events → v ≡ after_event t w item → a ≡ was_admitted
-      → text' ≡ text ++ row form k item a v
-      → text ++ rows_from form k (moments t w (drop i events)) ≡ total → text' ++ rows_from form (k + 1) (moments t v (drop (i + 1) events)) ≡ total
-  rows_go_on form text text' total k v a lt after answer more so_far =
-      rw (more, answer, after) (append_assoc text _ _ ∙ (rw (next_moment lt) at so_far))
+  -- the next row stands before those that come then
+  pub next_row : (form : Form) (k : ℕ) (v : World) (a : Bool) → i < length events → v ≡ after_event t w item → a ≡ was_admitted
+      → rows_from form k (moments t w (drop i events)) ≡ row form k item a v ++ rows_from form (k + 1) (moments t v (drop (i + 1) events))
+  next_row form k v a lt after answer = rw (answer, after) (ap (rows_from form k) (next_moment lt))
 
   pub counts_admitted : (count total : ℕ) (v : World) → i < length events → v ≡ after_event t w item → was_admitted ≡ true
       → count + count_admitted (moments t w (drop i events)) ≡ total → count + 1 + count_admitted (moments t v (drop (i + 1) events)) ≡ total

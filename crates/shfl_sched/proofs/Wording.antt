@@ -80,7 +80,7 @@ limit-some t n h =
 
 -- ---- the events
 
-act_named-some : (w : List ℕ) (a : Act) → act_named w ≡ Some a → w ≡ act_word a
+pub act_named-some : (w : List ℕ) (a : Act) → act_named w ≡ Some a → w ≡ act_word a
 act_named-some w a h = by_tests (same w (codes "write")) (same w (codes "read")) (same w (codes "free")) (same w (codes "step")) refl refl refl refl h
   where
     by_tests : (b c d e : Bool) → same w (codes "write") ≡ b → same w (codes "read") ≡ c → same w (codes "free") ≡ d → same w (codes "step") ≡ e
@@ -105,10 +105,10 @@ pass-some passes w n h =
     let b = below r.0 passes n r.2 in
     (d.0 ∙ ap decimal b.0, b.1)
 
-abbrev of_pass : Form → Act → ℕ → Option Event
+abbrev pub of_pass : Form → Act → ℕ → Option Event
 of_pass form act pass = cond (is_act_of form act) (Some (record { act = act; pass = pass })) None
 
-abbrev of_act : Form → ℕ → List ℕ → Act → Option Event
+abbrev pub of_act : Form → ℕ → List ℕ → Act → Option Event
 of_act form passes w act = pass_in passes w >>? of_pass form act
 
 event-two : (form : Form) (passes : ℕ) (w : List ℕ × List ℕ) (e : Event) → (act_named w.0 >>? of_act form passes w.1) ≡ Some e → (spaced (w.0 ∷ w.1 ∷ []) ≡ event_line e) × IsEventOf form passes e

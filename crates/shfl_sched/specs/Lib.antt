@@ -9,3 +9,5 @@ pub mod Run
 pub mod RunLaws
 pub mod ReportParts
 pub mod Report
+pub mod Room
+pub mod Handing

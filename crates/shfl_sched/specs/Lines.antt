@@ -1,5 +1,5 @@
 -- What one line of a schedule says.
-use Rattle.std.specs.Prelude.{ℕ, List, ◌&&◌, Option, Some, None, nat_lt, ◌==◌, if◌then◌else◌, codes}
+use Rattle.std.specs.Prelude.{ℕ, List, ◌&&◌, Option, Some, None, nat_lt, if◌then◌else◌, codes}
 use Rattle.shfl_line.specs.declared.events.Form.{Form}
 use Rattle.doc_text.specs.Words.{is_word, same, two, four, ◌>>?◌}
 use Rattle.doc_text.specs.Numbers.{number_in}

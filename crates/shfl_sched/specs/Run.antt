@@ -1,5 +1,5 @@
 -- A schedule's run: each event is a move of its pass, and each moment has the lock after it.
-use Rattle.std.specs.Prelude.{ℕ, List, [], ◌∷◌, map, Bool, slice_index_or, take}
+use Rattle.std.specs.Prelude.{ℕ, List, [], ◌∷◌, map, Bool, true, false, slice_index_or, take}
 use Rattle.shfl_line.specs.declared.events.Mode.TheVariants.{Write as Alone, Read as Beside}
 use Rattle.shfl_line.specs.declared.words.Attr.{Attr}
 use Rattle.shfl_core.specs.declared.phase.Rules.{Rules}
@@ -32,6 +32,10 @@ own_attr t pass = slice_index_or t.attrs pass no_waiter
 -- the choice at the pass's next step: what the policy answers to what it asks
 abbrev pub choice_at : Setup → World → ℕ → Bool
 choice_at t w pass = answers t.rule (own_attr t pass) (ask t.rules (known w.passes pass))
+
+abbrev pub is_step : Act → Bool
+is_step Step = true
+is_step _ = false
 
 -- the move of a pass that an act is; the choice counts for a step alone
 abbrev pub move_of : Act → ℕ → Bool → Move

@@ -1,5 +1,5 @@
 -- The texts of a schedule. Digits of programs may be in either case, so that a schedule has several.
-use Rattle.std.specs.Prelude.{◌≡◌, ℕ, List, [], ◌∷◌, ◌++◌, map, codes}
+use Rattle.std.specs.Prelude.{◌≡◌, ℕ, List, [], ◌∷◌, ◌++◌, length, map, codes}
 use Rattle.std.specs.List.{flat_map}
 use Rattle.std.specs.Fmt.{decimal}
 use Rattle.bpf_isa.specs.declared.insn.Profile.{Profile}
@@ -25,6 +25,14 @@ act_word acts.Write = codes "write"
 act_word acts.Read = codes "read"
 act_word acts.Free = codes "free"
 act_word acts.Step = codes "step"
+
+-- no act of so many letters and a blank stand at the front
+abbrev pub NamesNoActOf : ℕ → List ℕ → Type 0
+NamesNoActOf letters text = (act : Act) (rest : List ℕ) → length (act_word act) ≡ letters → text ≡ act_word act ++ 32 ∷ rest → ⊥
+
+-- no act and a blank do
+abbrev pub NamesNoAct : List ℕ → Type 0
+NamesNoAct text = (act : Act) (rest : List ℕ) → text ≡ act_word act ++ 32 ∷ rest → ⊥
 
 abbrev pub form_line : Form → List ℕ
 form_line form = spaced (codes "form" ∷ form_text form ∷ [])

@@ -1,5 +1,5 @@
 //! The event lines of a schedule.
-ghost use Rattle.std.specs.Prelude.{◌≡◌, ◌<◌, ◌≤◌, [], length, IfOk, OnOk};
+ghost use Rattle.std.specs.Prelude.{◌≡◌, ◌<◌, ◌≤◌, ◌∷◌, ◌++◌, [], length, IfOk, OnOk, MatchOption};
 ghost use Rattle.doc_text.specs.Text.{pieces};
 ghost use Rattle.doc_text.specs.Words.{words};
 ghost use Rattle.doc_text.specs.Faults.{GivesOrWants, lines_from};
@@ -7,11 +7,12 @@ ghost use Rattle.shfl_core.specs.Plan.{shares};
 ghost use Rattle.shfl_sched.specs.Errors.{fault_of};
 ghost use Rattle.shfl_sched.specs.Schedules.{is_act_of};
 ghost use Rattle.shfl_sched.specs.Lines.{act_named, pass_in, event_in};
+ghost use Rattle.shfl_sched.specs.Spelling.{act_word, NamesNoAct, NamesNoActOf};
 ghost use Rattle.shfl_sched.specs.Grammar.{event_says, events_in};
 
 use crate::error::ScheduleError;
 use crate::schedule::{Act, Event};
-use doc_text::{Fault, fixed_due, is_same, number, text_at, two_words};
+use doc_text::{Fault, fixed_due, is_same, number, text_at};
 use shfl_line::Form;
 use std::alloc::Global;
 
@@ -31,6 +32,31 @@ fn act_named(word: &[u8]) -> Option<Act>
     }
 }
 
+// The act of so many letters at the front of a text, and what stands behind the blank after it.
+fn act_of(text: &[u8], letters: usize) -> Option<(Act, &[u8])>
+    ensures { MatchOption result
+        (NamesNoActOf letters text.now)
+        (λ x. text.now ≡ act_word x.0 ++ 32 ∷ x.1.now) }
+{
+    if letters >= text.len() || text[letters] != b' ' {
+        return None;
+    }
+    let act = act_named(&text[..letters])?;
+    Some((act, &text[letters + 1..]))
+}
+
+// The act at the front of a text, and what stands behind the blank after it.
+fn act_at(text: &[u8]) -> Option<(Act, &[u8])>
+    ensures { MatchOption result
+        (NamesNoAct text.now)
+        (λ x. text.now ≡ act_word x.0 ++ 32 ∷ x.1.now) }
+{
+    match act_of(text, 4) {
+        Some(found) => Some(found),
+        None => act_of(text, 5),
+    }
+}
+
 fn has_readers(form: Form) -> bool
     ensures { result ≡ shares form }
 {
@@ -46,11 +72,11 @@ fn is_act_of(form: Form, act: Act) -> bool
     }
 }
 
-fn pass_of(passes: u32, word: &[u8]) -> Option<u32>
+fn pass_of(passes: u32, word: &[u8]) -> Option<u8>
     ensures { result ≡ pass_in passes word.now }
 {
-    let pass = number(63, word)? as u32;
-    if pass >= passes {
+    let pass = number(63, word)? as u8;
+    if u32::from(pass) >= passes {
         return None;
     }
     Some(pass)
@@ -59,9 +85,8 @@ fn pass_of(passes: u32, word: &[u8]) -> Option<u32>
 fn event_of(form: Form, passes: u32, text: &[u8]) -> Option<Event>
     ensures { result ≡ event_in form passes (words text.now) }
 {
-    let (word, pass) = two_words(text)?;
-    let act = act_named(word)?;
-    let pass = pass_of(passes, pass)?;
+    let (act, rest) = act_at(text)?;
+    let pass = pass_of(passes, rest)?;
     if !is_act_of(form, act) {
         return None;
     }
@@ -88,6 +113,8 @@ fn event_says(
     Ok(event)
 }
 
+// Not a part of what calls it, so that its loops keep their places in registers.
+#[inline(never)]
 fn event_lines(
     alloc: Global,
     form: Form,

@@ -1,13 +1,15 @@
-//! The lines of a line report, written behind what stands there.
+//! The lines of a line report, written behind what stands there; those of the run and the totals within the room.
 ghost use Rattle.std.specs.Prelude.{◌≡◌, ◌≤◌, ◌++◌, [], true, None, length, codes, OnOk};
 ghost use Rattle.shfl_core.specs.ShownLine.{shown_line};
 ghost use Rattle.shfl_line.specs.declared.events.Role.TheVariants.{Nobody};
 ghost use Rattle.shfl_sched.specs.ReportParts.{queue_text, hand_text, role_text};
 ghost use Rattle.shfl_sched.specs.Report.{version_text, sizes_text, heading_text, event_text, state_text, asleep_text, row, totals_text};
+ghost use Rattle.shfl_sched.specs.Room.{Puts};
 
 use crate::parked_text::ParkedText;
 use crate::queue_text::QueueText;
-use crate::report_parts::{push_act, push_answer, push_hand, push_hold, push_role};
+use crate::report_parts::{put_act, put_answer, put_hand, put_hold, put_role};
+use crate::room::{put, put_number};
 use crate::schedule::{Event, Schedule};
 use bpf_isa::Profile;
 use doc_text::push_decimal;
@@ -25,12 +27,12 @@ pub struct RowTexts {
 }
 
 impl RowTexts {
-    /// No row was written yet.
-    pub fn nothing(alloc: Global) -> RowTexts {
-        RowTexts {
-            queue: QueueText::nothing(alloc),
-            parked: ParkedText::nothing(alloc),
-        }
+    /// No row was written yet. No row takes memory.
+    pub fn open(alloc: Global) -> Result<RowTexts, NoMemory> {
+        Ok(RowTexts {
+            queue: QueueText::open(alloc)?,
+            parked: ParkedText::open(alloc)?,
+        })
     }
 }
 
@@ -68,18 +70,13 @@ pub fn push_heading(out: &mut Vec<u8>, schedule: &Schedule) -> Result<(), NoMemo
 }
 
 #[tactic(auto, unfolding(crate::specs::Report::event_text))]
-fn push_event(
-    out: &mut Vec<u8>,
-    number: u32,
-    event: Event,
-    admitted: bool,
-) -> Result<(), AllocError>
-    ensures { OnOk result (out.new.items ≡ out.old.items ++ event_text number event admitted) }
+fn put_event(out: &mut Vec<u8>, number: u32, event: Event, admitted: bool)
+    ensures { Puts out.old out.new (event_text number event admitted) 51 }
 {
-    push_decimal(out, u64::from(number))?;
-    push_act(out, event.act)?;
-    push_decimal(out, u64::from(event.pass))?;
-    push_answer(out, admitted)
+    put_number(out, u64::from(number));
+    put_act(out, event.act);
+    put_number(out, u64::from(event.pass));
+    put_answer(out, admitted);
 }
 
 // Whether nobody waits, and nobody is detached or shuffles.
@@ -92,66 +89,60 @@ fn is_quiet(state: &LineState) -> bool
 }
 
 // The queue, the detached waiter and the shuffler.
-fn push_waiting(
-    out: &mut Vec<u8>,
-    state: &LineState,
-    queue: &mut QueueText,
-) -> Result<(), AllocError>
-    ensures { let s = state.now in OnOk result (out.new.items
-        ≡ out.old.items ++ codes " line " ++ queue_text s
-        ++ codes " hand " ++ hand_text s.hand ++ codes " role " ++ role_text s.role) }
+fn put_waiting(out: &mut Vec<u8>, state: &LineState, queue: &mut QueueText)
+    requires few { length state.now.line ≤ 64 }
+    ensures { let s = state.now in Puts out.old out.new (codes " line " ++ queue_text s
+        ++ codes " hand " ++ hand_text s.hand ++ codes " role " ++ role_text s.role) 2752 }
 {
     if is_quiet(state) {
-        return out.extend_from_slice(b" line - hand - role -");
+        return put(out, b" line - hand - role -");
     }
-    out.extend_from_slice(b" line ")?;
-    queue.push(out, state)?;
-    out.extend_from_slice(b" hand ")?;
-    push_hand(out, state.hand())?;
-    out.extend_from_slice(b" role ")?;
-    push_role(out, *state.role())
+    put(out, b" line ");
+    queue.put(out, state);
+    put(out, b" hand ");
+    put_hand(out, state.hand());
+    put(out, b" role ");
+    put_role(out, *state.role());
 }
 
 #[tactic(auto, unfolding(crate::specs::Report::state_text))]
-fn push_state(
-    out: &mut Vec<u8>,
-    word: u64,
-    state: &LineState,
-    queue: &mut QueueText,
-) -> Result<(), AllocError>
-    ensures { OnOk result (out.new.items ≡ out.old.items ++ state_text word state.now) }
+fn put_state(out: &mut Vec<u8>, word: u64, state: &LineState, queue: &mut QueueText)
+    requires holders { length state.now.hold ≤ 64 }
+    requires waiters { length state.now.line ≤ 64 }
+    ensures { Puts out.old out.new (state_text word state.now) 4193 }
 {
-    out.extend_from_slice(b" word ")?;
-    push_decimal(out, word)?;
-    out.extend_from_slice(b" hold ")?;
-    push_hold(out, state.hold())?;
-    push_waiting(out, state, queue)
+    put(out, b" word ");
+    put_number(out, word);
+    put(out, b" hold ");
+    put_hold(out, state.hold());
+    put_waiting(out, state, queue);
 }
 
 #[tactic(auto, unfolding(crate::specs::Report::asleep_text))]
-fn push_asleep<B: Board>(
+fn put_asleep<B: Board>(
     out: &mut Vec<u8>,
     form: Form,
     board: &B,
     passes: u32,
     parked: &mut ParkedText,
-) -> Result<(), AllocError>
-    requires { length (B.meaning board.now).world.passes ≡ passes }
-    ensures { OnOk result (out.new.items
-        ≡ out.old.items ++ asleep_text form (B.meaning board.now).world) }
+)
+    requires passes { length (B.meaning board.now).world.passes ≡ passes }
+    requires few { passes ≤ 64 }
+    ensures { Puts out.old out.new (asleep_text form (B.meaning board.now).world) 1353 }
 {
     match form {
-        Form::Spin | Form::Rw => Ok(()),
+        Form::Spin | Form::Rw => {}
         Form::Park | Form::RwPark => {
-            out.extend_from_slice(b" asleep ")?;
-            parked.push(out, board, passes)
+            put(out, b" asleep ");
+            parked.put(out, board, passes);
         }
     }
 }
 
-/// An event with its number, whether it was admitted, and what the lock then is and shows. The state is what it shows.
+/// An event with its number, whether it was admitted, and what the lock then is and shows, in at most 5,598 bytes. The state is what it
+/// shows.
 #[tactic(auto, unfolding(crate::specs::Report::row))]
-pub fn push_row<B: Board>(
+pub fn put_row<B: Board>(
     out: &mut Vec<u8>,
     form: Form,
     number: u32,
@@ -160,33 +151,33 @@ pub fn push_row<B: Board>(
     board: &mut B,
     state: &LineState,
     texts: &mut RowTexts,
-) -> Result<(), AllocError>
+)
     requires few { length (B.meaning board.old).world.passes ≤ 64 }
     requires shown { state.now ≡ shown_line (B.meaning board.old).world }
-    ensures text { OnOk result (out.new.items ≡ out.old.items
-        ++ row form number event admitted (B.meaning board.old).world) }
+    ensures text { Puts out.old out.new
+        (row form number event admitted (B.meaning board.old).world) 5598 }
     ensures unchanged { B.meaning board.new ≡ B.meaning board.old }
 {
-    push_event(out, number, event, admitted)?;
-    push_state(out, board.word(), state, &mut texts.queue)?;
-    push_asleep(
+    put_event(out, number, event, admitted);
+    put_state(out, board.word(), state, &mut texts.queue);
+    put_asleep(
         out,
         form,
         board,
         state.mark().len() as u32,
         &mut texts.parked,
-    )?;
-    out.extend_from_slice(b"\n")
+    );
+    put(out, b"\n");
 }
 
-/// How many events were admitted, and how many weren't.
+/// How many events were admitted, and how many weren't, in at most 53 bytes.
 #[tactic(auto, unfolding(crate::specs::Report::totals_text))]
-pub fn push_totals(out: &mut Vec<u8>, admitted: u32, refused: u32) -> Result<(), AllocError>
-    ensures { OnOk result (out.new.items ≡ out.old.items ++ totals_text admitted refused) }
+pub fn put_totals(out: &mut Vec<u8>, admitted: u32, refused: u32)
+    ensures { Puts out.old out.new (totals_text admitted refused) 53 }
 {
-    out.extend_from_slice(b"end yes ")?;
-    push_decimal(out, u64::from(admitted))?;
-    out.extend_from_slice(b" no ")?;
-    push_decimal(out, u64::from(refused))?;
-    out.extend_from_slice(b"\n")
+    put(out, b"end yes ");
+    put_number(out, u64::from(admitted));
+    put(out, b" no ");
+    put_number(out, u64::from(refused));
+    put(out, b"\n");
 }

@@ -1,19 +1,23 @@
-//! A schedule's run over a lock, event by event.
-ghost use Rattle.std.specs.Prelude.{◌≡◌, ℕ, ◌<◌, length, IfOk, OnOk, OnErr};
+//! A schedule's run over a lock, event by event, and its report.
+ghost use Rattle.std.specs.Prelude.{◌≡◌, ℕ, ◌<◌, length, IfErr, OnOk, OnErr};
 ghost use Rattle.shfl_core.specs.Runner as runner;
 ghost use Rattle.shfl_core.specs.Runner.{opened};
 ghost use Rattle.shfl_core.specs.ShownLine.{shown_line};
 ghost use Rattle.shfl_core.specs.Worlds.{admitted};
 ghost use Rattle.shfl_sched.specs.Choices.{answers};
 ghost use Rattle.shfl_sched.specs.Schedules.{IsWithin, IsEventOf};
-ghost use Rattle.shfl_sched.specs.Run.{rules_of, setup_of, choice_at, move_in, lock_after};
+ghost use Rattle.shfl_sched.specs.Run.{is_step, rules_of, setup_of, choice_at, move_in, lock_after};
 ghost use Rattle.shfl_sched.specs.Report.{line_report};
+ghost use Rattle.shfl_sched.specs.Handing.{Stops};
+ghost use Rattle.syn_outer.specs.Bytes.{Took};
 
-use crate::report::{RowTexts, push_heading, push_row, push_totals};
+use crate::handing::{RunError, hand_on, make_room};
+use crate::report::{RowTexts, push_heading, put_row, put_totals};
 use crate::schedule::{Act, Event, Rule, Schedule};
 use shfl_core::{Ask, Board};
-use shfl_line::{Attr, Chooser, LineState, Mode, NoMemory};
+use shfl_line::{Attr, Chooser, LineState, Mode};
 use std::alloc::Global;
+use syn_outer::Sink;
 
 /// What the rule answers to what a pass with these attributes asks.
 #[tactic(auto, unfolding(crate::specs::Choices::answers))]
@@ -51,18 +55,26 @@ fn make<B: Board>(schedule: &Schedule, board: &mut B, event: Event) -> bool
         ≡ runner.moved (B.meaning board.old) (move_in (setup_of schedule.now) w event) }
     ensures passes { length (B.meaning board.new).world.passes ≡ length schedule.now.passes }
 {
+    let pass = u32::from(event.pass);
     match event.act {
-        Act::Write => board.acquire(event.pass, Mode::Write),
-        Act::Read => board.acquire(event.pass, Mode::Read),
-        Act::Free => board.release(event.pass),
+        Act::Write => board.acquire(pass, Mode::Write),
+        Act::Read => board.acquire(pass, Mode::Read),
+        Act::Free => board.release(pass),
         Act::Step => {
-            let choice = choice(schedule, board, event.pass);
-            board.step(event.pass, choice)
+            let choice = choice(schedule, board, pass);
+            board.step(pass, choice)
         }
     }
 }
 
-/// Makes an event's move, and shows the lock again where it moved.
+// Whether an act is a step. What a lock shows doesn't change where a pass begins to take it or to give it back.
+fn is_step(act: Act) -> bool
+    ensures { result ≡ is_step act }
+{
+    matches!(act, Act::Step)
+}
+
+/// Makes an event's move, and shows the lock again where that may have changed.
 fn make_and_show<B: Board>(
     schedule: &Schedule,
     board: &mut B,
@@ -81,36 +93,48 @@ fn make_and_show<B: Board>(
     ensures shown { state.new ≡ shown_line (B.meaning board.new).world }
 {
     let admitted = make(schedule, board, event);
-    if admitted {
+    if admitted && is_step(event.act) {
         board.show(state);
     }
     admitted
 }
 
-/// Runs the events on a lock at its opening, and gives the bytes of the line report. It waits for nobody.
-pub fn run_schedule<B: Board>(
+// Room for a text that isn't handed on yet, and a row.
+const ROOM: usize = 40_000;
+
+/// Runs the events on a lock at its opening, and writes the line report in pieces. All memory that it needs is taken before the first
+/// byte. It waits for nobody.
+pub fn run_schedule<B: Board, W: Sink>(
     alloc: Global,
     schedule: &Schedule,
     board: &mut B,
-) -> Result<Vec<u8>, NoMemory>
+    out: &mut W,
+) -> Result<(), RunError>
     requires within { IsWithin schedule.now }
     requires opened { B.meaning board.old ≡ opened (rules_of schedule.now) schedule.now.passes }
-    ensures report { IfOk result (λ text. text.items ≡ line_report schedule.now) }
+    ensures report { OnOk result
+        (Took (W.held out.old) (W.held out.new) (line_report schedule.now)) }
+    // After want of memory nothing is written, after a fault of the sink a front of the report.
+    ensures stopped { IfErr result (λ e. Stops e (W.held out.old) (W.held out.new)
+        (W.faults out.old) (W.faults out.new) (line_report schedule.now)) }
     ensures after { OnOk result (B.meaning board.new
         ≡ lock_after schedule.now (length schedule.now.events)) }
-    // After want of memory the lock stands after some of the events, the first ones.
+    // After either the lock stands after some of the events, the first ones.
     ensures part { OnErr result ((n : ℕ) × (B.meaning board.new ≡ lock_after schedule.now n)) }
 {
     let mut text = Vec::new(alloc);
     push_heading(&mut text, schedule)?;
+    text.reserve(ROOM)?;
+    let mut texts = RowTexts::open(alloc)?;
     let mut state = LineState::open(alloc, schedule.passes.len() as u32)?;
     board.show(&mut state);
-    let mut texts = RowTexts::nothing(alloc);
+    let mut sent = 0;
     let mut yes: u32 = 0;
     let mut no: u32 = 0;
     for event in &schedule.events {
+        make_room(&mut text, &mut sent, out)?;
         let admitted = make_and_show(schedule, board, *event, &mut state);
-        push_row(
+        put_row(
             &mut text,
             schedule.form,
             yes + no + 1,
@@ -119,13 +143,14 @@ pub fn run_schedule<B: Board>(
             board,
             &state,
             &mut texts,
-        )?;
+        );
         if admitted {
             yes += 1;
         } else {
             no += 1;
         }
     }
-    push_totals(&mut text, yes, no)?;
-    Ok(text)
+    make_room(&mut text, &mut sent, out)?;
+    put_totals(&mut text, yes, no);
+    hand_on(&mut text, &mut sent, out)
 }

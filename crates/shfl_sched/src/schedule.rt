@@ -22,11 +22,11 @@ pub enum Act {
     Step,
 }
 
-/// An act of a pass.
+/// An act of a pass, whose number is at most 63.
 #[derive(Clone, Copy, Debug, PartialEq, Eq, Drop)]
 pub struct Event {
     pub act: Act,
-    pub pass: u32,
+    pub pass: u8,
 }
 
 /// A lock's form, batch limit and policy, the attributes of its passes, and what happens to it.

@@ -2,27 +2,37 @@
 ghost use Rattle.std.specs.Prelude.{◌+◌};
 ghost use Rattle.syn_outer.specs.Causes.{CallsAtMost};
 ghost use Rattle.syncord_endings.specs.Traffic.{through};
-ghost use Rattle.syncord_endings.specs.Endings.{Answers, Decides, most_bytes};
+ghost use Rattle.syncord_endings.specs.Endings.{Ends, Answers, Decides, most_bytes};
 ghost use Rattle.syncord_line.specs.Reports.{Reports, Refuses};
 
-use crate::line::line;
+use crate::line::schedule_of;
+use crate::locks::write_report;
+use shfl_sched::RunError;
 use std::alloc::Global;
-use syn_outer::{Sink, Source};
-use syncord_endings::{Refusal, Work, perform};
+use syn_outer::{ReadError, Sink, Source, read_all};
+use syncord_endings::{Ending, MOST_BYTES, Refusal, tell_ending};
 
-/// Runs a schedule.
-#[derive(Drop)]
-struct Line;
-
-impl Work for Line {
-    ghost use Rattle.syncord_line.specs.Reports.{Reports, Refuses};
-
-    ghost reports = { λ _ bytes text. Reports bytes text };
-
-    ghost refuses = { λ _ bytes refusal. Refuses bytes refusal };
-
-    fn report(&self, alloc: Global, bytes: &[u8]) -> Result<Vec<u8>, Refusal> {
-        line(alloc, bytes)
+/// Reads the schedule, runs it, and writes its report in pieces.
+fn ending<R: Source, W: Sink>(alloc: Global, src: &mut R, out: &mut W) -> Ending
+    ensures ends { Ends Reports Refuses
+        (through R.left R.faults src.old src.new)
+        (through W.held W.faults out.old out.new) result }
+    ensures reads { CallsAtMost (most_bytes + 1) (R.calls src.old) (R.calls src.new) }
+{
+    let bytes = match read_all(alloc, src, MOST_BYTES) {
+        Ok(bytes) => bytes,
+        Err(ReadError::ReadFault) => return Ending::ReadFault,
+        Err(ReadError::TooLarge) => return Ending::TooLarge,
+        Err(ReadError::NoMemory) => return Ending::NoReport(Refusal::NoMemory),
+    };
+    let schedule = match schedule_of(alloc, &bytes) {
+        Ok(schedule) => schedule,
+        Err(refusal) => return Ending::NoReport(refusal),
+    };
+    match write_report(alloc, &schedule, out) {
+        Ok(()) => Ending::Done,
+        Err(RunError::NoMemory) => Ending::NoReport(Refusal::NoMemory),
+        Err(RunError::Write { written }) => Ending::WriteFault(written),
     }
 }
 
@@ -42,5 +52,7 @@ pub fn run_line<R: Source, W: Sink, E: Sink>(
         (through W.held W.faults out.old out.new) result }
     ensures reads { CallsAtMost (most_bytes + 1) (R.calls src.old) (R.calls src.new) }
 {
-    perform(&Line, alloc, src, out, err)
+    let ending = ending(alloc, src, out);
+    tell_ending(err, ending);
+    ending.status()
 }
