@@ -6,20 +6,15 @@ built="$top/crates/$program/out/$program"
 # the build's beginning
 stamp="$built.sources"
 
-# whether the program has been built from the sources as they stand; no process is started for it
+# Whether the program has been built from the sources as they stand. One process looks; a folder is newer where a source came or went.
 is_current() {
-    [[ -x "$built" && -r "$stamp" && ! "$top/crates.txt" -nt "$stamp" ]] || return 1
-    local known name file files=()
-    mapfile -t known <"$stamp"
-    shopt -s nullglob globstar
-    for name in ${known[0]}; do
-        files+=("$top/crates/$name"/src/**/*.rt)
-    done
-    shopt -u nullglob globstar
-    for file in "${files[@]}"; do
-        [[ "$file" -nt "$stamp" ]] && return 1
-    done
-    [[ "${known[*]:1}" == "${files[*]#"$top"/}" ]]
+    [ -x "$built" ] && [ -r "$stamp" ] && ! [ "$top/crates.txt" -nt "$stamp" ] || return 1
+    newer="$(
+        read -r crates <"$stamp"
+        set --
+        for name in $crates; do set -- "$@" "$top/crates/$name/src"; done
+        exec find "$@" -newer "$stamp" \( -type d -o -name '*.rt' \) -print -quit 2>&1
+    )" && [ -z "$newer" ]
 }
 
 is_current || "$top/bin/build-program" "$program" "${0##*/}" || exit 70
