@@ -2,19 +2,22 @@
 # before where a source has changed. Status, output and error line are the program's; 70 says that it could not be built.
 
 built="$top/crates/$program/out/$program"
-# made by bin/build-program: the crates that the program is made of in its first line, then their sources; its time is that of
-# the build's beginning
-stamp="$built.sources"
+# made by bin/build-program: the folders and the sources that the program was built from; its time is that of the build's beginning
+stamp="$built.built-from"
 
-# Whether the program has been built from the sources as they stand. One process looks; a folder is newer where a source came or went.
+# Whether the program has been built from the sources as they stand; no process is started for it. A folder is newer where a source came
+# or went.
 is_current() {
     [ -x "$built" ] && [ -r "$stamp" ] && ! [ "$top/crates.txt" -nt "$stamp" ] || return 1
-    newer="$(
-        read -r crates <"$stamp"
-        set --
-        for name in $crates; do set -- "$@" "$top/crates/$name/src"; done
-        exec find "$@" -newer "$stamp" \( -type d -o -name '*.rt' \) -print -quit 2>&1
-    )" && [ -z "$newer" ]
+    folders='' sources=''
+    . "$stamp"
+    for it in $folders; do
+        [ -d "$top/$it" ] || return 1
+    done
+    for it in $folders $sources; do
+        [ "$top/$it" -nt "$stamp" ] && return 1
+    done
+    [ -n "$sources" ]
 }
 
 is_current || "$top/bin/build-program" "$program" "${0##*/}" || exit 70
