@@ -10,11 +10,11 @@ use crate::trace::{NamedSource, Trace};
 use crate::words::{name_at, push_call, push_reply};
 use crate::write::policy_name;
 use bpf_isa::Profile;
-use dir_table::{Dir, DirRow, Rows};
+use dir_table::{Dir, DirCall, DirRow, Rows};
 use doc_text::{push_decimal, push_line};
 use hist_log::Entry;
 use policy_text::{NoMemory, push_number, push_version, push_word};
-use std::alloc::Global;
+use std::alloc::{AllocError, Global};
 
 // An entry takes about so many bytes besides its name.
 const BESIDE_A_NAME: usize = 21;
@@ -101,6 +101,40 @@ fn push_heading(
     Ok(())
 }
 
+// The first name of a call.
+fn first_name(call: &DirCall) -> Option<u32> {
+    match call {
+        DirCall::Make { name, .. }
+        | DirCall::Drop { name, .. }
+        | DirCall::Rename { name, .. }
+        | DirCall::Find { name, .. } => Some(*name),
+        DirCall::Next { after, .. } => *after,
+        DirCall::Count { .. } => None,
+    }
+}
+
+// So many entries are looked at together.
+const TOGETHER: usize = 128;
+
+// Leaves room for the lines of the next entries. Their names, which lie far from one another, are looked at one right after the other, so
+// that the processor fetches several at a time.
+fn leave_room(
+    out: &mut Vec<u8>,
+    names: &[Vec<u8>],
+    entries: &[Entry<Dir>],
+) -> Result<(), AllocError>
+    ensures { out.new.items ≡ out.old.items }
+{
+    let mut bytes: usize = 0;
+    for entry in &entries[..entries.len().min(TOGETHER)] {
+        if let Some(name) = first_name(&entry.call) {
+            bytes = bytes.saturating_add(name_at(names, name).len());
+        }
+        bytes = bytes.saturating_add(BESIDE_A_NAME);
+    }
+    out.reserve(bytes)
+}
+
 fn push_history(
     out: &mut Vec<u8>,
     names: &[Vec<u8>],
@@ -110,7 +144,10 @@ fn push_history(
         ++ flat_map ended (map (entry_line (map (λ n. n.items) names.now))
         (map done_of history.now))) }
 {
-    for entry in history {
+    for (place, entry) in history.iter().enumerate() {
+        if place % TOGETHER == 0 {
+            leave_room(out, names, &history[place..])?;
+        }
         push_entry(out, names, entry)?;
     }
     Ok(())

@@ -4,5 +4,5 @@ use Rattle.doc_text.specs.Text.{ended}
 use Rattle.trace_text.specs.Report.{done_of, entry_line}
 use Rattle.trace_text.proofs.reports.push_history.Given as goal
 
-abbrev pub invariant-loop-entry : goal.invariant-loop-entry
-invariant-loop-entry l = l.out.items ++ flat_map ended (map (entry_line (map (λ n. n.items) l.names)) (map done_of (drop l.entry-index l.history))) ≡ l.initial.out.items ++ flat_map ended (map (entry_line (map (λ n. n.items) l.names)) (map done_of (l.history)))
+abbrev pub invariant-loop-place : goal.invariant-loop-place
+invariant-loop-place l = l.out.items ++ flat_map ended (map (entry_line (map (λ n. n.items) l.names)) (map done_of (drop l.place l.history))) ≡ l.initial.out.items ++ flat_map ended (map (entry_line (map (λ n. n.items) l.names)) (map done_of (l.history)))
