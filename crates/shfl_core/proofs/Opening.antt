@@ -9,7 +9,7 @@ use Rattle.shfl_core.specs.declared.phase.PassState.{PassState}
 use Rattle.shfl_core.specs.declared.phase.Rules.{Rules}
 use Rattle.shfl_core.specs.declared.words.Word.{Word}
 use Rattle.shfl_core.specs.declared.words.Word.TheVariants.{Tail, Next}
-use Rattle.shfl_core.specs.Words.{look}
+use Rattle.shfl_core.specs.Words.{look, most_passes}
 use Rattle.shfl_core.specs.Waiting.{Meaning, idle, fresh}
 use Rattle.shfl_core.specs.Worlds.{node, node_words, opening_words, idle_from, opening}
 use Rattle.shfl_core.specs.Bounds.{HasBounds, IsInBounds, LinkBelow}
@@ -66,7 +66,7 @@ opening-links xs count (Next q) = let e = opening-next xs q in omega arith
 opening-links xs count _ = tt
 
 -- a lock at its opening is in bounds
-pub opening-bounds : (xs : List Attr) → length xs ≤ 64 → HasBounds (opening xs)
+pub opening-bounds : (xs : List Attr) → length xs ≤ most_passes → HasBounds (opening xs)
 opening-bounds xs few = let n = idle-from-long 0 xs in let m = node-words-long xs in record {
   room = omega arith;
   few = omega arith;
@@ -136,7 +136,7 @@ module _ {W : Type 0} (f : W → Meaning) (rules : Rules) (attrs : List Attr) wh
   rules-are : (waiters : List W) → 0 < length attrs → AreMade f rules waiters attrs → common_rules f waiters ≡ rules
   rules-are waiters any m = let e = long-enough waiters m in first-rules waiters (omega arith) m.alike
 
-  pub made-lock : (words : List ℕ) (waiters : List W) → 0 < length attrs → length attrs ≤ 64 → words ≡ opening_words attrs → AreMade f rules waiters attrs → IsLock f words waiters
+  pub made-lock : (words : List ℕ) (waiters : List W) → 0 < length attrs → length attrs ≤ most_passes → words ≡ opening_words attrs → AreMade f rules waiters attrs → IsLock f words waiters
   made-lock words waiters any few e m = record {
     bounds = subst HasBounds (λ j. record { words = sym e j; passes = sym m.passes j }) (opening-bounds attrs few);
     rules = λ k w g. m.alike k w g ∙ sym (rules-are waiters any m);

@@ -9,7 +9,7 @@ use Rattle.shfl_core.specs.declared.words.Word.{Word}
 use Rattle.shfl_core.specs.declared.words.Word.TheVariants.{Lock as LockWord, Tail, Next, State, Attr, Bell}
 use Rattle.shfl_core.specs.declared.words.Access.{Access}
 use Rattle.shfl_core.specs.declared.words.Access.TheVariants.{Store}
-use Rattle.shfl_core.specs.Words.{index, wide, look, site, put, told, written, NamesPass, is_store}
+use Rattle.shfl_core.specs.Words.{index, wide, look, site, put, told, written, NamesPass, is_store, most_passes}
 use Rattle.shfl_core.specs.Plan.{plan, moving, is_idle, is_resting}
 use Rattle.shfl_core.specs.Take.{take, acquired, released, entry, exit}
 use Rattle.shfl_core.specs.Waiting.{Meaning, idle, next_access, takes, acquires, releases, MayFind, MayUse, ask}
@@ -83,7 +83,7 @@ module _ {W : Type 0} (f : W → Meaning) where
     moved-lock words' o' q own rules good long links = let e = standing-set l p o' in let n : length (standing f (set l p o')) ≡ length (standing f l) = ap length e ∙ length-set (standing f l) p (f o').pass in record {
       bounds = record {
         room = long ∙ (k.bounds.room ∙ ap wide (sym n));
-        few = subst (λ z. z ≤ 64) (sym n) k.bounds.few;
+        few = subst (λ z. z ≤ most_passes) (sym n) k.bounds.few;
         links = λ v. subst (λ z. LinkBelow z v (look words' v)) (sym n) (links v);
         passes = λ i u g. subst (λ z. IsInBounds z i u) (sym n) (⊎_elim
             (λ a. subst (λ (x : ℕ × PassState). IsInBounds (length (standing f l)) x.0 x.1) (λ j. (sym a.0 j, (sym own ∙ a.1) j)) good)

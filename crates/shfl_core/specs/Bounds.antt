@@ -8,7 +8,7 @@ use Rattle.shfl_core.specs.declared.phase.Nap.TheVariants.{Ring}
 use Rattle.shfl_core.specs.declared.phase.PassState.{PassState}
 use Rattle.shfl_core.specs.declared.words.Word.{Word}
 use Rattle.shfl_core.specs.declared.words.Word.TheVariants.{Tail, Next}
-use Rattle.shfl_core.specs.Words.{look, wide}
+use Rattle.shfl_core.specs.Words.{look, wide, most_passes}
 use Rattle.shfl_core.specs.Worlds.{World}
 
 -- the registers of the pass p: its number, and the seven by which it names passes
@@ -34,6 +34,6 @@ LinkBelow count _ n = Unit {0}
 pub record HasBounds (w : World) : Type 0 where
   -- each pass has its words
   pub room : length w.words ≡ wide (length w.passes)
-  pub few : length w.passes ≤ 64
+  pub few : length w.passes ≤ most_passes
   pub links : (v : Word) → LinkBelow (length w.passes) v (look w.words v)
   pub passes : (p : ℕ) (q : PassState) → get_elem? w.passes p ≡ some q → IsInBounds (length w.passes) p q

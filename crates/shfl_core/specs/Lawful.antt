@@ -13,7 +13,7 @@ use Rattle.shfl_core.specs.declared.phase.PassState.{PassState}
 use Rattle.shfl_core.specs.declared.phase.Rules.{Rules}
 use Rattle.shfl_core.specs.declared.words.Word.{Word}
 use Rattle.shfl_core.specs.declared.words.Word.TheVariants.{Lock, Tail, Next, State, Attr, Bell}
-use Rattle.shfl_core.specs.Words.{look, wide, index, site}
+use Rattle.shfl_core.specs.Words.{look, wide, most_passes, index, site}
 use Rattle.shfl_core.specs.Plan.{plan}
 use Rattle.shfl_core.specs.Worlds.{World, stepped}
 use Rattle.shfl_core.specs.View.{View, view}
@@ -51,7 +51,7 @@ pub record Agrees (t : Terms) (v : View) (s : Line) (giver : ℕ) : Type 0 where
 pub record Lawful (t : Terms) (w : World) : Type 0 where
   pub room : length w.words ≡ wide (count t)
   pub seats : length w.passes ≤ count t
-  pub few : count t ≤ 64
+  pub few : count t ≤ most_passes
   pub limit : (0 < t.rules.limit) × (t.rules.limit ≤ 1024)
   pub formed : (v : Word) → Formed v (look w.words v)
   pub attrs : (q : ℕ) → q < count t → look w.words (Attr q) ≡ slice_index t.attrs q

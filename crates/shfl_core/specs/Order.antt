@@ -19,8 +19,8 @@ Walks w [] = w.tail ≡ 0
 Walks w (x ∷ xs) = Chain (Follows w) x xs × (w.next (end x xs) ≡ 0) × (w.tail ≡ suc (end x xs))
 
 -- the pass counts as the queue's head, by its phase or by its state word
-abbrev pub awake : View → ℕ → Bool
-awake w p = is_fore (w.pass p) || (w.node p).ready
+abbrev pub is_head : View → ℕ → Bool
+is_head w p = is_fore (w.pass p) || (w.node p).ready
 
 -- exactly one pass is the queue's head; `giver` is 0, or the pass at Ready plus 1
 pub record Fronted (w : View) (line : List ℕ) (giver : ℕ) : Type 0 where
@@ -28,8 +28,8 @@ pub record Fronted (w : View) (line : List ℕ) (giver : ℕ) : Type 0 where
   pub who : (q : ℕ) → (w.pass q).phase ≡ Ready → giver ≡ suc q
   pub is : (q : ℕ) → giver ≡ suc q → (w.pass q).phase ≡ Ready
   -- who counts as the head is the line's first, and nobody is at Ready then
-  pub only : (q : ℕ) → is_queued (w.pass q) ≡ true → awake w q ≡ true → (first line ≡ suc q) × (giver ≡ 0)
-  pub front : (q : ℕ) → giver ≡ 0 → first line ≡ suc q → awake w q ≡ true
+  pub only : (q : ℕ) → is_queued (w.pass q) ≡ true → is_head w q ≡ true → (first line ≡ suc q) × (giver ≡ 0)
+  pub front : (q : ℕ) → giver ≡ 0 → first line ≡ suc q → is_head w q ≡ true
   -- the successor that is about to be made ready is the line's first, and has written its predecessor's next word
   pub heir : (q : ℕ) → giver ≡ suc q → (first line ≡ suc (w.pass q).reg.heir) × (is_linking (w.pass (w.pass q).reg.heir).phase ≡ false)
   pub linking : (q : ℕ) → is_linking (w.pass q).phase ≡ true → (w.node q).ready ≡ false

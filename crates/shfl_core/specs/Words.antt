@@ -18,6 +18,10 @@ index (State p) = 10 * p + 21
 index (Attr p) = 10 * p + 22
 index (Bell p) = 10 * p + 23
 
+-- so many passes a lock may have: their numbers, and the lock word's count of readers, have 32 bits
+abbrev pub most_passes : ℕ
+most_passes = 65535
+
 -- the number of words of a lock for so many passes
 abbrev pub wide : ℕ → ℕ
 wide count = 10 * count + 20

@@ -5,8 +5,9 @@ ghost use Rattle.shfl_core.specs.Take as take;
 ghost use Rattle.shfl_core.specs.Words as words;
 ghost use Rattle.shfl_core.specs.declared.phase.Nap.TheVariants.{Awake, Ring};
 
+use crate::bits::{held_of, parked_of, ready_of, spin_of};
 use crate::phase::{Nap, PassState, Phase, Rules};
-use shfl_line::{Form, Mode, PARKED, READER, SPIN};
+use shfl_line::{Form, Mode, READER};
 
 /// Whether waiters park in this form.
 #[inline(always)]
@@ -30,8 +31,8 @@ pub fn free_for(mode: Mode, lock: u64) -> bool
     ensures { result ≡ words.free_for mode lock }
 {
     match mode {
-        Mode::Write => lock % 2 != 1 && lock / READER == 0,
-        Mode::Read => lock % 2 != 1,
+        Mode::Write => !held_of(lock) && lock / READER == 0,
+        Mode::Read => !held_of(lock),
     }
 }
 
@@ -40,7 +41,7 @@ pub fn free_for(mode: Mode, lock: u64) -> bool
 pub(crate) fn sleeps(rules: Rules, state: u64) -> bool
     ensures { result ≡ take.sleeps rules state }
 {
-    parks(rules.form) && state / PARKED % 2 == 1 && state % 2 != 1 && state / SPIN % 2 != 1
+    parks(rules.form) && parked_of(state) && !ready_of(state) && !spin_of(state)
 }
 
 // The park state of a pass that has just called `whom`, whose state word was `state` before: it rings where that pass sleeps.

@@ -2,6 +2,7 @@
 #![tactic(auto)]
 
 pub mod asks;
+pub mod bits;
 pub mod board;
 pub mod found;
 pub mod local;

@@ -4,39 +4,73 @@ use shfl_line::{Attr, Form, Mode};
 /// What a pass does at its next step.
 #[derive(Clone, Copy, Debug, PartialEq, Eq, Drop)]
 pub enum Phase {
+    /// It neither waits nor holds, and has no step to make.
     Idle,
+    /// A writer takes the free lock past the queue, by one compare and swap.
     Steal,
+    /// It clears its own state word before it joins the queue.
     Init,
+    /// It becomes the queue's last; from here on it stands in the queue.
     Swap,
+    /// Its predecessor's next word is still to name it; until then it is the queue's one gap.
     Link,
+    /// It joined an empty queue, so it is the head, and disables stealing.
     Close,
+    /// It waits: it reads its own state word, which others write.
     Look,
+    /// It begins a round of shuffling: it takes its flag back and has a batch number from here on.
     Begin,
+    /// A round looks for the pass behind the one that it has come to.
     Next,
+    /// A round looks whether the candidate is the queue's last, which is never moved.
     Tail,
+    /// A round reads the candidate's attributes.
     Attr,
+    /// A round looks whether it must end, and else the policy decides.
     Decide,
+    /// A round reads who stands behind the candidate.
     After,
+    /// The first store of a relink: the candidate is taken out of the queue.
     Pick,
+    /// The second store of a relink: the candidate's next word names the first pass behind the batch.
     Aim,
+    /// The third store of a relink: the candidate stands behind the batch's last.
     Place,
+    /// The candidate gets the next batch number.
     Mark,
+    /// The round ends, and the batch's last becomes the shuffler.
     Give,
+    /// A writer at the queue's head waits for the free lock.
     Peek,
+    /// A writer at the head takes the lock that was free when it looked, where no readers are.
     Grab,
+    /// A writer at the head takes the lock, if its word is the one that it saw.
     WriteGrab,
+    /// It holds the lock, and asks its next word for the successor.
     Take,
+    /// No successor was named: it leaves the queue empty, unless somebody has joined.
     Cut,
+    /// Somebody has joined and not written its name yet, so it asks again.
     Late,
+    /// It makes its successor the queue's head.
     Ready,
+    /// It left the queue empty, and enables stealing.
     Open,
+    /// It holds the lock, and has no step to make unless it owes a wakeup.
     Held,
+    /// A writer frees the lock.
     Release,
+    /// A reader counts itself in past the queue.
     Count,
+    /// A reader that met a writer or disabled stealing counts itself out, and queues.
     Uncount,
+    /// A reader's attempt that met a writer or disabled stealing counts itself out.
     TryUncount,
+    /// A reader at the queue's head counts itself in.
     HeadCount,
+    /// A reader at the head is counted, and waits until no writer holds.
     HeadLook,
+    /// A reader frees the lock.
     ReadRelease,
 }
 

@@ -4,12 +4,13 @@ ghost use Rattle.shfl_core.specs.Plan as plan;
 ghost use Rattle.shfl_core.specs.Take as take;
 ghost use Rattle.shfl_core.specs.Words.{is_store, site, NamesPass};
 
+use crate::bits::{closed_of, held_of, ready_of, shuffler_of, spin_of};
 use crate::found::{
     after_found, begun, decided, done, free_for, go, heir_found, looked, marked, next_found,
     peeked, readied, swap_found, top,
 };
 use crate::phase::{Nap, PassState, Phase, Rules};
-use shfl_line::{BATCH, CLOSED, SHUFFLER, SPIN};
+use shfl_line::BATCH;
 
 // Where a pass goes from its phase, awake.
 #[inline(always)]
@@ -18,7 +19,6 @@ fn phase_take(rules: Rules, me: u32, pass: &mut PassState, found: u64, choice: b
         → NamesPass (site (plan.plan_at rules me pass.old.reg pass.old.phase)) found }
     ensures { pass.new ≡ take.take_at rules me pass.old.reg found choice pass.old.phase }
 {
-    let held = found % 2 == 1;
     match pass.phase {
         Phase::Steal => {
             let phase = if found == 0 { Phase::Held } else { Phase::Init };
@@ -38,8 +38,8 @@ fn phase_take(rules: Rules, me: u32, pass: &mut PassState, found: u64, choice: b
         Phase::Close => top(pass),
         Phase::Look => {
             pass.reg.batch = (found / BATCH % 65536) as u16;
-            pass.reg.flag = found / SHUFFLER % 2 == 1;
-            looked(rules, pass, held);
+            pass.reg.flag = shuffler_of(found);
+            looked(rules, pass, ready_of(found));
         }
         Phase::Begin => {
             if pass.reg.batch < 1 {
@@ -65,7 +65,7 @@ fn phase_take(rules: Rules, me: u32, pass: &mut PassState, found: u64, choice: b
             let stop = if pass.reg.headed {
                 free_for(pass.reg.mode, found)
             } else {
-                held
+                ready_of(found)
             };
             decided(pass, stop, choice);
         }
@@ -82,7 +82,7 @@ fn phase_take(rules: Rules, me: u32, pass: &mut PassState, found: u64, choice: b
         }
         Phase::Peek => peeked(rules, pass, found),
         Phase::Grab => {
-            if held {
+            if held_of(found) {
                 top(pass)
             } else {
                 go(pass, Phase::Take)
@@ -107,7 +107,7 @@ fn phase_take(rules: Rules, me: u32, pass: &mut PassState, found: u64, choice: b
         Phase::Late => heir_found(Phase::Late, pass, found),
         Phase::Ready => readied(rules, pass, found),
         Phase::Count => {
-            let phase = if held || found / CLOSED % 2 == 1 {
+            let phase = if held_of(found) || closed_of(found) {
                 Phase::Uncount
             } else {
                 Phase::Held
@@ -116,7 +116,11 @@ fn phase_take(rules: Rules, me: u32, pass: &mut PassState, found: u64, choice: b
         }
         Phase::Uncount => go(pass, Phase::Init),
         Phase::HeadCount | Phase::HeadLook => {
-            let phase = if held { Phase::HeadLook } else { Phase::Take };
+            let phase = if held_of(found) {
+                Phase::HeadLook
+            } else {
+                Phase::Take
+            };
             go(pass, phase);
         }
     }
@@ -141,7 +145,7 @@ pub fn take_row_in_place(rules: Rules, me: u32, pass: &mut PassState, found: u64
     match pass.nap {
         Nap::Awake => phase_take(rules, me, pass, found, choice),
         Nap::Doze => {
-            pass.nap = if found % 2 == 1 || found / SPIN % 2 == 1 {
+            pass.nap = if ready_of(found) || spin_of(found) {
                 Nap::Rouse
             } else {
                 Nap::Hear

@@ -74,7 +74,7 @@ pub fn site(access: Access) -> Word
 
 /// The words of a lock with a pass for each of these attributes, at its opening.
 pub fn opening_words(alloc: Global, attrs: &[Attributes]) -> Result<Vec<u64>, NoMemory>
-    requires few { length attrs.now ≤ 64 }
+    requires few { length attrs.now ≤ words.most_passes }
     ensures { IfOk result (λ w. w.items ≡ worlds.opening_words attrs.now) }
 {
     let mut list = vec![in alloc; 0; LINE_WORDS * (attrs.len() + 2)]?;

@@ -79,7 +79,7 @@ pub fn perform(list: &mut Vec<u64>, access: Access) -> u64
     }
 }
 
-/// A lock whose words are plain numbers, with all its passes. That each move keeps it lawful is told by the laws above.
+/// A lock whose words are plain numbers, with all its passes. That each move keeps it lawful is a law of `shfl_laws` (`every_move`).
 #[derive(Drop)]
 pub struct PlainWorld<W: Waiter> {
     words: Vec<u64>,
@@ -105,7 +105,7 @@ impl<W: Waiter> PlainWorld<W> {
         make: F,
     ) -> Result<PlainWorld<W>, NoMemory>
         requires some { 0 < length attrs.now }
-        requires few { length attrs.now ≤ 64 }
+        requires few { length attrs.now ≤ words.most_passes }
         requires callable { F.IsAlwaysCallable make }
         requires idle { (form : Form)
             × MakesIdle W.meaning (λ k a w. F.post make k a limit w) (rules limit form) }

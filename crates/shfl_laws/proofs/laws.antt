@@ -25,3 +25,4 @@ pub mod OwnSteps
 pub mod Holds
 pub mod Waits
 pub mod SeenAlike
+pub mod Stealing

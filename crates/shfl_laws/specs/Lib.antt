@@ -13,3 +13,4 @@ pub mod PlainOwed
 pub mod Plain
 pub mod PlainMoves
 pub mod SeenAlike
+pub mod Stealing

@@ -14,7 +14,7 @@ use Rattle.shfl_core.specs.declared.phase.Nap.TheVariants.{Awake}
 use Rattle.shfl_core.specs.declared.phase.PassState.{PassState}
 use Rattle.shfl_core.specs.declared.phase.Rules.{Rules}
 use Rattle.shfl_core.specs.declared.words.Word.TheVariants.{Attr as AttrOf}
-use Rattle.shfl_core.specs.Words.{look, site}
+use Rattle.shfl_core.specs.Words.{look, most_passes, site}
 use Rattle.shfl_core.specs.Plan.{plan, moving, attempt_plan}
 use Rattle.shfl_core.specs.Waiting.{MayUse, idle}
 use Rattle.shfl_core.specs.Worlds.{World, known, opening, opening_words, placed_at, stepped, tried, Move, Acquire, Release, Step, after_move, run}
@@ -70,7 +70,7 @@ TermsLaw t = (w : World) → Lawful t w → told_terms t.rules (count t) w.words
 pub record MayOpen (rules : Rules) (attrs : List Attr) : Type 0 where
   pub limit : (0 < rules.limit) × (rules.limit ≤ 1024)
   pub some : 0 < length attrs
-  pub few : length attrs ≤ 64
+  pub few : length attrs ≤ most_passes
 
 -- a lock at its opening, with all its seats filled, is lawful, and shows that nobody holds or waits
 pub record OpensLawful (rules : Rules) (attrs : List Attr) : Type 0 where

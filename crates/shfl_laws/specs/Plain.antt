@@ -6,7 +6,7 @@ use Rattle.shfl_line.specs.Line.{Line, IsWellFormed}
 use Rattle.shfl_core.specs.declared.phase.PassState.{PassState}
 use Rattle.shfl_core.specs.declared.words.Word.{Word}
 use Rattle.shfl_core.specs.declared.words.Word.TheVariants.{Attr}
-use Rattle.shfl_core.specs.Words.{look, wide}
+use Rattle.shfl_core.specs.Words.{look, wide, most_passes}
 use Rattle.shfl_core.specs.Worlds.{World}
 use Rattle.shfl_core.specs.Lawful.{Terms, count, Formed, Lawful}
 use Rattle.shfl_laws.specs.Shows.{ShowsPlainly}
@@ -15,9 +15,9 @@ use Rattle.shfl_laws.specs.PlainOwed.{PlainOwed}
 
 -- the words and seats of a lock: how many, and in which form
 pub record HasForm (t : Terms) (w : World) : Type 0 where
-  -- 1 to 1,024 passes a batch, 64 passes at most, and the words of each
+  -- 1 to 1,024 passes a batch, most_passes at most, and the words of each
   pub limit : (0 < t.rules.limit) × (t.rules.limit ≤ 1024)
-  pub few : count t ≤ 64
+  pub few : count t ≤ most_passes
   pub room : length w.words ≡ wide (count t)
   -- the seats that are filled, each with the pass of its number
   pub seats : length w.passes ≤ count t

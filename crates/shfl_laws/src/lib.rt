@@ -6,6 +6,7 @@ pub mod measure;
 pub mod safety;
 pub mod schedules;
 pub mod seen;
+pub mod stealing;
 pub mod table;
 
 pub use held::{holds_of_passes, waiters_wait_on};
@@ -19,6 +20,7 @@ pub use schedules::{
     starts,
 };
 pub use seen::{a_step_as_seen, lawful_as_seen, passes_as_seen, planned_words};
+pub use stealing::{nobody_steals_while_disabled, stealing_may_be_disabled};
 pub use table::{
     laws_at_the_head, laws_of_attempts, laws_of_choosing, laws_of_joining, laws_of_leaving,
     laws_of_parking, laws_of_relinking, laws_outside_the_queue,

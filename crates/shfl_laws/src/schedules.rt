@@ -4,7 +4,7 @@ ghost use Rattle.shfl_core.specs.Worlds.{Move};
 ghost use Rattle.shfl_laws.specs.Moves.{MoveLaw, OpeningLaw, RunLaw, SeatLaw, StepLaw};
 ghost use Rattle.shfl_laws.specs.Moves.{StartLaw, ForgetLaw, TermsLaw, unseated, first_seated};
 
-/// A lock of 1 to 64 passes and a limit of 1 to 1,024 is lawful at its opening, and shows that nobody holds or waits.
+/// A lock of 1 to 65,535 passes and a limit of 1 to 1,024 is lawful at its opening, and shows that nobody holds or waits.
 pub fn openings()
     ensures law { OpeningLaw }
 {}

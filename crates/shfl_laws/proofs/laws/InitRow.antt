@@ -15,7 +15,7 @@ use Rattle.shfl_core.specs.Take.{to}
 use Rattle.shfl_core.specs.Worlds.{known}
 use Rattle.shfl_core.specs.Phases.{is_round, is_queued, is_fore, is_linking, knows}
 use Rattle.shfl_core.specs.View.{View, view}
-use Rattle.shfl_core.specs.Order.{Order as Ordered, Round, Follows, Walks, awake}
+use Rattle.shfl_core.specs.Order.{Order as Ordered, Round, Follows, Walks, is_head}
 use Rattle.shfl_core.specs.Grouping.{Grouping}
 use Rattle.shfl_core.specs.Holding.{backs}
 use Rattle.shfl_core.specs.Owed.{Owed, IsCalledSleeper, called, announces, fits}
@@ -66,7 +66,7 @@ module _ (w : View) (s : Line) (g p : ℕ) (o : Ordered w s g) (f : (w.pass p).p
   walks-same (x ∷ xs) e = (Chain.chain-map (Follows w) (Follows then) x xs (λ a b _ _ k. follows-same a b k) e.0, e.1, e.2)
 
   -- who is queued is another pass, and stands as before
-  awake-same : (q : ℕ) → is_queued (w.pass q) ≡ true → awake then q ≡ awake w q
+  awake-same : (q : ℕ) → is_queued (w.pass q) ≡ true → is_head then q ≡ is_head w q
   awake-same q h = let n : q ≢ p = λ i. (let a : is_queued (w.pass p) ≡ true = subst (λ z. is_queued (w.pass z) ≡ true) i h in let b = away in cc) in
       λ j. is_fore (pass-else q n j) || (node-else q n j).ready
 

@@ -18,7 +18,7 @@ use Rattle.shfl_core.specs.Plan.{parks}
 use Rattle.shfl_core.specs.Worlds.{World, known}
 use Rattle.shfl_core.specs.Phases.{is_round, is_queued, is_fore, is_linking, knows, is_holding, is_writing, is_reading, decide_to_pick}
 use Rattle.shfl_core.specs.View.{View, view}
-use Rattle.shfl_core.specs.Order.{Order as Ordered, Round, Follows, Walks, awake}
+use Rattle.shfl_core.specs.Order.{Order as Ordered, Round, Follows, Walks, is_head}
 use Rattle.shfl_core.specs.Holding.{Holding, backs}
 use Rattle.shfl_core.specs.Owed.{announces, fits}
 use Rattle.shfl_core.specs.Lawful.{Terms, count, Lawful, Agrees, Advances, LawOf}
@@ -37,7 +37,7 @@ use Rattle.shfl_laws.proofs.words.StateBits.{read}
 
 -- a queued pass goes on in the queue, outside rounds, and counts as the head exactly as before
 module _ (w : View) (s : Line) (g p : ℕ) (v : PassState) (o : Ordered w s g) (queued : is_queued v ≡ is_queued (w.pass p)) (link : (is_linking (w.pass p).phase ≡ false) × (is_linking v.phase ≡ false))
-    (ready : ((w.pass p).phase ≢ Ready) × (v.phase ≢ Ready)) (swap : v.phase ≢ Swap) (calm : is_round v.phase ≡ false) (head : (is_fore v || (w.node p).ready) ≡ awake w p) where
+    (ready : ((w.pass p).phase ≢ Ready) × (v.phase ≢ Ready)) (swap : v.phase ≢ Swap) (calm : is_round v.phase ≡ false) (head : (is_fore v || (w.node p).ready) ≡ is_head w p) where
   abbrev then : View
   then = record w { pass = updated w.pass p v }
 
@@ -47,8 +47,8 @@ module _ (w : View) (s : Line) (g p : ℕ) (v : PassState) (o : Ordered w s g) (
   queued-same : (q : ℕ) → is_queued (then.pass q) ≡ is_queued (w.pass q)
   queued-same = Chain.updated-all (λ q t. is_queued t ≡ is_queued (w.pass q)) w.pass p v queued (λ q n. refl)
 
-  awake-same : (q : ℕ) → awake then q ≡ awake w q
-  awake-same = Chain.updated-all (λ q t. (is_fore t || (w.node q).ready) ≡ awake w q) w.pass p v head (λ q n. refl)
+  awake-same : (q : ℕ) → is_head then q ≡ is_head w q
+  awake-same = Chain.updated-all (λ q t. (is_fore t || (w.node q).ready) ≡ is_head w q) w.pass p v head (λ q n. refl)
 
   follows-same : (a b : ℕ) → Follows w a b → Follows then a b
   follows-same a b e = record {

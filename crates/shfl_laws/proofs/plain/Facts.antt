@@ -16,7 +16,7 @@ use Rattle.shfl_core.specs.Words.{look}
 use Rattle.shfl_core.specs.Phases.{is_queued, is_fore, is_linking}
 use Rattle.shfl_core.specs.Worlds.{World, known}
 use Rattle.shfl_core.specs.View.{view}
-use Rattle.shfl_core.specs.Order.{Order as Ordered, awake}
+use Rattle.shfl_core.specs.Order.{Order as Ordered, is_head}
 use Rattle.shfl_core.specs.Owed.{fits, announces}
 use Rattle.shfl_core.specs.Grouping.{Grouping}
 use Rattle.shfl_core.specs.Lawful.{Terms, Lawful}
@@ -76,7 +76,7 @@ module _ (t : Terms) (w : World) (ok : Lawful t w) where
   late-one a b c l m = lone t.rules.limit (view w) s ok.giver b c o k (link a b l) (link a c m) (l.before ∙ sym m.before)
 
   -- a queued pass that isn't counted as the head waits and isn't made ready
-  uncalled : (p : ℕ) → is_queued (pass p) ≡ true → (awake (view w) p ≡ true → ⊥) → WaitsUncalled w p
+  uncalled : (p : ℕ) → is_queued (pass p) ≡ true → (is_head (view w) p ≡ true → ⊥) → WaitsUncalled w p
   uncalled p q h = record {
     waits = record { queued = q; rear = not-true (is_fore (pass p)) (λ e. h (ap (λ b. b || ((view w).node p).ready) e)) };
     ready = not-true ((view w).node p).ready (λ e. h (by (is_fore (pass p)) e));

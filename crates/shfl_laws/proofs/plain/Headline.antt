@@ -14,7 +14,7 @@ use Rattle.shfl_core.specs.declared.phase.PassState.{PassState}
 use Rattle.shfl_core.specs.Phases.{is_queued, is_fore, is_round, is_linking, has_hand}
 use Rattle.shfl_core.specs.Worlds.{World, known}
 use Rattle.shfl_core.specs.View.{view}
-use Rattle.shfl_core.specs.Order.{Order as Ordered, Follows, Walks, awake}
+use Rattle.shfl_core.specs.Order.{Order as Ordered, Follows, Walks, is_head}
 use Rattle.shfl_core.specs.Grouping.{Grouping}
 use Rattle.shfl_core.specs.Lawful.{Terms, Lawful}
 use Rattle.shfl_laws.specs.Headline.{IsSuccessor, HasNoSuccessor, IsHead, Named, Active, Called, IsWaitLine, IsQueued, StandsOnce, Shuffles, batch, Headline}
@@ -75,7 +75,7 @@ module _ (t : Terms) (w : World) (ok : Lawful t w) where
               none true i = absurd (let h = (o.fronted.only p (fore-queued (pass p) i) (ap (λ b. b || ((view w).node p).ready) i)).0 in
                   let j : p ≡ x = (omega arith) in let l : is_fore (pass x) ≡ true = subst (λ y. is_fore (pass y) ≡ true) j i in cc)
 
-          ahead : ((p : ℕ) → (pass p).phase ≢ Ready) → (b : Bool) → is_fore (pass x) ≡ b → awake (view w) x ≡ true → IsHead w x
+          ahead : ((p : ℕ) → (pass p).phase ≢ Ready) → (b : Bool) → is_fore (pass x) ≡ b → is_head (view w) x ≡ true → IsHead w x
           ahead nobody true f up = Active nobody f
           ahead nobody false f up = Called nobody (fore-none f) (Order.queued-in (view w) s x o.stands (in-line s.line e)) (sym (ap (λ b. b || ((view w).node x).ready) f) ∙ up)
             where

@@ -15,7 +15,7 @@ use Rattle.shfl_core.specs.Phases.{is_queued, is_fore, is_linking}
 use Rattle.shfl_core.specs.Worlds.{World, known}
 use Rattle.shfl_core.specs.Waiting.{idle}
 use Rattle.shfl_core.specs.View.{View, view}
-use Rattle.shfl_core.specs.Order.{Follows, Walks, awake, Fronted, Stands, Clean}
+use Rattle.shfl_core.specs.Order.{Follows, Walks, is_head, Fronted, Stands, Clean}
 use Rattle.shfl_core.specs.ShownLine.{least, is_ready}
 use Rattle.shfl_core.proofs.Lists.{past, below-or}
 use Rattle.shfl_laws.specs.Headline.{IsLinkingTo, IsSuccessor, HasNoSuccessor, IsHead, Named, Active, Called, IsWaitLine, IsQueued}
@@ -116,11 +116,11 @@ module _ (limit n : ℕ) (w : World) (s : Line) (sh : ShowsPlainly n w s) (good 
   first-head (x ∷ xs) h a i = let j : x ≡ a = (omega arith) in subst (λ y. IsHead w y) j h.0
 
   -- whoever waits without being called doesn't count as the head
-  asleep : (q : ℕ) → WaitsUncalled w q → awake v q ≡ true → ⊥
-  asleep q u e = let a = u.waits.rear in let b = u.ready in let c : awake v q ≡ false = (λ j. a j || b j) in cc
+  asleep : (q : ℕ) → WaitsUncalled w q → is_head v q ≡ true → ⊥
+  asleep q u e = let a = u.waits.rear in let b = u.ready in let c : is_head v q ≡ false = (λ j. a j || b j) in cc
 
   -- who counts as the head is the line's first
-  awake-first : (q : ℕ) → IsQueued w q → awake v q ≡ true → first s.line ≡ suc q
+  awake-first : (q : ℕ) → IsQueued w q → is_head v q ≡ true → first s.line ≡ suc q
   awake-first q i e = ⊎_elim
       (λ m. in-line s.line sh.queue m (fa.line q m))
       (λ h. absurd (asleep q (fa.detached q h) e))
@@ -144,14 +144,14 @@ module _ (limit n : ℕ) (w : World) (s : Line) (sh : ShowsPlainly n w s) (good 
       by zero e = absurd (let a = least-none (λ p. is_ready (pass p).phase) (length w.passes) e q (ready-there q f) in let b = ap is_ready f in cc)
       by (suc r) e = e ∙ ap suc (fa.ready_one r q (giver-is r e) f)
 
-  nobody-gives : (q : ℕ) → awake v q ≡ true → first s.line ≡ suc q → giver ≡ 0
+  nobody-gives : (q : ℕ) → is_head v q ≡ true → first s.line ≡ suc q → giver ≡ 0
   nobody-gives q e f = by giver refl
     where
       by : (g : ℕ) → giver ≡ g → giver ≡ 0
       by zero i = i
       by (suc r) i = absurd (let t = fa.grants r (giver-is r i) in let a = t.first in let j : (pass r).reg.heir ≡ q = (omega arith) in asleep q (subst (λ y. WaitsUncalled w y) j t.uncalled) e)
 
-  awake-head : (q : ℕ) → giver ≡ 0 → IsHead w q → awake v q ≡ true
+  awake-head : (q : ℕ) → giver ≡ 0 → IsHead w q → is_head v q ≡ true
   awake-head q z (Named p f e) = absurd (let a = giver-who p f in omega arith)
   awake-head q z (Active a f) = ap (λ b. b || ready_of (look w.words (State q))) f
   awake-head q z (Called a b c d) = by (is_fore (pass q)) d

@@ -10,7 +10,7 @@ use Rattle.shfl_core.specs.declared.phase.PassState.{PassState}
 use Rattle.shfl_core.specs.declared.phase.Nap.TheVariants.{Awake}
 use Rattle.shfl_core.specs.Phases.{attr_to_pick, is_round, is_queued, is_fore, is_linking}
 use Rattle.shfl_core.specs.View.{View}
-use Rattle.shfl_core.specs.Order.{Order as Ordered, Round, Follows, Clean, awake}
+use Rattle.shfl_core.specs.Order.{Order as Ordered, Round, Follows, Clean, is_head}
 use Rattle.shfl_core.specs.Grouping.{Grouping}
 use Rattle.shfl_laws.proofs.rows.Rows.{on, row_swap}
 use Rattle.shfl_line.proofs.Chain
@@ -38,7 +38,7 @@ module _ (limit : ℕ) (w : View) (s : Line) (g p : ℕ) (o : Ordered w s g) (k 
   others : (q : ℕ) → 0 < times q s.line → q ≢ p
   others q m e = let z = out.0 in let l0 : 0 < times p s.line = subst (λ v. 0 < times v s.line) e m in omega arith
 
-  awake-off : awake w p ≡ false
+  awake-off : is_head w p ≡ false
   awake-off = let i = (o.clean p).init f in grind (arith, f, i.2)
 
   -- what both ways of joining share

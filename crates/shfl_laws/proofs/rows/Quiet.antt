@@ -11,7 +11,7 @@ use Rattle.shfl_line.specs.declared.words.NodeState.{NodeState}
 use Rattle.shfl_core.specs.declared.phase.PassState.{PassState}
 use Rattle.shfl_core.specs.Phases.{is_round, is_queued, is_fore, is_linking, knows}
 use Rattle.shfl_core.specs.View.{View}
-use Rattle.shfl_core.specs.Order.{Order as Ordered, Round, Follows, Walks, Fronted, awake}
+use Rattle.shfl_core.specs.Order.{Order as Ordered, Round, Follows, Walks, Fronted, is_head}
 use Rattle.shfl_core.specs.Grouping.{Grouping}
 use Rattle.shfl_line.proofs.Chain
 
@@ -54,7 +54,7 @@ module _ (w : View) (s : Line) (g : ℕ) (h c : Bool) (r : ℕ) (n : ℕ → Nod
   pub quiet-heir : (q : ℕ) → (w.pass q).phase ≡ Ready → (updated w.pass p v q).reg.heir ≡ (w.pass q).reg.heir
   quiet-heir = Chain.updated-all (λ q t. (w.pass q).phase ≡ Ready → t.reg.heir ≡ (w.pass q).reg.heir) w.pass p v (λ e. absurd (k.no_ready.0 e)) (λ q m e. refl)
 
-  pub quiet-awake : (q : ℕ) → awake (moved w h c r n p v) q ≡ awake w q
+  pub quiet-awake : (q : ℕ) → is_head (moved w h c r n p v) q ≡ is_head w q
   quiet-awake q = let a = quiet-fore q in let b = same q in grind arith
 
   pub quiet-fronted : Fronted (moved w h c r n p v) s.line g

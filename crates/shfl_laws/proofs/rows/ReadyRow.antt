@@ -14,7 +14,7 @@ use Rattle.shfl_core.specs.declared.phase.PassState.{PassState}
 use Rattle.shfl_core.specs.Plan.{parks}
 use Rattle.shfl_core.specs.Phases.{is_round, is_queued, is_fore, is_linking}
 use Rattle.shfl_core.specs.View.{View}
-use Rattle.shfl_core.specs.Order.{Order as Ordered, Round, Follows, Walks, awake}
+use Rattle.shfl_core.specs.Order.{Order as Ordered, Round, Follows, Walks, is_head}
 use Rattle.shfl_core.specs.Grouping.{Grouped, Grouping}
 use Rattle.shfl_core.specs.Owed.{Owed, IsCalledSleeper, called, announces, fits}
 use Rattle.shfl_laws.proofs.rows.Order as Orders
@@ -64,10 +64,10 @@ module _ (w : View) (s : Line) (g p h : ℕ) (o : Ordered w s g) (f : (w.pass p)
   apart : h ≢ p
   apart i = let a : is_queued (w.pass p) ≡ true = subst (λ z. is_queued (w.pass z) ≡ true) i heir-queued in let b = away in cc
 
-  not-awake : awake w h ≡ false
-  not-awake = by (awake w h) refl
+  not-awake : is_head w h ≡ false
+  not-awake = by (is_head w h) refl
     where
-      by : (b : Bool) → awake w h ≡ b → b ≡ false
+      by : (b : Bool) → is_head w h ≡ b → b ≡ false
       by true e = absurd (let t = o.fronted.only h heir-queued e in let u = giver in omega arith)
       by false e = refl
 
@@ -131,7 +131,7 @@ module _ (w : View) (s : Line) (g p h : ℕ) (o : Ordered w s g) (f : (w.pass p)
   or-true true = refl
   or-true false = refl
 
-  heir-awake : awake then h ≡ true
+  heir-awake : is_head then h ≡ true
   heir-awake = (λ j. is_fore (then.pass h) || (node-here j).ready) ∙ or-true (is_fore (then.pass h))
 
   pub ready-order : Ordered then s 0
@@ -142,9 +142,9 @@ module _ (w : View) (s : Line) (g p h : ℕ) (o : Ordered w s g) (f : (w.pass p)
       is = λ q e. absurd (omega arith);
       only = λ q e a. Chain.by_eq q h
           (λ i. (heir-first ∙ ap suc (sym i), refl))
-          (λ n. absurd (let m = now-queued q e in let y : awake w q ≡ true = (λ j. is_fore (sym (pass-else q m) j) || (sym (node-else q n) j).ready) ∙ a in
+          (λ n. absurd (let m = now-queued q e in let y : is_head w q ≡ true = (λ j. is_fore (sym (pass-else q m) j) || (sym (node-else q n) j).ready) ∙ a in
           let t = o.fronted.only q (sym (queued-same q) ∙ e) y in let b = giver in omega arith));
-      front = λ q _ e. (let i : h ≡ q = (let a = heir-first in omega arith) in subst (λ z. awake then z ≡ true) i heir-awake);
+      front = λ q _ e. (let i : h ≡ q = (let a = heir-first in omega arith) in subst (λ z. is_head then z ≡ true) i heir-awake);
       heir = λ q e. absurd (omega arith);
       linking = λ q e. (let l = sym (linking-same q) ∙ e in let n : q ≢ h = λ i. (let a : is_linking (w.pass h).phase ≡ true = subst (λ z. is_linking (w.pass z).phase ≡ true) i l in let b = heir-linked in cc) in
           ap (λ (z : NodeState). z.ready) (node-else q n) ∙ o.fronted.linking q l);
