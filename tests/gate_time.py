@@ -1,0 +1,116 @@
+"""What tests/gate-time.sh does: watches the processes of a run of rt, and adds up what each crate took."""
+import collections, os, re, shutil, subprocess, sys, tempfile, time
+
+TOP = sys.argv[1]
+TICK = os.sysconf("SC_CLK_TCK")
+KINDS = ("proofs", "tests", "edits", "rest")
+
+
+def processes():
+    """Each process: its parent, its name, and the processor time that it has taken, in ticks."""
+    found = {}
+    for pid in filter(str.isdigit, os.listdir("/proc")):
+        try:
+            with open(f"/proc/{pid}/stat", encoding="utf-8", errors="replace") as file:
+                head, _, rest = file.read().rpartition(")")
+            fields = rest.split()
+            found[int(pid)] = (int(fields[1]), head.partition("(")[2], int(fields[11]) + int(fields[12]))
+        except (OSError, IndexError, ValueError):
+            # (it has ended meanwhile)
+            pass
+    return found
+
+
+def what_for(pid):
+    """The kind and the crate of a prover's process, or None."""
+    try:
+        with open(f"/proc/{pid}/cmdline", "rb") as file:
+            words = file.read().decode(errors="replace").split("\0")
+        at = os.readlink(f"/proc/{pid}/cwd")
+    except OSError:
+        return None
+    if "--crate-name" not in words:
+        return None
+    name = words[words.index("--crate-name") + 1]
+    if "/rt-edit" in at:
+        return "edits", name
+    return "tests" if "--test" in words else "proofs", name
+
+
+def watch(root):
+    """Seconds by kind and crate of all that runs below the process `root`, until it ends."""
+    last, kinds = {}, {}
+    while True:
+        now = processes()
+        if root not in now:
+            break
+        below = {root}
+        # (a child may have a smaller number than its parent)
+        for _ in range(6):
+            below |= {pid for pid, it in now.items() if it[0] in below}
+        for pid in below:
+            if pid not in kinds or kinds[pid] is None:
+                kinds[pid] = what_for(pid)
+            last[pid] = now[pid][2]
+        time.sleep(0.25)
+    sums = collections.Counter()
+    for pid, ticks in last.items():
+        sums[kinds[pid] or ("rest", "-")] += ticks / TICK
+    return sums
+
+
+def table(sums):
+    names = sorted({name for _, name in sums}, key=lambda it: -sum(sums[kind, it] for kind in KINDS))
+    rows = [[name, *(sums[kind, name] for kind in KINDS[:3]), sum(sums[kind, name] for kind in KINDS)] for name in names]
+    rows.append(["all", *(sum(row[at] for row in rows) for at in range(1, 5))])
+    lines = ["| Crate | proof | tests | wrong bodies | all |", "|---|---|---|---|---|"]
+    lines += ["| {} | {} |".format(row[0], " | ".join(f"{it:.0f}" if it else "-" for it in row[1:])) for row in rows]
+    return "\n".join(lines), {row[0]: row[4] for row in rows}
+
+
+def budget():
+    """What docs/CHANGING.md has written down: the seconds of each crate."""
+    with open(f"{TOP}/docs/CHANGING.md", encoding="utf-8") as file:
+        rows = re.findall(r"^\| (\w+) \|(?: [\d-]+ \|){3} (\d+) \|$", file.read(), re.M)
+    return {name: int(seconds) for name, seconds in rows}
+
+
+def main():
+    words, begun = sys.argv[2:], time.monotonic()
+    if words and words[0].isdigit():
+        sums, status = watch(int(words[0])), 0
+    else:
+        with tempfile.TemporaryDirectory(prefix="gate-time-") as room:
+            os.makedirs(f"{room}/.git")
+            for name in ("crates.txt", "HANDLES"):
+                shutil.copyfile(f"{TOP}/{name}", f"{room}/{name}")
+            shutil.copytree(f"{TOP}/crates", f"{room}/crates", ignore=shutil.ignore_patterns("out", "more-edits"))
+            with open(f"{room}/.git/log", "wb") as out:
+                run = subprocess.Popen(["rt", "ci", "--anew"], cwd=room, stdin=subprocess.DEVNULL, stdout=out, stderr=subprocess.STDOUT)
+            sums = watch_child(run)
+            status = run.returncode
+            if status:
+                with open(f"{room}/.git/log", encoding="utf-8", errors="replace") as file:
+                    sys.stderr.write("".join(file.readlines()[-20:]))
+    text, took = table(sums)
+    print(text)
+    hours, minutes = sum(sums.values()) / 3600, (time.monotonic() - begun) / 60
+    print(f"\n{hours:.2f} hours of processor time in {minutes:.0f} minutes, on {len(os.sched_getaffinity(0))} processors")
+    over = [(it, took[it], most) for it, most in budget().items() if took.get(it, 0) > 1.2 * most + 10]
+    for name, seconds, most in over:
+        print(f"tests/gate-time.sh: {name} took {seconds:.0f} s, and docs/CHANGING.md has {most}", file=sys.stderr)
+    sys.exit(1 if status or over else 0)
+
+
+def watch_child(run):
+    """The same for a child of this process, which stays as a zombie until it is waited for."""
+    import threading
+
+    done = threading.Thread(target=run.wait)
+    done.start()
+    sums = watch(run.pid)
+    done.join()
+    return sums
+
+
+main()
