@@ -1,5 +1,5 @@
 -- What the board keeps over its moves, and what a step of it is.
-use Rattle.std.proofs.Common.{◌≡◌, ℕ, ◌<◌, Bool, true, false, List, length, set, sym, refl, ap, ◌∙◌, subst, ⊎_elim, length-set}
+use Rattle.std.proofs.Common.{◌≡◌, ℕ, ◌<◌, ◌≤◌, Bool, true, false, List, length, set, sym, refl, ap, ◌∙◌, subst, ⊎_elim, length-set}
 use Rattle.std.proofs.lemmas.List.{get_or-set_same}
 use mathlib.Core.Option.{some}
 use lib.ListN.{get_elem?}
@@ -60,6 +60,7 @@ module _ (rules : Rules) (words : List ℕ) (passes : List PassState) (key : Ope
     rules_are = k.rules_are;
     table_is = s.0 ∙ k.table_is;
     long = k.long;
+    few = k.few;
     words_are = k.words_are ∙ ap (λ (m : Me (Unit {0}) Whole). m.0.words) (sym e);
     first = s.1 ∙ k.first;
     bare = ap (λ (m : Me (Unit {0}) Whole). m.1) e ∙ k.bare;
@@ -90,6 +91,7 @@ module _ (rules : Rules) (words : List ℕ) (passes : List PassState) (key : Ope
       rules_are = k.rules_are;
       table_is = k.table_is;
       long = k.long ∙ ap wide (sym (length-set passes p q));
+      few = subst (λ n. n ≤ 64) (sym (length-set passes p q)) k.few;
       words_are = k.words_are;
       first = k.first;
       bare = k.bare;
@@ -135,6 +137,7 @@ module _ (rules : Rules) (words : List ℕ) (passes : List PassState) (key : Ope
         rules_are = k.rules_are;
         table_is = same.0 ∙ k.table_is;
         long = k.long ∙ ap wide (sym (length-set passes p q));
+        few = subst (λ n. n ≤ 64) (sym (length-set passes p q)) k.few;
         words_are = w;
         first = same.1 ∙ k.first;
         bare = none ∙ k.bare;

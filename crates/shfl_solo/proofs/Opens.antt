@@ -1,5 +1,5 @@
 -- The board at its opening.
-use Rattle.std.proofs.Common.{◌≡◌, ℕ, ◌+◌, ◌<◌, List, [], ◌∷◌, ◌++◌, length, get_or, take, refl, sym, ap, ◌∙◌, subst, length-take, arith}
+use Rattle.std.proofs.Common.{◌≡◌, ℕ, ◌+◌, ◌<◌, ◌≤◌, List, [], ◌∷◌, ◌++◌, length, get_or, take, refl, sym, ap, ◌∙◌, subst, length-take, arith}
 use Rattle.std.proofs.lemmas.List.{take_more}
 use lib.ListN.{get_elem?}
 use Rattle.atomic_table.specs.Table.{Me, opening}
@@ -14,7 +14,7 @@ use Rattle.shfl_core.specs.ShownLine.{shown_line}
 use Rattle.shfl_core.specs.Waiting.{idle}
 use Rattle.shfl_core.specs.Words.{wide}
 use Rattle.shfl_core.specs.Worlds.{opening_words, idle_from}
-use Rattle.shfl_core.proofs.Opening.{idle-from-append}
+use Rattle.shfl_core.proofs.Opening.{idle-from-append, idle-from-long}
 use Rattle.shfl_laws.specs.Moves.{MayOpen, terms}
 use Rattle.shfl_laws.specs.Seen.{Alike}
 use Rattle.shfl_world.specs.LawfulLock.{IsLawfulLock, terms_of}
@@ -51,12 +51,13 @@ module _ (rules : Rules) (attrs : List Attr) (may : MayOpen rules attrs) (words 
       lawful = key-lawful;
     }
 
-    pub opens-kept : (id table : TableId) (seat : ℕ) (me : Me (Unit {0}) Whole) → id.words ≡ length words → table ≡ id → seat ≡ 0 → me ≡ (first_view key, []) → IsSolo rules words passes key id table seat me
-    opens-kept id table seat me n t z m = record {
+    pub opens-kept : length attrs ≤ 64 → (id table : TableId) (seat : ℕ) (me : Me (Unit {0}) Whole) → id.words ≡ length words → table ≡ id → seat ≡ 0 → me ≡ (first_view key, []) → IsSolo rules words passes key id table seat me
+    opens-kept small id table seat me n t z m = record {
       rules_are = r;
       table_is = t;
       words_are = sym (ap (λ (x : Me (Unit {0}) Whole). x.0.words) m ∙ e);
       long = n ∙ (sym (ap length e) ∙ (key-lawful.room ∙ ap wide (sym key-full ∙ ap length f)));
+      few = subst (λ k. k ≤ 64) (sym (ap length b ∙ idle-from-long 0 attrs)) small;
       first = z;
       bare = ap (λ (x : Me (Unit {0}) Whole). x.1) m;
       seen = λ i q g. record { seen = q; there = ap (λ l. get_elem? l i) (ap (λ (x : Me (Unit {0}) Whole). x.0.passes) m ∙ f) ∙ g; alike = Alike refl };

@@ -1,5 +1,5 @@
 -- What the board keeps between two calls.
-use Rattle.std.specs.Prelude.{◌≡◌, ℕ, List, [], length}
+use Rattle.std.specs.Prelude.{◌≡◌, ℕ, ◌≤◌, List, [], length}
 use mathlib.Core.Option.{some}
 use lib.ListN.{get_elem?}
 use Rattle.atomic_table.specs.Table.{Me}
@@ -17,6 +17,7 @@ pub record IsSolo (rules : Rules) (words : List ℕ) (passes : List PassState) (
   pub rules_are : key.rules ≡ rules
   pub table_is : table ≡ id
   pub long : id.words ≡ wide (length passes)
+  pub few : length passes ≤ 64
   -- each word is as it was read last
   pub words_are : words ≡ me.0.words
   -- it is the first seat, and has no slots

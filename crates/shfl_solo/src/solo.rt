@@ -16,8 +16,8 @@ use std::alloc::Global;
 use std::marker::Model;
 use std::snapshot::Snapshot;
 
-/// A lock whose words stand in a table that threads could share, with all its passes and the table's only seat. Every value of
-/// the type is lawful, whatever moves led to it.
+/// A lock whose words stand in a table that threads could share, with all its passes, 64 at most, and the table's only seat. Every
+/// value of the type is lawful, whatever moves led to it.
 #[derive(Drop)]
 pub struct Solo {
     pub(crate) table: Table<(), Whole, Opening, StaysLawful, Global>,

@@ -8,7 +8,7 @@ use Rattle.shfl_line.specs.Passes.{times}
 use Rattle.shfl_core.specs.declared.phase.Phase.{Phase}
 use Rattle.shfl_core.specs.declared.phase.Phase.TheVariants.{Link}
 use Rattle.shfl_core.specs.declared.words.Word.TheVariants.{Next, State, Attr}
-use Rattle.shfl_core.specs.Words.{look, index, wide}
+use Rattle.shfl_core.specs.Words.{look, index, wide, most_passes}
 use Rattle.shfl_core.specs.Phases.{is_queued, is_linking}
 use Rattle.shfl_core.specs.View.{view}
 use Rattle.shfl_core.specs.Order.{Order as Ordered}
@@ -28,7 +28,7 @@ use Rattle.shfl_laws.proofs.rows.Order
 use Rattle.shfl_laws.proofs.plain.Plain.{plain-law}
 use Rattle.shfl_laws.proofs.shown.ShownLine.{shown-line-law}
 use Rattle.shfl_laws.proofs.shown.WellFormed.{agrees-well-formed}
-use Rattle.shfl_world.specs.LawfulLock.{terms_of, IsLawfulLock, RoundsAreShort}
+use Rattle.shfl_world.specs.LawfulLock.{terms_of, IsLawfulLock, HasFewPasses, RoundsAreShort}
 
 module _ (lock : Lock) (ok : IsLawfulLock lock) where
   abbrev n : ℕ
@@ -40,7 +40,7 @@ module _ (lock : Lock) (ok : IsLawfulLock lock) where
   pub full : length lock.world.passes ≡ count (terms_of lock)
   full = sym (each-long (λ p. look lock.world.words (Attr p)) n)
 
-  pub few : length lock.world.passes ≤ 64
+  pub few : length lock.world.passes ≤ most_passes
   few = let h = ok.few in let e = full in omega arith
 
   room : length lock.world.words ≡ wide n
@@ -88,9 +88,9 @@ module _ (lock : Lock) (ok : IsLawfulLock lock) where
       by (suc k) e = absurd (let i = well-formed.in_line q (omega arith) in omega arith)
 
   -- a pass that has yet to write a next word names a pass of the line
-  pub before-below : (p : ℕ) → is_linking (known lock.world.passes p).phase ≡ true → (known lock.world.passes p).reg.before < 64
-  before-below p h = let q = link-room lock.rules.limit (view lock.world) ok.shown ok.giver p ok.agrees.order ok.agrees.grouping (link-is (known lock.world.passes p).phase h) in
-      let b = queued-below lock.world.passes (known lock.world.passes p).reg.before q in let f = few in omega arith
+  pub before-below : (p : ℕ) → HasFewPasses lock → is_linking (known lock.world.passes p).phase ≡ true → (known lock.world.passes p).reg.before < 64
+  before-below p f h = let q = link-room lock.rules.limit (view lock.world) ok.shown ok.giver p ok.agrees.order ok.agrees.grouping (link-is (known lock.world.passes p).phase h) in
+      let b = queued-below lock.world.passes (known lock.world.passes p).reg.before q in omega arith
     where
       link-is : (f : Phase) → is_linking f ≡ true → f ≡ Link
       link-is f e = grind arith

@@ -1,6 +1,7 @@
 -- A lawful lock stays lawful with every move, and shows the step of the line that the move names.
-use Rattle.std.proofs.Common.{◌≡◌, ℕ, suc, ◌<◌, List, [], ◌∷◌, length, refl, sym, ap, ◌∙◌, subst}
+use Rattle.std.proofs.Common.{◌≡◌, ℕ, suc, ◌<◌, ◌≤◌, List, [], ◌∷◌, length, refl, sym, ap, ◌∙◌, subst, arith}
 use Rattle.std.specs.Prelude.{map}
+use Rattle.std.proofs.lemmas.List.{length-map}
 use Rattle.shfl_line.specs.declared.words.Attr.{Attr as AttrValue}
 use Rattle.shfl_line.specs.Line.{Line, empty}
 use Rattle.shfl_line.specs.Steps.{Admits, after}
@@ -18,7 +19,7 @@ use Rattle.shfl_laws.proofs.laws.MoveLaws.{move-law, moved-long}
 use Rattle.shfl_laws.proofs.laws.Opens.{opening-law}
 use Rattle.shfl_laws.proofs.shown.ShownLine.{shown-line-law}
 use Rattle.shfl_laws.proofs.words.TermsTold.{each-told}
-use Rattle.shfl_world.specs.LawfulLock.{terms_of, IsLawfulLock, line_event, MovesLawfully}
+use Rattle.shfl_world.specs.LawfulLock.{terms_of, IsLawfulLock, HasFewPasses, IsLawfulWorld, line_event, MovesLawfully}
 use Rattle.shfl_world.proofs.Facts.{full, shown-is}
 
 -- what an opening fixed is what the lock's own words say
@@ -60,6 +61,9 @@ module _ (rules : Rules) (attrs : List AttrValue) (may : MayOpen rules attrs) wh
   pub opened-lawful : IsLawfulLock (opened rules attrs)
   opened-lawful = lawful-lock (terms rules attrs) (opened rules attrs) refl (idle-long 0 attrs) opens.lawful
 
+  pub opened-world : length attrs ≤ 64 → IsLawfulWorld (opened rules attrs)
+  opened-world few = record { lawful = opened-lawful; few = let e = idle-long 0 attrs in let m = length-map attrs attr_word in omega arith }
+
   pub opened-terms : terms_of (opened rules attrs) ≡ terms rules attrs
   opened-terms = lawful-terms (terms rules attrs) (opened rules attrs) refl (idle-long 0 attrs) opens.lawful
 
@@ -71,8 +75,8 @@ module _ (old now new : Lock) (m : Move) (ok : IsLawfulLock old) (same : old ≡
   law : MovesLawfully old m
   law = move-lawful old m ok (subst (λ (l : Lock). MayMove l.rules.form m) (sym same) may)
 
-  pub stays-lawful : IsLawfulLock new
-  stays-lawful = subst IsLawfulLock (sym is) law.lawful
+  pub stays-lawful : HasFewPasses old → IsLawfulWorld new
+  stays-lawful few = subst IsLawfulWorld (sym is) (record { lawful = law.lawful; few = subst (λ n. n ≤ 64) (sym (moved-long old.rules old.world m)) few })
 
   pub admits-event : Admits now.rules.limit (shown_line now.world) (line_event now m)
   admits-event = subst (λ (l : Lock). Admits l.rules.limit (shown_line l.world) (line_event l m)) same law.admitted

@@ -26,6 +26,15 @@ terms_of lock = record {
 abbrev pub IsLawfulLock : Lock → Type 0
 IsLawfulLock lock = Lawful (terms_of lock) lock.world
 
+-- at most 64 passes, as a document declares: so many are seen in one scan
+abbrev pub HasFewPasses : Lock → Type 0
+HasFewPasses lock = length lock.world.passes ≤ 64
+
+-- what a lock keeps whose line state is shown between any two steps
+pub record IsLawfulWorld (lock : Lock) : Type 0 where
+  pub lawful : IsLawfulLock lock
+  pub few : HasFewPasses lock
+
 -- the line state that the lock shows
 abbrev pub shown_by : Lock → Line
 shown_by lock = shown_line lock.world

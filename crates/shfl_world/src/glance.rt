@@ -9,7 +9,7 @@ use crate::phases::{has_hand, is_fore, is_linking, is_queued, is_round};
 use shfl_core::{PassState, Phase};
 use shfl_line::NodeState;
 
-/// The most passes that a lock has.
+/// The most passes of a lock that is scanned.
 pub const PASSES: usize = 64;
 
 /// The passes by which a line state is shown: each is the number of a pass plus 1, or 0 for none.

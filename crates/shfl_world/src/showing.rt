@@ -3,10 +3,10 @@ ghost use Rattle.std.specs.Prelude.{◌≡◌, ℕ, ◌<◌, ◌≤◌, [], ◌�
 ghost use Rattle.shfl_core.specs.declared.words.Word.TheVariants.{State};
 ghost use Rattle.shfl_core.specs.Phases as phases;
 ghost use Rattle.shfl_core.specs.ShownLine.{shown_line, head_of, successor_of, role_of};
-ghost use Rattle.shfl_core.specs.Words.{look};
+ghost use Rattle.shfl_core.specs.Words.{look, most_passes};
 ghost use Rattle.shfl_line.specs.Line.{empty, holds};
 ghost use Rattle.shfl_line.specs.Words.{state_of};
-ghost use Rattle.shfl_world.specs.LawfulLock.{IsLawfulLock};
+ghost use Rattle.shfl_world.specs.LawfulLock.{IsLawfulLock, HasFewPasses};
 ghost use Rattle.shfl_world.specs.Showing.{Finds, FindsAll};
 
 use crate::glance::Glance;
@@ -18,7 +18,7 @@ use shfl_line::{LineState, NodeState, Role};
 fn count_of<S: Sight>(lock: &S) -> u32
     requires { IsLawfulLock (S.meaning lock.now) }
     ensures count { result ≡ length (S.meaning lock.now).world.passes }
-    ensures few { result ≤ 64 }
+    ensures few { result ≤ most_passes }
 {
     lock.passes() as u32
 }
@@ -48,6 +48,7 @@ fn show_holder(out: &mut LineState, pass: u32, own: PassState)
 // Shows the holders, and finds by whom the rest is shown. What is found is written in place, since a move of it would be a copy.
 fn scan<S: Sight>(lock: &S, out: &mut LineState, found: &mut Glance)
     requires lawful { IsLawfulLock (S.meaning lock.now) }
+    requires few { HasFewPasses (S.meaning lock.now) }
     requires blank { out.old ≡ empty (length (S.meaning lock.now).world.passes) }
     requires nobody { Finds (S.meaning lock.now).world 0 found.old }
     ensures hold { out.new
@@ -80,6 +81,7 @@ fn head<S: Sight>(lock: &S, found: &Glance) -> u64
 // The successor of a pass plus 1, or 0: whom its next word names, else who has yet to write it.
 fn successor<S: Sight>(lock: &S, found: &Glance, pass: u32) -> u64
     requires lawful { IsLawfulLock (S.meaning lock.now) }
+    requires few { HasFewPasses (S.meaning lock.now) }
     requires found { FindsAll (S.meaning lock.now) found.now }
     requires declared { pass < length (S.meaning lock.now).world.passes }
     ensures { result ≡ successor_of (S.meaning lock.now).world pass }
@@ -95,6 +97,7 @@ fn successor<S: Sight>(lock: &S, found: &Glance, pass: u32) -> u64
 // Shows the queue from its head on, with the batch numbers.
 fn show_queue<S: Sight>(lock: &S, found: &Glance, out: &mut LineState)
     requires lawful { IsLawfulLock (S.meaning lock.now) }
+    requires few { HasFewPasses (S.meaning lock.now) }
     requires found { FindsAll (S.meaning lock.now) found.now }
     requires blank { out.old
         ≡ record (empty (length (S.meaning lock.now).world.passes)) { hold = out.old.hold } }
@@ -139,10 +142,11 @@ fn role(found: &Glance) -> Role
     }
 }
 
-/// Fills a state that was opened for as many passes with what the lock shows. The time is linear in
-/// the passes.
+/// Fills a state that was opened for as many passes, at most 64, with what the lock shows. The time is
+/// linear in the passes.
 pub fn show<S: Sight>(lock: &S, out: &mut LineState)
     requires lawful { IsLawfulLock (S.meaning lock.now) }
+    requires few { HasFewPasses (S.meaning lock.now) }
     requires room { length out.old.mark ≡ length (S.meaning lock.now).world.passes }
     ensures { out.new ≡ shown_line (S.meaning lock.now).world }
 {

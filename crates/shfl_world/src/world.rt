@@ -5,7 +5,7 @@ ghost use Rattle.shfl_core.specs.Waiting.{MakesIdle, rules};
 ghost use Rattle.shfl_line.specs.Line.{empty};
 ghost use Rattle.shfl_line.specs.declared.events.Form.{Form};
 ghost use Rattle.shfl_world.specs.LawfulLock.{IsLawfulLock, ShowsWellFormed, ShowsHeadline, ShowsItsWorld};
-ghost use Rattle.shfl_world.specs.LawfulLock.{RoundsAreShort};
+ghost use Rattle.shfl_world.specs.LawfulLock.{HasFewPasses, RoundsAreShort};
 ghost use Rattle.shfl_world.specs.LawfulLock.{shown_by, terms_of};
 ghost use Rattle.shfl_laws.specs.Moves.{terms};
 
@@ -14,8 +14,8 @@ use shfl_line::{Attr, NoMemory};
 use std::alloc::Global;
 use std::marker::Model;
 
-/// A lock whose words are plain numbers, with all its passes. Every value of the type is lawful,
-/// whatever moves led to it.
+/// A lock whose words are plain numbers, with all its passes, 64 at most. Every value of the type is
+/// lawful, whatever moves led to it.
 #[derive(Drop)]
 pub struct World<W: Waiter> {
     pub(crate) plain: PlainWorld<W>,
@@ -23,13 +23,13 @@ pub struct World<W: Waiter> {
 
 impl<W: Waiter> Model for World<W> {
     ghost use Rattle.shfl_core.specs.Runner.{Lock};
-    ghost use Rattle.shfl_world.specs.LawfulLock.{IsLawfulLock};
+    ghost use Rattle.shfl_world.specs.LawfulLock.{IsLawfulWorld};
 
     ghost Value = { Lock };
 
     ghost view = { λ s. s.plain };
 
-    ghost invariant = { λ s. IsLawfulLock s.plain };
+    ghost invariant = { λ s. IsLawfulWorld s.plain };
 }
 
 impl<W: Waiter> World<W> {
@@ -64,6 +64,7 @@ impl<W: Waiter> World<W> {
     /// What holds of every lock of this type; the call does nothing when it runs.
     pub fn is_lawful(&self)
         ensures lawful { IsLawfulLock self.now }
+        ensures few { HasFewPasses self.now }
         ensures well_formed { ShowsWellFormed self.now }
         ensures headline { ShowsHeadline self.now }
         ensures world { ShowsItsWorld self.now }

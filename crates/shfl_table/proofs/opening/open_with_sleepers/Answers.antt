@@ -12,7 +12,7 @@ use Rattle.std.proofs.lemmas.List.{length-map}
 use Rattle.shfl_table.proofs.opening.open_with_sleepers.Goals as goal
 
 pub new-requires : goal.new-requires
-new-requires g c = let r : Rules = record { limit = c.args.limit; form = c.args.form } in let may : MayOpen r c.args.attrs.now = record { limit = c.requires.limited; some = c.requires.some; few = c.requires.few } in let V : Type 0 = g.row.V.Denot in
+new-requires g c = let r : Rules = record { limit = c.args.limit; form = c.args.form } in let may : MayOpen r c.args.attrs.now = record { limit = c.requires.limited; some = c.requires.some; few = let few = c.requires.few in omega arith } in let V : Type 0 = g.row.V.Denot in
     let initial_state = g.V.Kept.initial_state in let v = c.as_slice.ensures.value in
     let items : c.in_ok-slots.slots.items ≡ map Some c.args.values.items = c.in_ok-slots.ensures in
     let same : c.of-2.result.value.items ≡ c.args.values.items = ap (λ z. z.items) c.of-2.ensures in
@@ -21,11 +21,11 @@ new-requires g c = let r : Rules = record { limit = c.args.limit; form = c.args.
     (opens-first r c.args.attrs.now may c.as_slice.result.now (v ∙ c.in_ok-words.ensures) initial_state g.V.Kept.history (initial_state_of initial_state c.args.values.items) c.args.values.items c.requires.values)
 
 pub deal-requires-clause-words : goal.deal-requires-clause-words
-deal-requires-clause-words g c = let r : Rules = record { limit = c.args.limit; form = c.args.form } in let may : MayOpen r c.args.attrs.now = record { limit = c.requires.limited; some = c.requires.some; few = c.requires.few } in
+deal-requires-clause-words g c = let r : Rules = record { limit = c.args.limit; form = c.args.form } in let may : MayOpen r c.args.attrs.now = record { limit = c.requires.limited; some = c.requires.some; few = let few = c.requires.few in omega arith } in
     c.in-Ok.ensures.ok.0 ∙ words-are r c.args.attrs.now may c.as_slice.result.now (c.as_slice.ensures.value ∙ c.in_ok-words.ensures)
 
 pub invariant_of-result : goal.invariant_of-result
-invariant_of-result g c = let r : Rules = record { limit = c.args.limit; form = c.args.form } in let may : MayOpen r c.args.attrs.now = record { limit = c.requires.limited; some = c.requires.some; few = c.requires.few } in
+invariant_of-result g c = let r : Rules = record { limit = c.args.limit; form = c.args.form } in let may : MayOpen r c.args.attrs.now = record { limit = c.requires.limited; some = c.requires.some; few = let few = c.requires.few in omega arith } in
     let key = c.in-Ok.table.shared.key in let o = c.in-Ok.ensures.ok in
     let slots : c.in-Ok.table.shared.table_id.slots ≡ vec_len c.args.values = o.1 ∙ (ap length c.in_ok-slots.ensures ∙ (length-map c.args.values.items Some ∙ (let e : length c.args.values.items ≡ vec_len c.args.values = search rules in e))) in
     let room : c.in-Ok.table.shared.table_id.slots ≤ vec_capacity c.in_ok-room.room = (let e = c.in_ok-room.ensures.capacity in let l = c.len.ensures in omega arith) in (

@@ -3,10 +3,10 @@ use Rattle.shfl_world.proofs.Moving.{stays-lawful, shows-event, keeps-terms}
 use Rattle.shfl_world.proofs.board.WorldBoard.acquire.Goals as goal
 
 pub invariant_of-self : goal.invariant_of-self
-invariant_of-self g c = stays-lawful c.self.inside.plain c.args.self.now c.acquire.new.self (Acquire c.args.pass c.args.mode) c.self.invariant c.self.view_is c.requires.mode c.acquire.ensures.after
+invariant_of-self g c = stays-lawful c.self.inside.plain c.args.self.now c.acquire.new.self (Acquire c.args.pass c.args.mode) c.self.invariant.lawful c.self.view_is c.requires.mode c.acquire.ensures.after c.self.invariant.few
 
 pub returns-clause-shown : goal.returns-clause-shown
-returns-clause-shown g c = shows-event c.self.inside.plain c.args.self.now c.acquire.new.self (Acquire c.args.pass c.args.mode) c.self.invariant c.self.view_is c.requires.mode c.acquire.ensures.after
+returns-clause-shown g c = shows-event c.self.inside.plain c.args.self.now c.acquire.new.self (Acquire c.args.pass c.args.mode) c.self.invariant.lawful c.self.view_is c.requires.mode c.acquire.ensures.after
 
 pub returns-clause-terms : goal.returns-clause-terms
-returns-clause-terms g c = keeps-terms c.self.inside.plain c.args.self.now c.acquire.new.self (Acquire c.args.pass c.args.mode) c.self.invariant c.self.view_is c.requires.mode c.acquire.ensures.after
+returns-clause-terms g c = keeps-terms c.self.inside.plain c.args.self.now c.acquire.new.self (Acquire c.args.pass c.args.mode) c.self.invariant.lawful c.self.view_is c.requires.mode c.acquire.ensures.after

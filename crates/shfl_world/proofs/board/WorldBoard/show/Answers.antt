@@ -7,4 +7,4 @@ use Rattle.shfl_world.proofs.board.WorldBoard.show.Goals as goal
 
 pub returns-clause-well_formed : goal.returns-clause-well_formed
 returns-clause-well_formed g c = subst (λ (s : Line). IsWellFormed c.args.self.now.rules.limit s) (sym c.show.ensures)
-    (subst (λ (l : Lock). IsWellFormed l.rules.limit (shown_line c.self.inside.plain.world)) c.self.view_is (well-formed c.self.inside.plain c.self.invariant))
+    (subst (λ (l : Lock). IsWellFormed l.rules.limit (shown_line c.self.inside.plain.world)) c.self.view_is (well-formed c.self.inside.plain c.self.invariant.lawful))

@@ -8,13 +8,13 @@ use Rattle.shfl_world.proofs.Facts.{well-formed, plainly, word-for-word, rounds-
 use Rattle.shfl_world.proofs.world.World.is_lawful.Goals as goal
 
 pub returns-clause-well_formed : goal.returns-clause-well_formed
-returns-clause-well_formed g c = subst (λ (l : Lock). IsWellFormed l.rules.limit (shown_line l.world)) c.self.view_is (well-formed c.self.inside.plain c.self.invariant)
+returns-clause-well_formed g c = subst (λ (l : Lock). IsWellFormed l.rules.limit (shown_line l.world)) c.self.view_is (well-formed c.self.inside.plain c.self.invariant.lawful)
 
 pub returns-clause-headline : goal.returns-clause-headline
-returns-clause-headline g c = subst (λ (l : Lock). Headline l.rules.limit l.world (shown_line l.world).line (shown_line l.world).hand) c.self.view_is (plainly c.self.inside.plain c.self.invariant)
+returns-clause-headline g c = subst (λ (l : Lock). Headline l.rules.limit l.world (shown_line l.world).line (shown_line l.world).hand) c.self.view_is (plainly c.self.inside.plain c.self.invariant.lawful)
 
 pub returns-clause-world : goal.returns-clause-world
-returns-clause-world g c = subst ShowsItsWorld c.self.view_is (word-for-word c.self.inside.plain c.self.invariant)
+returns-clause-world g c = subst ShowsItsWorld c.self.view_is (word-for-word c.self.inside.plain c.self.invariant.lawful)
 
 pub returns-clause-rounds : goal.returns-clause-rounds
-returns-clause-rounds g c = subst RoundsAreShort c.self.view_is (rounds-end c.self.inside.plain c.self.invariant)
+returns-clause-rounds g c = subst RoundsAreShort c.self.view_is (rounds-end c.self.inside.plain c.self.invariant.lawful)
