@@ -1,1 +1,2 @@
 pub mod EventRuns
+pub mod LawfulRuns

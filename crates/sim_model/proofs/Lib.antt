@@ -8,4 +8,3 @@ pub mod Scheduled
 pub mod Settled
 pub mod Still
 pub mod Turned
-pub mod LawfulRuns

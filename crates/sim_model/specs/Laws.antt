@@ -3,10 +3,8 @@ use Rattle.std.specs.Prelude.{◌≡◌, ℕ, zero, suc, ◌<◌, ◌≤◌, Boo
 use Rattle.shfl_line.specs.declared.words.Attr.{Attr}
 use Rattle.shfl_core.specs.declared.phase.Rules.{Rules}
 use Rattle.shfl_core.specs.declared.phase.PassState.{PassState}
-use Rattle.shfl_core.specs.Lawful.{Lawful}
 use Rattle.shfl_core.specs.Plan.{is_idle, is_resting, moving}
 use Rattle.shfl_core.specs.Worlds.{World, Move, Step as Advance, admitted, after_move, run, opening}
-use Rattle.shfl_laws.specs.Moves.{MayOpen, terms}
 use Rattle.sim_model.specs.declared.setup.Setup.{Setup}
 use Rattle.sim_model.specs.declared.turns.Turn.{Turn}
 use Rattle.sim_model.specs.declared.turns.Turn.TheVariants.{Call, Step, Gain, Free}
@@ -53,11 +51,6 @@ pub record IsSetUp (s : Setup) (attrs : List Attr) : Type 0 where
 abbrev pub RunsAreAdmitted : Type 0
 RunsAreAdmitted = (s : Setup) (answers : Answers) (n : ℕ) (attrs : List Attr) → IsSetUp s attrs
     → IsEachAdmitted s.rules (opening attrs) (moves_of s answers n (opening_state s attrs))
-
--- after so many turns from the opening on the lock is lawful, whatever the policy answers
-abbrev pub RunsAreLawful : Type 0
-RunsAreLawful = (s : Setup) (answers : Answers) (n : ℕ) (attrs : List Attr) → MayOpen s.rules attrs
-    → Lawful (terms s.rules attrs) (ran s answers n (opening_state s attrs)).world
 
 -- when the turns come, from this time on
 abbrev pub times_of : Setup → Answers → ℕ → State → List ℕ

@@ -1,5 +1,5 @@
 //! What holds of every run. The functions do nothing when they run: their contracts are the laws.
-ghost use Rattle.sim_model.specs.Laws.{RunsAreSchedules, RunsAreAdmitted, RunsAreLawful};
+ghost use Rattle.sim_model.specs.Laws.{RunsAreSchedules, RunsAreAdmitted};
 ghost use Rattle.sim_model.specs.Laws.{TimesNeverFall, PollsChangeNothing};
 ghost use Rattle.sim_model.specs.Sums.{SumsAgree};
 
@@ -7,11 +7,6 @@ ghost use Rattle.sim_model.specs.Sums.{SumsAgree};
 pub fn runs_are_schedules()
     ensures run { RunsAreSchedules }
     ensures admitted { RunsAreAdmitted }
-{}
-
-/// In every state of a run the lock is lawful: what it shows is well formed, and what its words say hangs together.
-pub fn runs_are_lawful()
-    ensures { RunsAreLawful }
 {}
 
 /// No turn comes before the one that was made last.

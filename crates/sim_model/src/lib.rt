@@ -23,9 +23,7 @@ pub use bench::{Bench, opening};
 pub use built_in::BuiltIn;
 pub use calls::mode_of;
 pub use counts::{Counts, Order, Reaches, Served};
-pub use laws::{
-    polls_change_nothing, runs_are_lawful, runs_are_schedules, sums_agree, times_never_fall,
-};
+pub use laws::{polls_change_nothing, runs_are_schedules, sums_agree, times_never_fall};
 pub use lines::{Line, Reach};
 pub use locks::open_lock;
 pub use run::{Run, is_cut, next_entry, simulate, take_turn};

@@ -15,7 +15,7 @@ use Rattle.sim_model.specs.declared.turns.Turn.{Turn}
 use Rattle.sim_model.specs.declared.turns.Turn.TheVariants.{Call, Step, Gain, Free}
 use Rattle.sim_model.specs.Calls.{mode_drawn}
 use Rattle.sim_model.specs.Draws.{reads}
-use Rattle.sim_model.specs.Laws.{RunsAreLawful}
+use Rattle.sim_line.specs.Laws.{RunsAreLawful}
 use Rattle.sim_model.specs.Runs.{Answers, State, after_turn, next_turn, turning, turn_moves, moves_of, opening_state}
 use Rattle.sim_model.proofs.Scheduled.{runs-are-schedules}
 
