@@ -1,9 +1,9 @@
 #!/usr/bin/env bash
-# What the documents name is there: each call, clause, type, definition and file in the tables of docs/CLAIMS.md and of the crates' READMEs,
-# and in README.md and docs/READING.md each call `crate::function` with the clauses that are named behind it. And each public call of a
-# crate is named in docs/CLAIMS.md or in the crate's README. A row names between backticks a call (`Type::method`, `crate::function`, or
-# alone), then clauses of it; where a row of a README begins empty, its calls are those above. The sources are read by their layout, which
-# the gate keeps. With --list it writes the public calls.
+# What the documents name is there: each call, clause, type, definition and file in the tables of docs/CLAIMS.md and of the crates' READMEs;
+# in docs/DEFINITIONS.md each identifier and its place, and each term once; in README.md and docs/READING.md each call `crate::function` with
+# the clauses that are named behind it. And each public call of a crate is named in docs/CLAIMS.md or in the crate's README. A row names
+# between backticks a call (`Type::method`, `crate::function`, or alone), then clauses of it; where a row of a README begins empty, its calls
+# are those above. The sources are read by their layout, which the gate keeps. With --list it writes the public calls.
 set -u
 top="$(cd "$(dirname "$(readlink -f "${BASH_SOURCE[0]}")")/.." && pwd)"
 cd "$top" || exit 1
@@ -89,13 +89,13 @@ function read_source(  path, name, target) {
 }
 
 function read_definitions(  name, path) {
-    is_file[FILENAME] = 1
     name = $0
-    if ($0 ~ /^ +(pub )?[a-z_]+ :/) { sub(/^ +(pub )?/, "", name); sub(/ .*$/, "", name); is_field[definition, name] = 1 }
-    else if (sub(/^(abbrev )?(pub )?(record |data )?/, "", name) && name ~ /^[A-Za-z]/) {
+    if ($0 ~ /^ +(pub )?[a-z_]+ :/) { sub(/^ +(pub )?/, "", name); sub(/ .*$/, "", name); is_field[definition, name] = 1; field[name] = 1 }
+    else if ((sub(/^ *abbrev (pub )?/, "", name) || sub(/^(pub )?(record |data )?/, "", name)) && name ~ /^[A-Za-z]/) {
         sub(/[^A-Za-z0-9_].*$/, "", name)
         split(FILENAME, path, "/")
         is_defined[path[2], name] = 1
+        defined[name] = 1
         if (name ~ /^[A-Z]/) is_definition[name] = 1
         definition = name
     }
@@ -187,9 +187,10 @@ function look_at(text,  n, parts, i, word, later, some) {
 # ---- the documents ----
 
 function read_claims(  cells, n) {
-    if ($0 !~ /^\|/) return
+    if ($0 !~ /^\|/) { columns = 0; return }
     n = split($0, cells, "|")
-    if (cells[n - 1] ~ /^ *(Call and clause|-+) *$/) return
+    if (cells[n - 1] ~ /^ *Call and clause *$/) { columns = 1; return }
+    if (!columns || cells[n - 1] ~ /^-+$/) return
     clear()
     if (!look_at(cells[n - 1])) complain("a row without a call")
     rows++
@@ -203,6 +204,22 @@ function read_readme(  cells, path) {
     if (!columns || cells[2] ~ /^-+$/) return
     if (cells[2] ~ /`/) { clear(); here[++crate_count] = path[2] }
     look_at(cells[2] (columns == 2 ? cells[3] : ""))
+    rows++
+}
+
+# the terms of docs/DEFINITIONS.md, each once, its identifiers and where they stand
+function read_terms(  cells, n, parts, i, word) {
+    if ($0 !~ /^\| / || split($0, cells, "|") < 5 || cells[2] ~ /^ *Term *$/) return
+    if (cells[2] in terms) complain("the term \"" cells[2] "\" stands there twice")
+    terms[cells[2]] = 1
+    n = split(cells[3], parts, "`")
+    for (i = 2; i <= n; i += 2) {
+        word = parts[i]
+        sub(/::.*$/, "", word)
+        if (word ~ /^[A-Za-z_]+$/ && !(word in is_type) && !(word in defined) && !(word in calls_named) && !(word in field)) complain("nothing is called `" parts[i] "`")
+    }
+    n = split(cells[5], parts, "`")
+    for (i = 2; i <= n; i += 2) if (!is_there(parts[i]) && !(parts[i] in is_crate) && !(("crates/" parts[i]) in is_folder)) complain("there is no " parts[i])
     rows++
 }
 
@@ -221,10 +238,12 @@ function read_text(  rest, word) {
 }
 
 BEGIN { n = split(crates, every, " "); for (i = 1; i <= n; i++) is_crate[every[i]] = 1 }
+FNR == 1 { is_file[FILENAME] = 1; folder = FILENAME; sub(/\/[^\/]*$/, "", folder); is_folder[folder] = 1 }
 FILENAME ~ /\.rt$/ { read_source(); next }
 FILENAME ~ /\.antt$/ { read_definitions(); next }
 { where = FILENAME ", line " FNR }
 FILENAME == "docs/CLAIMS.md" { claims = claims "\n" $0; read_claims(); next }
+FILENAME == "docs/DEFINITIONS.md" { read_terms(); next }
 FILENAME ~ /^crates/ { split(FILENAME, path, "/"); readme[path[2]] = readme[path[2]] "\n" $0; read_readme(); next }
 { read_text() }
 
@@ -244,4 +263,4 @@ END {
     if (bad) exit 1
     print "claims: what " rows " rows name is there, and each of " public " public calls is named"
 }
-' "${sources[@]}" "${specs[@]}" crates/{shfl_core/proofs/CacheLines,dir_shards/proofs/Crossing}.antt docs/CLAIMS.md "${readmes[@]}" README.md docs/READING.md
+' "${sources[@]}" "${specs[@]}" crates/{shfl_core/proofs/CacheLines,dir_shards/proofs/Crossing}.antt docs/CLAIMS.md docs/DEFINITIONS.md "${readmes[@]}" README.md docs/READING.md
