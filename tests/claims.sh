@@ -1,9 +1,10 @@
 #!/usr/bin/env bash
 # What the documents name is there: each call, clause, type, definition and file in the tables of docs/CLAIMS.md and of the crates' READMEs;
 # in docs/DEFINITIONS.md each identifier and its place, and each term once; in README.md and docs/READING.md each call `crate::function` with
-# the clauses that are named behind it. And each public call of a crate is named in docs/CLAIMS.md or in the crate's README. A row names
-# between backticks a call (`Type::method`, `crate::function`, or alone), then clauses of it; where a row of a README begins empty, its calls
-# are those above. The sources are read by their layout, which the gate keeps. With --list it writes the public calls.
+# the clauses that are named behind it; README.md's lines of Rattle; each bench in bench/README.md. And each public call of a crate is named in
+# docs/CLAIMS.md or in the crate's README. A row names between backticks a call (`Type::method`, `crate::function`, or alone), then clauses of
+# it; where a row of a README begins empty, its calls are those above. The sources are read by their layout, which the gate keeps. With
+# --list it writes the public calls.
 set -u
 top="$(cd "$(dirname "$(readlink -f "${BASH_SOURCE[0]}")")/.." && pwd)"
 cd "$top" || exit 1
@@ -19,6 +20,20 @@ while read -r crate; do
     done
     specs+=("crates/$crate"/specs/**/*.antt)
 done < <(sed -e '/^#/d' -e '/^$/d' -e 's/[ :].*//' crates.txt)
+
+# the lines of code that README.md shows stand in the crate that it names
+failed=0
+while IFS= read -r line; do
+    grep -qF -- "$line" crates/shared_accounts/src/main.rt && continue
+    echo "README.md: no line of crates/shared_accounts/src/main.rt is: $line" >&2
+    failed=1
+done < <(awk '/^```/ { code = $0 == "```rust"; next } code && !/^\/\//' README.md)
+
+for script in bench/*.sh bench/preload/run.sh; do
+    grep -qF "\`${script#bench/}\`" bench/README.md && continue
+    echo "bench/README.md: it doesn't name ${script#bench/}" >&2
+    failed=1
+done
 
 awk -v crates="${crates[*]}" -v list="${1:-}" '
 function complain(what) { print where ": " what > "/dev/stderr"; bad++ }
@@ -263,4 +278,5 @@ END {
     if (bad) exit 1
     print "claims: what " rows " rows name is there, and each of " public " public calls is named"
 }
-' "${sources[@]}" "${specs[@]}" crates/{shfl_core/proofs/CacheLines,dir_shards/proofs/Crossing}.antt docs/CLAIMS.md docs/DEFINITIONS.md "${readmes[@]}" README.md docs/READING.md
+' "${sources[@]}" "${specs[@]}" crates/{shfl_core/proofs/CacheLines,dir_shards/proofs/Crossing}.antt docs/CLAIMS.md docs/DEFINITIONS.md "${readmes[@]}" README.md docs/READING.md || failed=1
+exit "$failed"
