@@ -204,7 +204,7 @@ function look_at(text,  n, parts, i, word, later, some) {
 function read_claims(  cells, n) {
     if ($0 !~ /^\|/) { columns = 0; return }
     n = split($0, cells, "|")
-    if (cells[n - 1] ~ /^ *Call and clause *$/) { columns = 1; return }
+    if (cells[n - 1] ~ /^ *(Call|Function) and clause *$/) { columns = 1; return }
     if (!columns || cells[n - 1] ~ /^-+$/) return
     clear()
     if (!look_at(cells[n - 1])) complain("a row without a call")
