@@ -1,10 +1,10 @@
 #!/usr/bin/env bash
 # What the documents name is there: each call, clause, type, definition and file in the tables of docs/CLAIMS.md and of the crates' READMEs;
-# in docs/DEFINITIONS.md each identifier and its place, and each term once; in README.md and docs/READING.md each call `crate::function` with
-# the clauses that are named behind it; README.md's lines of Rattle; each bench in bench/README.md. And each public call of a crate is named in
-# docs/CLAIMS.md or in the crate's README. A row names between backticks a call (`Type::method`, `crate::function`, or alone), then clauses of
-# it; where a row of a README begins empty, its calls are those above. The sources are read by their layout, which the gate keeps. With
-# --list it writes the public calls.
+# in docs/DEFINITIONS.md each identifier and its place, and each term once; in the other documents each call `crate::function` with the clauses
+# that a line names behind it; each path from the top; README.md's lines of Rattle; each bench in bench/README.md. And each public call of a
+# crate is named in docs/CLAIMS.md or in the crate's README. A row names between backticks a call (`Type::method`, `crate::function`, or
+# alone), then clauses of it; where a row of a README begins empty, its calls are those above. The sources are read by their layout, which
+# the gate keeps. With --list it writes the public calls.
 set -u
 top="$(cd "$(dirname "$(readlink -f "${BASH_SOURCE[0]}")")/.." && pwd)"
 cd "$top" || exit 1
@@ -34,6 +34,20 @@ for script in bench/*.sh bench/preload/run.sh; do
     echo "bench/README.md: it doesn't name ${script#bench/}" >&2
     failed=1
 done
+
+others=(README.md bench/README.md examples/README.md)
+for file in docs/*.md; do
+    case "$file" in docs/CLAIMS.md | docs/DEFINITIONS.md) ;; *) others+=("$file") ;; esac
+done
+
+# the files and folders that the documents name by their paths from the top; what is built isn't looked for
+while IFS=: read -r file line path; do
+    path="${path#"${path%%[a-z]*}"}"
+    case "$path" in *NAME* | *FILE* | *'*'* | */out/* | crates/my_*) continue ;; esac
+    [ -e "${path%[.,]}" ] && continue
+    echo "$file, line $line: there is no $path" >&2
+    failed=1
+done < <(grep -noE '(^|[^A-Za-z0-9_/.-])(crates|docs|tests|bench|examples|bin|include)/[A-Za-z0-9_./*-]+' docs/*.md "${readmes[@]}" README.md bench/README.md examples/README.md)
 
 awk -v crates="${crates[*]}" -v list="${1:-}" '
 function complain(what) { print where ": " what > "/dev/stderr"; bad++ }
@@ -240,6 +254,7 @@ function read_terms(  cells, n, parts, i, word) {
 
 function read_text(  rest, word) {
     rest = $0
+    clear()
     while (match(rest, /`[a-zA-Z_0-9]+::[a-z_0-9]+`|[Cc]lauses? `[a-z_]+`(, `[a-z_]+`)*(,? and `[a-z_]+`)?/)) {
         word = substr(rest, RSTART, RLENGTH)
         rest = substr(rest, RSTART + RLENGTH)
@@ -278,5 +293,5 @@ END {
     if (bad) exit 1
     print "claims: what " rows " rows name is there, and each of " public " public calls is named"
 }
-' "${sources[@]}" "${specs[@]}" crates/{shfl_core/proofs/CacheLines,dir_shards/proofs/Crossing}.antt docs/CLAIMS.md docs/DEFINITIONS.md "${readmes[@]}" README.md docs/READING.md || failed=1
+' "${sources[@]}" "${specs[@]}" crates/{shfl_core/proofs/CacheLines,dir_shards/proofs/Crossing}.antt docs/CLAIMS.md docs/DEFINITIONS.md "${readmes[@]}" "${others[@]}" || failed=1
 exit "$failed"
