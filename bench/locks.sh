@@ -28,10 +28,10 @@ abbrev pub invariant-loop : goal.invariant-loop
 invariant-loop $2 = IsIdleAt l.board.id l.pass
 PROOF
 }
+. "$top/tests/cell-program.sh"
 build() {
     rm -f "$room/crates.txt"
-    crates=(shfl_line shfl_core shfl_laws shfl_rw_core shfl_park syn_outer hist_log shfl_table)
-    for crate in "${crates[@]}"; do
+    for crate in $(crates_below shfl_table); do
         mkdir -p "$room/crates/$crate"
         (cd "$top/crates/$crate" && tar cf - --exclude=./out --exclude=./must-fail .) | tar xf - -C "$room/crates/$crate"
         grep "^$crate[: ]" "$top/crates.txt" >>"$room/crates.txt"

@@ -6,13 +6,14 @@ top="$(cd "$(dirname "$(readlink -f "${BASH_SOURCE[0]}")")/.." && pwd)"
 room="$(mktemp -d)"
 trap 'rm -rf "$room"' EXIT
 mkdir -p "$room/crates/bench/src"
-for crate in bpf_isa bpf_verifier bpf_run; do
+. "$top/tests/cell-program.sh"
+for crate in $(crates_below bpf_run); do
     mkdir -p "$room/crates/$crate"
     (cd "$top/crates/$crate" && tar cf - --exclude=./out --exclude=./must-fail .) | tar xf - -C "$room/crates/$crate"
+    grep "^$crate[: ]" "$top/crates.txt" >>"$room/crates.txt"
 done
 cp "$top/bench/policies.rt.txt" "$room/crates/bench/src/main.rt"
-printf '%s\n' 'bpf_isa:' 'bpf_verifier: bpf_isa' 'bpf_run: bpf_isa bpf_verifier' \
-    'bench: bpf_isa bpf_verifier bpf_run' >"$room/crates.txt"
+echo 'bench: bpf_isa bpf_verifier bpf_run' >>"$room/crates.txt"
 gcc -O2 -o "$room/switch_gcc" "$top/bench/switch.c"
 (cd "$room/crates/bench" && rt run >"$room/log" 2>&1) || { tail "$room/log" >&2; exit 1; }
 echo "ours (long, by socket):"

@@ -5,8 +5,8 @@ set -eu
 top="$(cd "$(dirname "$(readlink -f "${BASH_SOURCE[0]}")")/.." && pwd)"
 room="$(mktemp -d)"
 trap 'rm -rf "$room"' EXIT
-crates=(shfl_line bpf_isa bpf_verifier bpf_run policy_source shfl_policy policy_versions)
-for crate in "${crates[@]}"; do
+. "$top/tests/cell-program.sh"
+for crate in $(crates_below policy_versions); do
     mkdir -p "$room/crates/$crate"
     (cd "$top/crates/$crate" && tar cf - --exclude=./out --exclude=./must-fail .) | tar xf - -C "$room/crates/$crate"
     grep "^$crate[: ]" "$top/crates.txt" >>"$room/crates.txt"
