@@ -1,11 +1,10 @@
 """Makes the texts of assembly.sh, compares what the two programs write, and times them. Words: PROGRAM PEER."""
 import random
-import resource
-import subprocess
 import sys
 import tempfile
 
 from chosen_names import chosen
+from timing import HEAD, row, said, side_by_side
 
 LETTERS = "abcdefghijklmnopqrstuvwxyz0123456789_"
 
@@ -37,27 +36,16 @@ def texts():
     yield "16 MiB, names chosen to share a number", chosen(490000)
 
 
-def used():
-    children = resource.getrusage(resource.RUSAGE_CHILDREN)
-    return children.ru_utime + children.ru_stime
-
-
 def main(program, peer):
-    print("text                                        ours ms   peer ms   ratio")
+    print(HEAD)
     for what, names in texts():
         with tempfile.NamedTemporaryFile("w") as text:
             text.write("".join(f":{name}\n" for name in names) + "mov64 r0 0\nexit\n")
             text.flush()
-            best = {}
-            for _ in range(5):
-                for which, words in ((program, ["asm"]), (peer, [])):
-                    before = used()
-                    done = subprocess.run([which] + words, stdin=open(text.name, "rb"), stdout=subprocess.PIPE)
-                    best[which] = min(best.get(which, (9e9, b""))[0], used() - before), done.stdout
-            if best[program][1] != best[peer][1]:
-                sys.exit(f"{what}: the two programs write different bytes")
-            ours, theirs = best[program][0] * 1000, best[peer][0] * 1000
-            print(f"{what:42} {ours:9.1f} {theirs:9.1f} {ours / theirs:7.2f}", flush=True)
+            ours, theirs = side_by_side(([program, "asm"], text.name), ([peer], text.name), times=7)
+        if said(ours) != said(theirs):
+            sys.exit(f"{what}: the two programs write different bytes")
+        row(what, ours, theirs)
 
 
 main(*sys.argv[1:])

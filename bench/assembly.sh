@@ -1,6 +1,6 @@
 #!/usr/bin/env bash
 # Times `syncord asm` beside a Rust program that keeps names in a HashMap, on texts that declare many names: processor
-# milliseconds, the best of five. Not a part of the gate. It builds the peer in a folder that it removes.
+# and wall milliseconds, the median and the worst of seven in turn. Not a part of the gate. It builds the peer in a folder that it removes.
 set -eu
 top="$(cd "$(dirname "$(readlink -f "${BASH_SOURCE[0]}")")/.." && pwd)"
 program="${SYNCORD:-$top/crates/syncord/out/syncord}"

@@ -7,6 +7,8 @@ import subprocess
 import sys
 import time
 
+from timing import median_and_worst
+
 # A trace is run so often, or as often as it can be in so many seconds, but at least so often.
 ROUNDS, SECONDS, AT_LEAST = 100, 20, 15
 HEAD = "syncord-trace 1\nworker 0 0 0 0\npolicy none - -\ncalls\n"
@@ -70,7 +72,7 @@ def growths(took, which, counts):
 def main(folder, program, peer):
     kinds = ["rising", "falling", "random", "middle", "drops", "renames", "counts", "sizes", "nexts", "long-names"]
     counts = (8192, 65536)
-    print("trace           calls   ours ms   peer ms   ratio   growth of the best, and of the median")
+    print("trace           calls   ours ms     worst   peer ms     worst   ratio   growth of the best, and of the median")
     for kind in kinds:
         texts = {}
         for count in counts:
@@ -90,11 +92,11 @@ def main(folder, program, peer):
         for count in counts:
             if wrote[program, count] != wrote[peer, count]:
                 sys.exit(f"{kind}: the two programs write different bytes")
-            ours, theirs = min(took[program, count]), min(took[peer, count])
+            ours, theirs = median_and_worst(took[program, count]), median_and_worst(took[peer, count])
             growth = ""
             if count == counts[1]:
                 growth = f"   ours {growths(took, program, counts)}, peer {growths(took, peer, counts)}"
-            print(f"{kind:14} {count:6} {ours:9.1f} {theirs:9.1f} {ours / max(theirs, 0.001):7.2f}{growth}", flush=True)
+            print(f"{kind:14} {count:6} {ours[0]:9.1f} {ours[1]:9.1f} {theirs[0]:9.1f} {theirs[1]:9.1f} {ours[0] / max(theirs[0], 0.001):7.2f}{growth}", flush=True)
         for text in texts.values():
             os.remove(text)
 

@@ -4,7 +4,7 @@ import random
 import subprocess
 import sys
 
-from timing import best, row
+from timing import HEAD, row, said, side_by_side
 
 EVENTS = 65536
 
@@ -53,22 +53,16 @@ def compare_examples(program, peer, examples):
             sys.exit(f"{document}: the two programs differ")
 
 
-def side_by_side(program, peer, text):
-    """The best of eleven runs of each, in turn, so that what else the machine does falls on all."""
-    turns = [[best(words, text, 1) for words in ([program, "line"], [peer], [peer, "whole"])] for _ in range(11)]
-    return [(min(r[0] for r in runs), min(r[1] for r in runs), max(r[2] for r in runs), runs[0][3]) for runs in zip(*turns)]
-
-
 def main(room, program, examples):
     peer = f"{room}/peer"
     compare_examples(program, peer, examples)
-    print(f"{'':<40} {'cpu ms':>8} {'peer':>8} {'ratio':>6}   {'wall ms':>8} {'peer':>8} {'ratio':>6}   {'MiB':>6} {'peer':>6}")
+    print(HEAD)
     for what, text in schedules():
         path = f"{room}/schedule"
         with open(path, "w") as document:
             document.write(text)
-        ours, pieces, whole = side_by_side(program, peer, path)
-        if not ours[3] == pieces[3] == whole[3]:
+        ours, pieces, whole = side_by_side(([program, "line"], path), ([peer], path), ([peer, "whole"], path))
+        if not said(ours) == said(pieces) == said(whole):
             sys.exit(f"{what}: the programs write different bytes")
         row(what, ours, pieces)
         row("    beside one that keeps it whole", ours, whole)

@@ -1,7 +1,7 @@
 #!/usr/bin/env bash
 # Times `syncord line` beside a C program that writes the same report: 64 passes, of which one walks along a queue of 63; one pass that
 # takes and frees the lock; events that are all refused; events drawn at random. Each has 65,536 events. Processor and wall
-# milliseconds, the best of eleven runs in turn, and the most memory. First it compares what both write of these and of the examples,
+# milliseconds, the median and the worst of fifteen runs in turn, and the most memory. First it compares what both write of these and of the examples,
 # but for those that name programs. The peer writes its report in pieces, as `syncord` does, and a second time it keeps it until it is whole,
 # which is its way to write nothing where memory runs out. Not a part of the gate. It builds the peer in a folder that it removes. SYNCORD
 # names another program to time.

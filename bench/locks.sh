@@ -1,5 +1,5 @@
 #!/usr/bin/env bash
-# Times the lock beside its peers, in turn, the best of three each: a free lock's round trip, by steps and by an attempt, beside a
+# Times the lock beside its peers, in turn, the median and the worst of nine each: a free lock's round trip, by steps and by an attempt, beside a
 # mutex of a process with threads, and of one without, which has no atomic operations; and holds a second by 4 and 16 threads,
 # with holds of 0, 40 and 400 multiplications and as many between two. The forms with readers are taken by readers alone. The MCS
 # lock is a peer where libck-dev is installed. Not a part of the gate. Builds in a folder of its own, which it removes; the crates
@@ -48,26 +48,33 @@ build() {
 }
 [ -x "$room/peers" ] || build
 
-# The least and the greatest number of three, each a line.
-least() { sort -g | head -1; }
-greatest() { sort -g | tail -1; }
-row() { printf '%-34s %14s %14s %8s\n' "$@"; }
+# The median and the worst of numbers, each a line: the greatest where the words are -g, the least where they are -gr.
+told() { sort "$1" | awk '{ at[NR] = $1 } END { print at[int((NR + 1) / 2)], at[NR] }'; }
+row() { printf '%-34s %12s %12s %12s %12s %8s\n' "$@"; }
+# A row: what, how to sort, and the files with the numbers of both.
+compared() {
+    local ours theirs
+    read -r -a ours < <(told "$2" <"$3")
+    read -r -a theirs < <(told "$2" <"$4")
+    row "$1" "${ours[@]}" "${theirs[@]}" "$(over "${ours[0]}" "${theirs[0]}")"
+}
+TURNS=9
 over() { awk -v a="$1" -v b="$2" 'BEGIN { printf "%.2f", a / b }'; }
 
 # A round trip of ours beside one of the peer's, in nanoseconds.
 free_row() {
-    local ours peer
-    ours="$(sed -n "s/^$2 \([0-9.]*\) ns\$/\1/p" "$room/ours" | least)"
-    peer="$(sed -n "s/^$3 \([0-9.]*\) ns\$/\1/p" "$room/theirs" | least)"
-    row "$1" "$ours" "$peer" "$(over "$ours" "$peer")"
+    sed -n "s/^$2 \([0-9.]*\) ns\$/\1/p" "$room/ours" >"$room/ours.now"
+    sed -n "s/^$3 \([0-9.]*\) ns\$/\1/p" "$room/theirs" >"$room/theirs.now"
+    compared "$1" -g "$room/ours.now" "$room/theirs.now"
+    rm "$room/ours.now" "$room/theirs.now"
 }
 free() {
     rm -f "$room/ours" "$room/theirs"
-    for turn in 1 2 3; do
+    for ((turn = 0; turn < TURNS; turn++)); do
         "$bench/out/bench" >>"$room/ours"
         "$room/peers" free >>"$room/theirs"
     done
-    row 'free lock, ns' ours peer ratio
+    row 'free lock, ns' ours worst peer worst ratio
     free_row 'steps, mutex' steps 'pthread_mutex_t lock and unlock'
     free_row 'attempt, mutex' attempt 'pthread_mutex_t trylock and unlock'
     free_row 'steps, mutex of one thread' steps 'one thread, pthread_mutex_t lock and unlock'
@@ -79,21 +86,19 @@ ours_of() { { timeout 60 "$bench/out/bench" "$@" || echo '0 holds a second'; } |
 peer_of() { "$room/peers" "$@" 300 | sed -n 's/^\([0-9]*\) gains a second$/\1/p'; }
 # Holds a second of ours beside the peer's. Runs of ours come first, of more and more holds, until one takes a fifth of a second.
 crowd_row() {
-    local form="$1" peer="$2" threads="$3" work="$4" holds=2000 ours theirs
+    local form="$1" peer="$2" threads="$3" work="$4" holds=2000
     while [ "$(ours_of "$form" "$threads" "$work" "$holds")" -gt $((5 * holds)) ] && [ "$holds" -lt 60000000 ]; do
         holds=$((holds * 2))
     done
-    for turn in 1 2 3; do
+    for ((turn = 0; turn < TURNS; turn++)); do
         ours_of "$form" "$threads" "$work" "$holds" >>"$room/ours.now"
         peer_of "$peer" "$threads" "$work" >>"$room/theirs.now"
     done
-    ours="$(greatest <"$room/ours.now")"
-    theirs="$(greatest <"$room/theirs.now")"
+    compared "$form, $peer, $threads threads, work $work" -gr "$room/ours.now" "$room/theirs.now"
     rm "$room/ours.now" "$room/theirs.now"
-    row "$form, $peer, $threads threads, work $work" "$ours" "$theirs" "$(over "$ours" "$theirs")"
 }
 crowd() {
-    row 'held in turn, holds a second' ours peer ratio
+    row 'held in turn, holds a second' ours worst peer worst ratio
     for work in 0 40 400; do
         crowd_row spin mutex "$1" "$work"
         crowd_row park mutex "$1" "$work"

@@ -1,7 +1,7 @@
 """Makes the traces of shards.sh and times `syncord shards` beside `replay` and a Rust program. Words: FOLDER PROGRAM."""
 import sys
 
-from timing import best, row
+from timing import HEAD, row, side_by_side
 
 CALLS = 65000
 
@@ -37,17 +37,19 @@ def over(calls):
 
 
 def main(folder, program):
-    print(f"{'':<40} {'cpu ms':>8} {'peer':>8} {'ratio':>6}   {'wall ms':>8} {'peer':>8} {'ratio':>6}   {'MB':>6} {'peer':>6}")
+    print(HEAD)
     for what, trace in (("each its own directory", own), ("renames over two", over)):
         files = {}
         for calls in (CALLS // 10, CALLS):
             files[calls] = f"{folder}/{calls}.trace"
             with open(files[calls], "w") as out:
                 out.write(trace(calls))
-        ours = best([program, "shards"], files[CALLS])
-        row(f"{what}, replay", ours, best([program, "replay"], files[CALLS]))
-        row(f"{what}, Mutex<BTreeMap>", ours, best([f"{folder}/rust"], files[CALLS]))
-        row(f"{what}, a tenth of the calls", ours, best([program, "shards"], files[CALLS // 10]))
+        ours, replay, rust, tenth = side_by_side(
+            ([program, "shards"], files[CALLS]), ([program, "replay"], files[CALLS]), ([f"{folder}/rust"], files[CALLS]),
+            ([program, "shards"], files[CALLS // 10]))
+        row(f"{what}, replay", ours, replay)
+        row(f"{what}, Mutex<BTreeMap>", ours, rust)
+        row(f"{what}, a tenth of the calls", ours, tenth)
 
 
 main(*sys.argv[1:])

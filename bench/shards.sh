@@ -1,7 +1,7 @@
 #!/usr/bin/env bash
 # Times `syncord shards` beside `replay` and beside a Rust program over 64 Mutex<BTreeMap> with one Mutex<Vec> as journal, on traces of
 # eight workers: each in a directory of its own, and renames over two; and beside itself on a tenth of the calls. Processor and wall
-# milliseconds, the best of seven, and the most memory. Not a part of the gate. It builds the peer in a folder that it removes.
+# milliseconds, the median and the worst of fifteen in turn, and the most memory. Not a part of the gate. It builds the peer in a folder that it removes.
 # SYNCORD names another program to time.
 set -eu
 top="$(cd "$(dirname "$(readlink -f "${BASH_SOURCE[0]}")")/.." && pwd)"
@@ -10,4 +10,4 @@ room="$(mktemp -d)"
 trap 'rm -rf "$room"' EXIT
 [ -x "$program" ] || "$top/bin/syncord" verify </dev/null >/dev/null 2>&1 || true
 rustc -O -o "$room/rust" "$top/bench/shards.rs"
-python3 "$top/bench/shards.py" "$room" "$program"
+PYTHONDONTWRITEBYTECODE=1 python3 "$top/bench/shards.py" "$room" "$program"
