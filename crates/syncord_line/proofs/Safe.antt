@@ -1,5 +1,5 @@
 -- After every event of a schedule the lock is lawful, and so it is safe.
-use Rattle.std.proofs.Common.{ℕ, List, [], ◌∷◌, Bool, IsTrue, length, refl, sym, ◌∙◌, true≢false}
+use Rattle.std.proofs.Common.{ℕ, List, [], ◌∷◌, Bool, IsTrue, length, refl, sym, ◌∙◌, true≢false, arith}
 use Rattle.std.specs.List.{AllByRecursion}
 use Rattle.shfl_line.specs.declared.events.Form.{Form}
 use Rattle.shfl_core.specs.Runner.{Lock, moved}
@@ -36,5 +36,5 @@ safe-from t n w (e ∷ rest) ok each =
 
 pub always-safe : (s : ScheduleModel) → IsWithin s → IsAlwaysSafe s
 always-safe s within = safe-from (setup_of s) (length s.passes) (opening s.passes) s.events
-    (opened-lawful (rules_of s) s.passes (record { limit = within.limit; some = within.passes.0; few = within.passes.1 }))
+    (opened-lawful (rules_of s) s.passes (record { limit = within.limit; some = within.passes.0; few = let few = within.passes.1 in omega arith }))
     within.events
