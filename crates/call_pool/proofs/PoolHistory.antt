@@ -7,9 +7,9 @@ use native.Mathlib.Decide.{ℕ_discrete, dec_lt}
 use mathlib.Core.Logic.{dite}
 use Rattle.hist_log.specs.declared.entry.Entry.{Entry}
 use Rattle.hist_log.specs.History.{operations, IsLegal}
-use Rattle.numbered_calls.specs.declared.numbered.NumberedCall.{NumberedCall}
-use Rattle.numbered_calls.specs.Numbers.{numbers, inner, numbers_differ}
-use Rattle.numbered_calls.specs.PoolHistories.{AreRising, place_of, places_of, IsPoolHistory}
+use Rattle.hist_log.specs.declared.numbered.NumberedCall.{NumberedCall}
+use Rattle.hist_log.specs.Numbers.{numbers, inner, numbers_differ}
+use Rattle.hist_log.specs.PoolHistories.{AreRising, place_of, places_of, IsPoolHistory}
 use Rattle.call_queue.specs.Queues.{IsEachTaken}
 use Rattle.shfl_table.specs.declared.kept.Action.{Action}
 use Rattle.shfl_table.specs.Histories.{actions_by, HasSeen}

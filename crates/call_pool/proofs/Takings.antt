@@ -4,9 +4,9 @@ use Rattle.std.specs.List.{All, AllByRecursion}
 use Rattle.std.proofs.lemmas.List.{map-append}
 use Rattle.std.proofs.lemmas.Option.{get_or_from_slice_get}
 use Rattle.std.proofs.lemmas.List.Elements.{recursion_from_All, All-push, All-nil}
-use Rattle.numbered_calls.specs.declared.numbered.NumberedCall.{NumberedCall}
-use Rattle.numbered_calls.specs.Numbers.{numbers, inner}
-use Rattle.numbered_calls.specs.PoolHistories.{AreRising}
+use Rattle.hist_log.specs.declared.numbered.NumberedCall.{NumberedCall}
+use Rattle.hist_log.specs.Numbers.{numbers, inner}
+use Rattle.hist_log.specs.PoolHistories.{AreRising}
 use Rattle.shfl_table.specs.declared.kept.Action.{Action}
 use Rattle.shfl_table.specs.Histories.{actions_by}
 use Rattle.shfl_cell.specs.Cells.{CellPassModel, MakesCall, number}

@@ -1,9 +1,9 @@
 -- A pool and its passes, as clauses see them.
 use Rattle.std.specs.Prelude.{◌≡◌, ◌==◌, ◌+◌, ◌<◌, ℕ, List, [], ◌∷◌, ◌++◌, map, filter, length, true, false, All, slice_get, slice_index_or, Some}
 use Rattle.hist_log.specs.declared.entry.Entry.{Entry}
-use Rattle.numbered_calls.specs.declared.numbered.NumberedCall.{NumberedCall}
-use Rattle.numbered_calls.specs.Numbers.{numbers, inner}
-use Rattle.numbered_calls.specs.PoolHistories.{AreRising}
+use Rattle.hist_log.specs.declared.numbered.NumberedCall.{NumberedCall}
+use Rattle.hist_log.specs.Numbers.{numbers, inner}
+use Rattle.hist_log.specs.PoolHistories.{AreRising}
 use Rattle.call_queue.specs.Rule.{whole}
 use Rattle.call_queue.specs.Queues.{QueueModel, TakerModel, IsFresh}
 use Rattle.shfl_table.specs.Histories.{actions_by}

@@ -2,8 +2,8 @@
 ghost use Rattle.std.specs.Prelude.{◌≡◌, ℕ, ◌+◌, ◌≤◌, ◌++◌, ◌||◌, true, All, Any, [], map, vec_len, vec_capacity};
 ghost use Rattle.std.specs.List.{flat_map, list_any, sum_by};
 ghost use Rattle.hist_log.specs.History.{operations, state_left};
-ghost use Rattle.numbered_calls.specs.Numbers.{numbers, inner};
-ghost use Rattle.numbered_calls.specs.PoolHistories.{IsPoolHistory};
+ghost use Rattle.hist_log.specs.Numbers.{numbers, inner};
+ghost use Rattle.hist_log.specs.PoolHistories.{IsPoolHistory};
 ghost use Rattle.shfl_cell.specs.Cells.{number, AreAll};
 ghost use Rattle.shfl_table.specs.Books.{actions, HavePlaces};
 ghost use Rattle.shfl_table.specs.Histories.{actions_by, HasSeen};
@@ -11,8 +11,7 @@ ghost use Rattle.call_pool.specs.Pools.{IsPassOf, calls_by};
 
 use crate::pool::{PoolOf, PoolPass, PoolPassOf};
 use call_queue::{CallQueue, Taker};
-use hist_log::{Entry, Object};
-use numbered_calls::Numbered;
+use hist_log::{Entry, Numbered, Object};
 use shfl_cell::CellPassOf;
 use shfl_table::{Book, Kept};
 

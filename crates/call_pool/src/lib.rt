@@ -8,6 +8,6 @@ mod run;
 mod taking;
 mod threads;
 
-pub use numbered_calls::{Numbered, NumberedCall};
+pub use hist_log::{Numbered, NumberedCall};
 pub use pool::{Pool, PoolOf, PoolPass, PoolPassOf};
 pub use run::run_pool;

@@ -6,8 +6,7 @@ ghost use Rattle.call_pool.specs.Pools.{IsPassOf, IsUnused, FirstHasTheRest, Are
 
 use crate::pool::{MOST, Pool, PoolOf, PoolPass, PoolPassOf};
 use call_queue::{CallQueue, Taker};
-use hist_log::Object;
-use numbered_calls::Numbered;
+use hist_log::{Numbered, Object};
 use shfl_cell::{CellPassOf, ShflCellOf};
 use shfl_line::{Attr, Form, NoMemory};
 use shfl_table::{Book, Kept};

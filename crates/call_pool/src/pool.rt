@@ -3,8 +3,7 @@ ghost use Rattle.std.specs.Prelude.{◌≡◌};
 ghost use Rattle.shfl_cell.specs.Cells.{number};
 
 use call_queue::{CallQueue, Taker};
-use hist_log::Object;
-use numbered_calls::Numbered;
+use hist_log::{Numbered, Object};
 use shfl_cell::{CellPassOf, ShflCellOf};
 use shfl_table::{Book, Kept};
 use std::marker::Model;

@@ -1,18 +1,17 @@
 //! Calls on a directory by takers in threads.
 ghost use Rattle.std.specs.Prelude.{◌≡◌, ◌*◌, ◌<◌, ◌≤◌, true, All, length, vec_len, IfOk};
-ghost use Rattle.hist_log.specs.History.{operations, state_left};
 ghost use Rattle.dir_table.specs.Numbers.{call_numbers, reply_numbers, state_numbers};
 ghost use Rattle.dir_table.specs.Meanings.{reply_at, state_after, Admits, IsAdmitted};
-ghost use Rattle.numbered_calls.specs.Numbers.{numbers, inner};
-ghost use Rattle.numbered_calls.specs.PoolHistories.{IsPoolHistory};
+ghost use Rattle.hist_log.specs.History.{operations, state_left};
+ghost use Rattle.hist_log.specs.Numbers.{numbers, inner};
+ghost use Rattle.hist_log.specs.PoolHistories.{IsPoolHistory};
 ghost use Rattle.shfl_cell.specs.Cells.{number};
 ghost use Rattle.call_pool.specs.Pools.{IsPassOf, AreNumbered};
 
 use crate::pool::{Pool, PoolPass};
 use crate::threads::{SharedCalls, take_in_threads};
 use dir_table::{Dir, DirCall};
-use hist_log::Entry;
-use numbered_calls::Numbered;
+use hist_log::{Entry, Numbered};
 use shfl_line::{Attr, Chooser, NoMemory};
 use shfl_policy::Policy;
 use std::alloc::Global;

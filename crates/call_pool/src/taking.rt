@@ -5,8 +5,7 @@ ghost use Rattle.shfl_table.specs.Waits.{AsksAll};
 ghost use Rattle.call_pool.specs.Pools.{IsPassOf, TakesCall, EndsAt};
 
 use crate::pool::{PoolOf, PoolPass, PoolPassOf};
-use hist_log::{Object, Receipt};
-use numbered_calls::Numbered;
+use hist_log::{Numbered, Object, Receipt};
 use shfl_line::Chooser;
 use shfl_table::Book;
 use std::sync::Wait;

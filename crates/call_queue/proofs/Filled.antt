@@ -6,7 +6,7 @@ use Rattle.std.proofs.lemmas.List.Sums.{sum_by-cons}
 use mathlib.Core.Logic.{dite}
 use mathlib.Core.Bool.{false≢true}
 use native.Mathlib.Decide.{ℕ_discrete}
-use Rattle.numbered_calls.specs.declared.numbered.NumberedCall.{NumberedCall}
+use Rattle.hist_log.specs.declared.numbered.NumberedCall.{NumberedCall}
 use Rattle.call_queue.specs.declared.rule.Ticket.{Ticket}
 use Rattle.call_queue.specs.declared.rule.Share.{Share}
 use Rattle.call_queue.specs.Tickets.{calls_from, ends_from, tickets_of, call_at, calls_in, bare, is_end, has_end, AreWhole}

@@ -1,7 +1,7 @@
 -- A queue of calls and its takers, as clauses see them.
 use Rattle.std.specs.Prelude.{◌≡◌, ◌<◌, ◌+◌, ℕ, List, [], ◌∷◌, ◌++◌, length, ◌==◌, count_by, Bool, false}
 use Rattle.atomic_table.specs.Seated.{TableId}
-use Rattle.numbered_calls.specs.declared.numbered.NumberedCall.{NumberedCall}
+use Rattle.hist_log.specs.declared.numbered.NumberedCall.{NumberedCall}
 use Rattle.call_queue.specs.Rule.{whole}
 
 -- a queue: which one it is, the calls that it was filled with, and how many takers it has

@@ -1,6 +1,6 @@
 -- The tickets of a list of calls, and the calls of a list of tickets.
 use Rattle.std.specs.Prelude.{◌≡◌, ℕ, zero, suc, List, [], ◌∷◌, ◌++◌, map, length, Option, Some, None, Bool, true, false, ◌||◌}
-use Rattle.numbered_calls.specs.declared.numbered.NumberedCall.{NumberedCall}
+use Rattle.hist_log.specs.declared.numbered.NumberedCall.{NumberedCall}
 use Rattle.call_queue.specs.declared.rule.Ticket.{Ticket}
 
 module _ {C : Type 0} where

@@ -5,7 +5,7 @@ ghost use Rattle.call_queue.specs.Rule.{Takes};
 
 use crate::rule::{Line, Share, Taken, Ticket};
 use crossbeam_queue::Pass;
-use numbered_calls::NumberedCall;
+use hist_log::NumberedCall;
 use std::marker::Model;
 use std::snapshot::Snapshot;
 use std::sync::Wait;

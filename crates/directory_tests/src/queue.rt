@@ -2,7 +2,7 @@
 ghost use Rattle.std.specs.Prelude.{◌≡◌};
 
 use call_queue::CallQueue;
-use numbered_calls::NumberedCall;
+use hist_log::NumberedCall;
 use std::test::Fail;
 
 #[test]

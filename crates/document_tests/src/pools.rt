@@ -2,8 +2,7 @@
 ghost use Rattle.std.specs.Prelude.{◌≡◌};
 
 use dir_table::{Dir, DirReply};
-use hist_log::Entry;
-use numbered_calls::{Numbered, NumberedCall};
+use hist_log::{Entry, Numbered, NumberedCall};
 use pool_text::{dir_calls, first_fault, render_pool};
 use std::alloc::Global;
 use std::test::Fail;

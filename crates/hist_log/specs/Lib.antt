@@ -1,2 +1,4 @@
 pub mod History
 pub mod Merge
+pub mod Numbers
+pub mod PoolHistories

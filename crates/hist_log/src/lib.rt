@@ -4,12 +4,14 @@
 mod entry;
 mod legality;
 mod merging;
+mod numbered;
 mod object;
 mod trail;
 
 pub use entry::{Entry, Receipt};
 pub use legality::legal;
 pub use merging::merge;
+pub use numbered::{Numbered, NumberedCall};
 pub use object::Object;
 use std::alloc::{AllocError, AllocFailed};
 use std::error::Error;

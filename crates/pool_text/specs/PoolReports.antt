@@ -10,7 +10,7 @@ use Rattle.dir_table.specs.declared.calls.DirReply.{DirReply}
 use Rattle.dir_table.specs.Directory.{Directory}
 use Rattle.dir_table.specs.Names.{Place}
 use Rattle.hist_log.specs.declared.entry.Entry.{Entry}
-use Rattle.numbered_calls.specs.declared.numbered.NumberedCall.{NumberedCall}
+use Rattle.hist_log.specs.declared.numbered.NumberedCall.{NumberedCall}
 use Rattle.trace_text.specs.declared.trace.Trace.{Trace}
 use Rattle.trace_text.specs.Report.{row_line, counted_line, reply_words}
 use Rattle.trace_text.specs.Spelling.{act_words}

@@ -6,8 +6,7 @@ ghost use Rattle.pool_text.specs.PoolReports.{entry_line, heading, pool_report, 
 
 use dir_table::Dir;
 use doc_text::{push_decimal, push_line};
-use hist_log::Entry;
-use numbered_calls::Numbered;
+use hist_log::{Entry, Numbered};
 use policy_text::{push_number, push_word};
 use std::alloc::Global;
 use trace_text::{NoMemory, Trace, push_call, push_counted, push_reply, push_rows};

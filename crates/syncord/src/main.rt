@@ -4,9 +4,8 @@
 ghost use Rattle.std.specs.Prelude.{◌≡◌};
 ghost use Rattle.std.specs.Process.{exit_status};
 
-use process_words::words_of;
 use std::process::ExitCode;
-use syn_outer::{OpenGate, StdSink, StdSource};
+use syn_outer::{OpenGate, StdSink, StdSource, words_of};
 use syncord_app::syncord;
 
 // The process ends with the status.

@@ -6,9 +6,8 @@ mod draw;
 mod drawing;
 
 use crate::draw::draw;
-use process_words::words_of;
 use std::process::ExitCode;
-use syn_outer::{StdSink, StdSource};
+use syn_outer::{StdSink, StdSource, words_of};
 
 fn main(rt: HostRuntime) -> ExitCode {
     let Ok(words) = words_of(rt.alloc(), &rt) else {

@@ -4,7 +4,7 @@ use Rattle.dir_table.specs.Directory.{Directory}
 use Rattle.dir_table.specs.Meanings.{reply_at, state_after}
 use Rattle.dir_table.specs.Numbers.{call_numbers, reply_numbers, state_numbers}
 use Rattle.hist_log.specs.History.{operations, IsLegal, state_left}
-use Rattle.numbered_calls.specs.Numbers.{numbers, inner}
+use Rattle.hist_log.specs.Numbers.{numbers, inner}
 use Rattle.pool_text.specs.PoolReports.{PoolEntries}
 use Rattle.trace_text.specs.declared.trace.Trace.{Trace}
 use Rattle.trace_text.specs.Histories.{beginning, AreAnswered, after_all}

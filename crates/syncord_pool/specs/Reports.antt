@@ -5,8 +5,8 @@ use Rattle.dir_table.specs.declared.calls.DirCall.{DirCall}
 use Rattle.dir_table.specs.declared.calls.DirReply.{DirReply}
 use Rattle.dir_table.specs.Directory.{Directory}
 use Rattle.hist_log.specs.declared.entry.Entry.{Entry}
-use Rattle.numbered_calls.specs.declared.numbered.Numbered.{Numbered}
-use Rattle.numbered_calls.specs.declared.numbered.NumberedCall.{NumberedCall}
+use Rattle.hist_log.specs.declared.numbered.Numbered.{Numbered}
+use Rattle.hist_log.specs.declared.numbered.NumberedCall.{NumberedCall}
 use Rattle.trace_text.specs.declared.trace.Trace.{Trace}
 use Rattle.trace_text.specs.Document.{Document}
 use Rattle.trace_text.specs.Grammar.{ReadsTrace}

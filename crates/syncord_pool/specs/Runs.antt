@@ -5,8 +5,8 @@ use Rattle.dir_table.specs.Directory.{Directory}
 use Rattle.dir_table.specs.Meanings.{reply_at, state_after}
 use Rattle.dir_table.specs.Numbers.{call_numbers, reply_numbers, state_numbers}
 use Rattle.hist_log.specs.History.{operations, state_left}
-use Rattle.numbered_calls.specs.Numbers.{numbers, inner}
-use Rattle.numbered_calls.specs.PoolHistories.{IsPoolHistory}
+use Rattle.hist_log.specs.Numbers.{numbers, inner}
+use Rattle.hist_log.specs.PoolHistories.{IsPoolHistory}
 use Rattle.policy_text.specs.Accepted.{AcceptsSource}
 use Rattle.pool_text.specs.PoolDocuments.{calls_of}
 use Rattle.pool_text.specs.PoolReports.{PoolEntries}

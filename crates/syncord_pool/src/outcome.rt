@@ -1,7 +1,6 @@
 //! What the run of a pool leaves.
 use dir_table::Dir;
-use hist_log::Entry;
-use numbered_calls::Numbered;
+use hist_log::{Entry, Numbered};
 
 /// What the run of a pool leaves.
 #[derive(Drop)]

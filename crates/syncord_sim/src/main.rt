@@ -6,9 +6,8 @@ mod simulate;
 mod simulation;
 
 use crate::simulate::simulate;
-use process_words::words_of;
 use std::process::ExitCode;
-use syn_outer::{StdSink, StdSource};
+use syn_outer::{StdSink, StdSource, words_of};
 
 fn main(rt: HostRuntime) -> ExitCode {
     let Ok(words) = words_of(rt.alloc(), &rt) else {

@@ -5,9 +5,9 @@ use Rattle.std.proofs.lemmas.List.Folds.{list_any-from_Any}
 use Rattle.std.proofs.lemmas.List.Sums.{sum_by-cons}
 use Rattle.hist_log.specs.declared.entry.Entry.{Entry}
 use Rattle.hist_log.specs.History.{operations, state_left, IsLegal}
-use Rattle.numbered_calls.specs.declared.numbered.Numbered.{Numbered}
-use Rattle.numbered_calls.specs.declared.numbered.NumberedCall.{NumberedCall}
-use Rattle.numbered_calls.specs.Numbers.{numbers, inner}
+use Rattle.hist_log.specs.declared.numbered.Numbered.{Numbered}
+use Rattle.hist_log.specs.declared.numbered.NumberedCall.{NumberedCall}
+use Rattle.hist_log.specs.Numbers.{numbers, inner}
 use Rattle.call_queue.specs.Rule.{whole}
 use Rattle.call_queue.specs.Queues.{TakerModel, IsEachTaken}
 use Rattle.shfl_table.specs.Books.{actions}

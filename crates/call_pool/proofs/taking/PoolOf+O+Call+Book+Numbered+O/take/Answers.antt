@@ -1,6 +1,6 @@
 use Rattle.std.proofs.Common.{◌≡◌, ◌<◌, ◌∷◌, ◌++◌, [], All, slice_get, Some, sym, ap, ◌∙◌, subst}
-use Rattle.numbered_calls.specs.Numbers.{inner}
-use Rattle.numbered_calls.specs.declared.numbered.NumberedCall.{NumberedCall}
+use Rattle.hist_log.specs.Numbers.{inner}
+use Rattle.hist_log.specs.declared.numbered.NumberedCall.{NumberedCall}
 use Rattle.call_pool.specs.Pools.{PoolPassModel, IsPassOf, TakesCall}
 use Rattle.call_pool.proofs.Takings.{one_left, still_own, at_place}
 use Rattle.call_pool.proofs.taking.PoolOf+O+Call+Book+Numbered+O.take.Given as given_here

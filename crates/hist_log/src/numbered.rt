@@ -1,7 +1,7 @@
 //! An object whose calls carry their place.
 ghost use Rattle.std.specs.Prelude.{◌≡◌};
 
-use hist_log::Object;
+use crate::object::Object;
 
 /// A call with its place in a list of calls.
 #[derive(Clone, Copy, Debug, PartialEq, Eq)]
@@ -36,7 +36,7 @@ impl<O: Object> Numbered<O> {
 }
 
 impl<O: Object> Object for Numbered<O> {
-    ghost use Rattle.numbered_calls.specs.Numbers.{inner, numbers, numbers_differ};
+    ghost use Rattle.hist_log.specs.Numbers.{inner, numbers, numbers_differ};
 
     type Call = NumberedCall<O::Call>;
 

@@ -1,6 +1,4 @@
 //! The words that a process was started with.
-#![tactic(auto)]
-
 ghost use Rattle.std.specs.Prelude.{◌≤◌, All, length, string_bytes, vec_len, IfOk, IfSome};
 
 use std::alloc::{AllocError, Global};

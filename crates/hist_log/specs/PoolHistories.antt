@@ -3,8 +3,8 @@ use Rattle.std.specs.Prelude.{◌≡◌, ◌<◌, ℕ, List, [], ◌∷◌, map,
 use Rattle.std.specs.List.{count_by, AllByRecursion}
 use Rattle.hist_log.specs.declared.entry.Entry.{Entry}
 use Rattle.hist_log.specs.History.{operations, IsLegal}
-use Rattle.numbered_calls.specs.declared.numbered.NumberedCall.{NumberedCall}
-use Rattle.numbered_calls.specs.Numbers.{numbers, inner}
+use Rattle.hist_log.specs.declared.numbered.NumberedCall.{NumberedCall}
+use Rattle.hist_log.specs.Numbers.{numbers, inner}
 
 -- each number is above those before it
 abbrev pub AreRising : List ℕ → Type 0

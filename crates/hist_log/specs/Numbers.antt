@@ -1,7 +1,7 @@
 -- Calls with their place, as lists of numbers.
 use Rattle.std.specs.Prelude.{◌≡◌, ℕ, List, [], ◌∷◌, slice_index}
 use Rattle.std.proofs.Common.{ap}
-use Rattle.numbered_calls.specs.declared.numbered.NumberedCall.{NumberedCall}
+use Rattle.hist_log.specs.declared.numbered.NumberedCall.{NumberedCall}
 
 -- the place, and behind it the numbers of the call
 abbrev pub numbers : {C : Type 0} → (C → List ℕ) → NumberedCall C → List ℕ

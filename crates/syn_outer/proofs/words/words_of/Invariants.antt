@@ -1,5 +1,5 @@
 use Rattle.std.proofs.Common.{◌≤◌, ◌<◌, All, length, string_bytes}
-use Rattle.process_words.proofs.words_of.Given as goal
+use Rattle.syn_outer.proofs.words.words_of.Given as goal
 
 -- fewer words than the place at hand, each short
 abbrev pub invariant-loop-place : goal.invariant-loop-place
