@@ -11,19 +11,20 @@ use Rattle.shfl_line.specs.Line.{Line, mark_of, IsWellFormed}
 use Rattle.shfl_line.specs.Steps.{Admits, after}
 use Rattle.shfl_line.proofs.Chain
 use Rattle.shfl_core.specs.declared.phase.Rules.{Rules}
+use Rattle.shfl_core.specs.declared.phase.Phase.TheVariants.{Idle}
 use Rattle.shfl_core.specs.Words.{look, site}
 use Rattle.shfl_core.specs.Plan.{attempt_plan}
-use Rattle.shfl_core.specs.Take.{attempted}
-use Rattle.shfl_core.specs.Worlds.{World, known, tried, opening, idle_from}
+use Rattle.shfl_core.specs.Take.{to, attempted}
+use Rattle.shfl_core.specs.Worlds.{World, known, placed_at, tried, opening, idle_from}
 use Rattle.shfl_core.specs.View.{view}
 use Rattle.shfl_core.specs.ShownLine.{shown_line}
 use Rattle.shfl_core.specs.Lawful.{Terms, count, Lawful, Advances}
-use Rattle.shfl_laws.specs.Moves.{terms}
+use Rattle.shfl_laws.specs.Moves.{terms, with_one_more}
 use Rattle.shfl_laws.proofs.laws.MoveLaws.{moved-long}
 use Rattle.shfl_laws.proofs.laws.Opens.{opening-law}
 use Rattle.shfl_laws.proofs.shown.ShownLine.{shown-line-law}
 use Rattle.shfl_laws.proofs.shown.WellFormed.{agrees-well-formed}
-use Rattle.shfl_bound.specs.Changes.{Change, Moves, Tries, Disables, may_try, after_change, after_changes, change_event, shown_events, EachMayChange}
+use Rattle.shfl_bound.specs.Changes.{Change, Moves, Tries, Disables, Fills, Replaces, is_idle_there, has_seat, after_change, after_changes, change_event, shown_events, EachMayChange}
 use Rattle.shfl_bound.specs.Departures.{Waits, ahead, leaver, left_before}
 use Rattle.shfl_bound.specs.Overtaking.{OvertakingNumber, WaiterBound, JoinerBound, OpenedBound}
 use Rattle.shfl_bound.proofs.Ahead.{ahead-end}
@@ -31,7 +32,8 @@ use Rattle.shfl_bound.proofs.Potential.{potential, potential-bound}
 use Rattle.shfl_bound.proofs.LineSteps
 use Rattle.shfl_bound.proofs.Staying.{stays, left-more, left-none, own-or}
 use Rattle.shfl_bound.proofs.MovedUp.{moved, moved-up}
-use Rattle.shfl_bound.proofs.Changing.{goes, change-law}
+use Rattle.shfl_bound.proofs.Changing.{goes}
+use Rattle.shfl_bound.proofs.ChangeLaws.{change-law}
 
 pub well-formed : (t : Terms) (w : World) (ok : Lawful t w) → IsWellFormed t.rules.limit ok.shown
 well-formed t w ok = agrees-well-formed t (view w) ok.shown ok.giver ok.of_passes ok.agrees
@@ -90,18 +92,29 @@ pub history-lawful : (t : Terms) (cs : List Change) (w : World) → Lawful t w �
 history-lawful t [] w ok may = ok
 history-lawful t (c ∷ rest) w ok may = history-lawful t rest (after_change t.rules w c) (change-law t w c ok may.0).lawful may.1
 
-changed-long : (r : Rules) (w : World) (c : Change) → length (after_change r w c).passes ≡ length w.passes
-changed-long r w (Moves m) = moved-long r w m
-changed-long r w (Tries p mode) = by (may_try w p)
+-- in a lock with all its seats filled they stay filled
+changed-full : (t : Terms) (w : World) → Lawful t w → (c : Change) → length w.passes ≡ count t → length (after_change t.rules w c).passes ≡ count t
+changed-full t w ok (Moves m) full = moved-long t.rules w m ∙ full
+changed-full t w ok (Tries p mode) full = by (is_idle_there w p)
   where
-    by : (b : Bool) → length (cond b (tried w p (known w.passes p) mode) w).passes ≡ length w.passes
-    by true = length-set w.passes p (attempted mode (known w.passes p).reg (look w.words (site (attempt_plan mode))))
-    by false = refl
-changed-long r w Disables = refl
+    by : (b : Bool) → length (cond b (tried w p (known w.passes p) mode) w).passes ≡ count t
+    by true = length-set w.passes p (attempted mode (known w.passes p).reg (look w.words (site (attempt_plan mode)))) ∙ full
+    by false = full
+changed-full t w ok Disables full = full
+changed-full t w ok Fills full = by (has_seat w) (let a = ok.room in grind (arith, nat_tests))
+  where
+    by : (b : Bool) → b ≡ false → length (cond b (with_one_more w) w).passes ≡ count t
+    by true e = absurd (cc)
+    by false e = full
+changed-full t w ok (Replaces p r) full = by (is_idle_there w p)
+  where
+    by : (b : Bool) → length (cond b (placed_at w p (to Idle (record r { me = p }))) w).passes ≡ count t
+    by true = length-set w.passes p (to Idle (record r { me = p })) ∙ full
+    by false = full
 
-history-long : (r : Rules) (cs : List Change) (w : World) → length (after_changes r w cs).passes ≡ length w.passes
-history-long r [] w = refl
-history-long r (c ∷ rest) w = history-long r rest (after_change r w c) ∙ changed-long r w c
+history-full : (t : Terms) (cs : List Change) (w : World) (ok : Lawful t w) → EachMayChange t.rules.form cs → length w.passes ≡ count t → length (after_changes t.rules w cs).passes ≡ count t
+history-full t [] w ok may full = full
+history-full t (c ∷ rest) w ok may full = history-full t rest (after_change t.rules w c) (change-law t w c ok may.0).lawful may.1 (changed-full t w ok c full)
 
 opening-long : (p : ℕ) (attrs : List Attr) → length (idle_from p attrs) ≡ length (map attr_word attrs)
 opening-long p [] = refl
@@ -110,6 +123,6 @@ opening-long p (a ∷ rest) = let b = opening-long (suc p) rest in omega arith
 pub opened-bound : OpenedBound
 opened-bound rules attrs history x c rest may each one after e = let t : Terms = terms rules attrs in let w : World = after_changes rules (opening attrs) history in
     let ok : Lawful (terms rules attrs) (after_changes rules (opening attrs) history) = history-lawful (terms rules attrs) history (opening attrs) (opening-law rules attrs may).lawful each in
-    let shows : ok.shown ≡ shown_line (after_changes rules (opening attrs) history) = shown-line-law (terms rules attrs) (after_changes rules (opening attrs) history) ok (history-long rules history (opening attrs) ∙ opening-long 0 attrs) in
+    let shows : ok.shown ≡ shown_line (after_changes rules (opening attrs) history) = shown-line-law (terms rules attrs) (after_changes rules (opening attrs) history) ok (history-full (terms rules attrs) history (opening attrs) (opening-law rules attrs may).lawful each (opening-long 0 attrs)) in
     subst (λ (s : Line). length (left_before x (shown_events rules (after_change rules (after_changes rules (opening attrs) history) c) rest)) ≤ rules.limit * length s.line) shows
     (joiner-bound (terms rules attrs) (after_changes rules (opening attrs) history) ok x c rest one after e)

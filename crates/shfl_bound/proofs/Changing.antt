@@ -15,9 +15,9 @@ use Rattle.shfl_core.specs.declared.phase.Phase.TheVariants as phase
 use Rattle.shfl_core.specs.declared.phase.Nap.{Nap}
 use Rattle.shfl_core.specs.declared.phase.Nap.TheVariants.{Awake, Doze, Hear, Rouse, Ring}
 use Rattle.shfl_core.specs.declared.phase.PassState.{PassState}
-use Rattle.shfl_core.specs.Words.{look, site}
+use Rattle.shfl_core.specs.Words.{look, site, wide}
 use Rattle.shfl_core.specs.Plan.{plan, moving, is_idle, is_awake, is_resting, attempt_plan}
-use Rattle.shfl_core.specs.Take.{take, take_at, take_by, entry, exit, acquired, released, attempted}
+use Rattle.shfl_core.specs.Take.{to, take, take_at, take_by, entry, exit, acquired, released, attempted}
 use Rattle.shfl_core.specs.Waiting.{idle}
 use Rattle.shfl_core.specs.Worlds.{World, known, placed_at, stepped, tried, Move, Acquire, Release, Step}
 use Rattle.shfl_core.specs.Events.{event as event_of, event_at, attempt_event}
@@ -29,14 +29,17 @@ use Rattle.shfl_laws.proofs.words.Frame.{known-set}
 use Rattle.shfl_laws.proofs.laws.MoveLaws.{move-law}
 use Rattle.shfl_laws.proofs.laws.Laws.{laws}
 use Rattle.shfl_laws.proofs.laws.AttemptRows.{attempt-law}
+use Rattle.shfl_laws.proofs.laws.MoveRows.{forget-law}
+use Rattle.shfl_laws.proofs.laws.Opens.{known-one, seat-law}
+use Rattle.shfl_laws.specs.Moves.{with_one_more}
 use Rattle.shfl_laws.proofs.laws.Stealing.{disable-law}
-use Rattle.shfl_bound.specs.Changes.{Change, Moves, Tries, Disables, may_try, after_change, change_event}
+use Rattle.shfl_bound.specs.Changes.{Change, Moves, Tries, Disables, Fills, Replaces, is_idle_there, has_seat, after_change, change_event}
 use Rattle.shfl_bound.specs.Overtaking.{ChangeLaw}
 use Rattle.shfl_bound.proofs.LineSteps.{Chosen, Goes}
 use Rattle.shfl_bound.proofs.MovedUp.{moves_up, moved, moved-some, moved-up, marks-next, places-hand, still, turns-on, turns-off}
 use Rattle.shfl_bound.proofs.Steps.{is_plain, leads, goes-plain, goes-cond, asleep}
 
-both-true : (a b : Bool) → (a && b) ≡ true → (a ≡ true) × (b ≡ true)
+pub both-true : (a b : Bool) → (a && b) ≡ true → (a ≡ true) × (b ≡ true)
 both-true true b e = (refl, e)
 both-true false b e = absurd (cc)
 
@@ -194,7 +197,7 @@ module _ (t : Terms) (w : World) (ok : Lawful t w) where
       by true e a = step r c (in-lock e) a
       by false e a = inl (unchanged w a.lawful refl)
 
-  try : (p : ℕ) (mode : Mode) (b : Bool) → may_try w p ≡ b → (a : Advances t w ok (cond b (attempt_event mode p (look w.words (site (attempt_plan mode)))) event.Nothing) (cond b (tried w p (known w.passes p) mode) w))
+  try : (p : ℕ) (mode : Mode) (b : Bool) → is_idle_there w p ≡ b → (a : Advances t w ok (cond b (attempt_event mode p (look w.words (site (attempt_plan mode)))) event.Nothing) (cond b (tried w p (known w.passes p) mode) w))
       → Goes ok.shown (cond b (attempt_event mode p (look w.words (site (attempt_plan mode)))) event.Nothing) (moved t w ok) (moved t (cond b (tried w p (known w.passes p) mode) w) a.lawful)
   try p mode false e a = inl (unchanged w a.lawful refl)
   try p mode true e a = by mode a
@@ -217,20 +220,17 @@ module _ (t : Terms) (w : World) (ok : Lawful t w) where
 
   pub goes : (c : Change) (a : Advances t w ok (change_event t.rules w c) (after_change t.rules w c)) → Goes ok.shown (change_event t.rules w c) (moved t w ok) (moved t (after_change t.rules w c) a.lawful)
   goes (Moves m) a = move m a
-  goes (Tries p mode) a = try p mode (may_try w p) refl a
+  goes (Tries p mode) a = try p mode (is_idle_there w p) refl a
   goes Disables a = inl (unchanged (stealing_disabled w) a.lawful refl)
-
--- each change leads from a lawful world to one
-pub change-law : (t : Terms) → ChangeLaw t
-change-law t w (Moves m) ok may = move-law t (laws t) m w ok may
-change-law t w (Tries p mode) ok may = by (may_try w p) refl
-  where
-    by : (b : Bool) → may_try w p ≡ b → Advances t w ok (cond b (attempt_event mode p (look w.words (site (attempt_plan mode)))) event.Nothing) (cond b (tried w p (known w.passes p) mode) w)
-    by false e = record { lawful = ok; admitted = tt; shown = refl }
-    by true e = let u = both-true (nat_lt p (length w.passes)) (is_idle (known w.passes p).phase) e in
-        let below : p < length w.passes = (let a = u.0 in grind (arith, nat_tests)) in
-        attempt-law t mode w p (known w.passes p) ok (at-read w.passes p (idle p) below) (idle-is (known w.passes p).phase u.1) may
-      where
-        idle-is : (f : Phase) → is_idle f ≡ true → f ≡ phase.Idle
-        idle-is f h = grind arith
-change-law t w Disables ok may = disable-law t w ok
+  goes Fills a = by (has_seat w) a
+    where
+      by : (b : Bool) (a : Advances t w ok event.Nothing (cond b (with_one_more w) w)) → Goes ok.shown event.Nothing (moved t w ok) (moved t (cond b (with_one_more w) w) a.lawful)
+      by true a = inl (still t w ok (with_one_more w) a.lawful 0 (λ z _. known-one w.passes z) (ap (λ (q : PassState). moves_up q.phase) (known-one w.passes 0)) (λ _. ap (λ (q : PassState). q.reg.cand) (known-one w.passes 0)))
+      by false a = inl (unchanged w a.lawful refl)
+  goes (Replaces p r) a = by (is_idle_there w p) refl a
+    where
+      by : (b : Bool) → is_idle_there w p ≡ b → (a : Advances t w ok event.Nothing (cond b (placed_at w p (to phase.Idle (record r { me = p }))) w))
+          → Goes ok.shown event.Nothing (moved t w ok) (moved t (cond b (placed_at w p (to phase.Idle (record r { me = p }))) w) a.lawful)
+      by true e a = inl (quiet (placed_at w p (to phase.Idle (record r { me = p }))) a.lawful p (to phase.Idle (record r { me = p })) refl
+          (idle-off (known w.passes p) (both-true (nat_lt p (length w.passes)) (is_idle (known w.passes p).phase) e).1) refl)
+      by false e a = inl (unchanged w a.lawful refl)

@@ -18,7 +18,7 @@ use Rattle.shfl_bound.specs.Changes.{Change, after_change, change_event, shown_e
 use Rattle.shfl_bound.specs.Departures.{Waits, ahead, leaver, left_before}
 use Rattle.shfl_bound.specs.Overtaking.{FirstInFirstOut}
 use Rattle.shfl_bound.proofs.Ahead.{ahead-push, ahead-miss}
-use Rattle.shfl_bound.proofs.Changing.{change-law}
+use Rattle.shfl_bound.proofs.ChangeLaws.{change-law}
 use Rattle.shfl_bound.proofs.Staying.{hand-word, left-more, left-none, own-or}
 use Rattle.shfl_bound.proofs.Bound.{waits-on}
 

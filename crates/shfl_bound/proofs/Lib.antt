@@ -7,5 +7,7 @@ pub mod Staying
 pub mod MovedUp
 pub mod Steps
 pub mod Changing
+pub mod ChangeLaws
 pub mod Bound
 pub mod InOrder
+pub mod SharedSteps

@@ -1,4 +1,4 @@
-use Rattle.shfl_bound.proofs.Changing.{change-law}
+use Rattle.shfl_bound.proofs.ChangeLaws.{change-law}
 use Rattle.shfl_bound.proofs.overtaking.every_change.Goals as goal
 
 pub returns : goal.returns
