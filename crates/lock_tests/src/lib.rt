@@ -6,6 +6,8 @@ mod line_states;
 #[cfg(test)]
 mod one_seat;
 #[cfg(test)]
+mod overtaking;
+#[cfg(test)]
 mod parking_waiter;
 #[cfg(test)]
 mod plain_world;

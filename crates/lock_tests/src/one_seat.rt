@@ -1,6 +1,6 @@
 //! Schedules drawn at random run on a lock over shared words as they do on one over plain words, in every form.
 mod boards;
-mod draws;
+pub mod draws;
 
 ghost use Rattle.std.specs.Prelude.{◌≡◌, ◌<◌, ◌≤◌};
 ghost use Rattle.shfl_core.specs.Waiting.{fresh};
@@ -36,19 +36,19 @@ const OTHER: Attr = Attr {
 
 const ATTRS: [Attr; 7] = [PLAIN, OTHER, PLAIN, PLAIN, OTHER, PLAIN, OTHER];
 
-fn sharing(me: u32, attr: Attr, limit: u16) -> RwLocal
+pub fn sharing(me: u32, attr: Attr, limit: u16) -> RwLocal
     ensures { result ≡ fresh me attr (record { limit = limit; form = RwForm }) }
 {
     RwLocal::new(me, attr, limit, Form::Rw)
 }
 
-fn parking(me: u32, attr: Attr, limit: u16) -> Parked<Local>
+pub fn parking(me: u32, attr: Attr, limit: u16) -> Parked<Local>
     ensures { result ≡ fresh me attr (record { limit = limit; form = ParkForm }) }
 {
     Parked::new(Local::new(me, attr, limit))
 }
 
-fn parking_and_sharing(me: u32, attr: Attr, limit: u16) -> Parked<RwLocal>
+pub fn parking_and_sharing(me: u32, attr: Attr, limit: u16) -> Parked<RwLocal>
     ensures { result ≡ fresh me attr (record { limit = limit; form = RwParkForm }) }
 {
     Parked::new(sharing(me, attr, limit))

@@ -27,7 +27,7 @@ impl Draws {
         Draws { last: seed }
     }
 
-    fn below(&mut self, bound: u32) -> u32
+    pub fn below(&mut self, bound: u32) -> u32
         requires { 0 < bound }
         ensures { result < bound }
     {

@@ -1,0 +1,13 @@
+pub mod Ahead
+pub mod Potential
+pub mod LineEdits
+pub mod LineMarks
+pub mod LineSteps
+pub mod Staying
+pub mod MovedUp
+pub mod Steps
+pub mod Changing
+pub mod ChangeLaws
+pub mod Bound
+pub mod InOrder
+pub mod SharedSteps

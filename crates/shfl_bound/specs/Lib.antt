@@ -1,0 +1,4 @@
+pub mod Changes
+pub mod Departures
+pub mod Overtaking
+pub mod SharedSteps

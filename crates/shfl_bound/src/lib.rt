@@ -1,0 +1,9 @@
+//! How many may leave the queue before a waiter does: laws of every lawful lock, whatever its policies answer.
+#![tactic(auto)]
+
+pub mod overtaking;
+
+pub use overtaking::{
+    every_change, first_in_first_out_at_limit_one, no_policy_starves_a_waiter,
+    steps_on_shared_words_are_changes, what_may_still_leave_before_a_waiter,
+};
