@@ -1,0 +1,17 @@
+pub mod NodeLaws
+pub mod StateWords
+pub mod Attributes
+pub mod Places
+pub mod CacheLines
+pub mod Threads
+pub mod ThreadSteps
+pub mod Touches
+pub mod Elsewhere
+pub mod Operations
+pub mod InitSteps
+pub mod StepLaws
+pub mod AttemptLaws
+pub mod ArenaAttributes
+pub mod ArenaStealing
+pub mod Openings
+pub mod Headlines

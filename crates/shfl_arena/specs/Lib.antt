@@ -1,0 +1,9 @@
+pub mod Nodes
+pub mod NodeLaws
+pub mod Threads
+pub mod ArenaWords
+pub mod CacheLines
+pub mod ArenaRule
+pub mod ArenaSteps
+pub mod ArenaOpening
+pub mod Headlines
