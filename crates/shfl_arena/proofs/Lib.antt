@@ -15,3 +15,13 @@ pub mod ArenaAttributes
 pub mod ArenaStealing
 pub mod Openings
 pub mod Headlines
+pub mod ToldTerms
+pub mod SeatViews
+pub mod ValueMoves
+pub mod Permits
+pub mod SeatPermits
+pub mod Numbers
+pub mod SeatKept
+pub mod Attempts
+pub mod Splits
+pub mod FirstState

@@ -116,7 +116,7 @@ passes-long : (l i : ℕ) (vs : List ThreadView) → length (passes_from l i vs)
 passes-long l i [] = refl
 passes-long l i (x ∷ xs) = ap suc (passes-long l (suc i) xs)
 
-seat-more : (vs : List ThreadView) (r : ℕ) → thread_at (vs ++ new_thread ∷ []) r ≡ thread_at vs r
+pub seat-more : (vs : List ThreadView) (r : ℕ) → thread_at (vs ++ new_thread ∷ []) r ≡ thread_at vs r
 seat-more [] zero = refl
 seat-more [] (suc r) = refl
 seat-more (x ∷ xs) zero = refl

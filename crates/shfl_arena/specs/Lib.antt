@@ -7,3 +7,9 @@ pub mod ArenaRule
 pub mod ArenaSteps
 pub mod ArenaOpening
 pub mod Headlines
+pub mod SeatViews
+pub mod ValueMoves
+pub mod ArenaTable
+pub mod Operations
+pub mod SeatModels
+pub mod SeatSteps
