@@ -1,0 +1,15 @@
+pub mod Nodes
+pub mod NodeLaws
+pub mod Threads
+pub mod ArenaWords
+pub mod CacheLines
+pub mod ArenaRule
+pub mod ArenaSteps
+pub mod ArenaOpening
+pub mod Headlines
+pub mod SeatViews
+pub mod ValueMoves
+pub mod ArenaTable
+pub mod Operations
+pub mod SeatModels
+pub mod SeatSteps

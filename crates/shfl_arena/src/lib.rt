@@ -1,0 +1,22 @@
+//! Many locks on one set of nodes, a node for each thread: the rule of such an arena, what every operation keeps of it, and its seats.
+#![tactic(auto)]
+
+mod arena;
+pub mod laws;
+mod opening;
+mod operation;
+mod performing;
+mod plays;
+mod seats;
+pub mod shape;
+pub mod view;
+
+pub use arena::Arena;
+pub use laws::{
+    a_thread_queues_at_one_lock, each_lock_in_plain_words, every_step_in_an_arena, laws_of_nodes,
+    openings_of_arenas, threads_go_on, words_stand_apart,
+};
+pub use performing::perform;
+pub use seats::ArenaSeat;
+pub use shape::Shape;
+pub use view::{Decision, ThreadView};
