@@ -4,7 +4,7 @@ use Rattle.shfl_line.specs.declared.events.Form.{Form}
 use Rattle.shfl_line.specs.declared.events.Mode.TheVariants.{Write, Read}
 use Rattle.shfl_core.specs.Lawful.{Lawful}
 use Rattle.shfl_core.specs.Plan as core
-use Rattle.shfl_core.specs.Worlds.{World, Move, opening}
+use Rattle.shfl_core.specs.Worlds.{World, Move}
 use Rattle.shfl_laws.specs.Moves.{EachMayMove, terms}
 use Rattle.shfl_laws.proofs.laws.Laws.{laws}
 use Rattle.shfl_laws.proofs.laws.MoveLaws.{run-law}
