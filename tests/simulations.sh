@@ -47,8 +47,11 @@ for setup in "$top"/examples/*.sim; do
         "$top/bin/syncord" line <"$got/run" >"$got/rows" || fail "$name: the run of $policy is no schedule"
         tail -n 1 "$got/rows" | grep -q '^end yes [0-9]* no 0$' || fail "$name: an event of $policy isn't admitted"
         due="$(awk -v policy="$policy" '$1 == "policy" { own = $2 == policy } own && $1 == "order" { print $3 }' "$setup.out")"
-        # a report over several seeds tells no order
-        [ -z "$due" ] || [ "$(holders "$got/rows")" = "$due" ] || fail "$name: others hold in the run of $policy: $(holders "$got/rows") for $due"
+        held="$(holders "$got/rows")"
+        # a report over several seeds tells no order; who has the lock word when a run is cut may not have gained yet
+        cut="$(awk -v policy="$policy" '$1 == "policy" { own = $2 == policy } own && $1 == "cut" { print "cut" }' "$setup.out")"
+        [ -z "$due" ] || [ "$held" = "$due" ] || { [ "$cut" ] && case "$held," in "$due",*) true ;; *) false ;; esac; } ||
+            fail "$name: others hold in the run of $policy: $held for $due"
     done < <(grep '^policy ' "$setup")
 done
 # the program's own name isn't looked at

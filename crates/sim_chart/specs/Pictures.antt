@@ -4,7 +4,7 @@ use Rattle.std.specs.List.{flat_map}
 use Rattle.std.specs.Fmt.{decimal}
 use Rattle.sim_model.specs.declared.bench.Bench.{Bench}
 use Rattle.sim_report.specs.declared.tallies.Key.TheVariants.{Socket}
-use Rattle.sim_report.specs.Reports.{end_of}
+use Rattle.sim_report.specs.Reports.{end_of, time_of}
 use Rattle.sim_report.specs.Tallies.{tally_in, values_of}
 use Rattle.sim_text.specs.Setups.{CandidateModel, SetupModel}
 use Rattle.sim_chart.specs.Bars.{BarModel, chart_text}
@@ -20,12 +20,12 @@ end_bench s c = (end_of s s.load.seeds.first c.rule).bench
 abbrev pub gains_bar : SetupModel → CandidateModel → BarModel
 gains_bar s c = bar c.name (end_bench s c).order.gained
 
--- the longest wait on a socket in a run that ended so
-abbrev pub wait_bar : SetupModel → List ℕ → Bench → ℕ → BarModel
-wait_bar s name b socket = bar (name ++ codes " socket " ++ decimal socket) (tally_in Socket socket s.load.until s.passes b.served).longest
+-- the longest wait on a socket in a run that ended so, up to a time
+abbrev pub wait_bar : SetupModel → List ℕ → ℕ → Bench → ℕ → BarModel
+wait_bar s name time b socket = bar (name ++ codes " socket " ++ decimal socket) (tally_in Socket socket time s.passes b.served).longest
 
 abbrev pub waits_bars : SetupModel → CandidateModel → List BarModel
-waits_bars s c = map (wait_bar s c.name (end_bench s c)) (values_of Socket s.passes)
+waits_bars s c = map (wait_bar s c.name (time_of s s.load.seeds.first c.rule) (end_bench s c)) (values_of Socket s.passes)
 
 -- the beginning of a picture of this height
 unfoldable pub svg_text : ℕ → List ℕ

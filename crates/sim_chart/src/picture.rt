@@ -2,7 +2,7 @@
 ghost use Rattle.std.specs.Prelude.{◌≡◌, ◌≤◌, ◌+◌, ◌*◌, ◌++◌, ◌∷◌, [], length, map, IfOk, OnOk};
 ghost use Rattle.std.specs.List.{flat_map};
 ghost use Rattle.sim_chart.specs.Pictures as pictures;
-ghost use Rattle.sim_report.specs.Reports.{end_of};
+ghost use Rattle.sim_report.specs.Reports.{time_of};
 ghost use Rattle.sim_report.specs.Tallies.{values_of};
 ghost use Rattle.sim_report.specs.declared.tallies.Key.TheVariants.{Socket};
 ghost use Rattle.sim_text.specs.Setups.{IsWithin};
@@ -10,7 +10,7 @@ ghost use Rattle.sim_text.specs.Setups.{IsWithin};
 use crate::bars::{Bar, push_chart};
 use crate::shapes::{push_text_at, push_text_end};
 use shfl_line::NoMemory;
-use sim_model::{Bench, simulate};
+use sim_model::{Bench, simulate, time_reached};
 use sim_report::{Key, push_figure, run_setup, tally_of, values_of};
 use sim_text::{Candidate, SimSetup};
 use std::alloc::{AllocError, Global};
@@ -34,19 +34,27 @@ fn push_gains(
     Ok(())
 }
 
+/// How a run ended: what was counted, and up to when it had come.
+#[derive(Drop)]
+struct End {
+    bench: Bench,
+    time: u64,
+}
+
 // The bar of the longest wait on a socket.
 fn wait_bar(
     alloc: Global,
     setup: &SimSetup,
     name: &[u8],
-    bench: &Bench,
+    end: &End,
     socket: u32,
 ) -> Result<Bar, AllocError>
     requires { IsWithin setup.now }
-    ensures { IfOk result (λ b. b ≡ pictures.wait_bar setup.now name.now bench.now socket) }
+    ensures { IfOk result
+        (λ b. b ≡ pictures.wait_bar setup.now name.now end.now.time end.now.bench socket) }
 {
     let attrs = setup.passes.as_slice();
-    let tally = tally_of(Key::Socket, socket, setup.load.until, attrs, &bench.served);
+    let tally = tally_of(Key::Socket, socket, end.time, attrs, &end.bench.served);
     let mut label = Vec::from_slice(alloc, name)?;
     push_figure(&mut label, b" socket ", u64::from(socket))?;
     Ok(Bar {
@@ -61,30 +69,35 @@ fn push_waits(
     waits: &mut Vec<Bar>,
     setup: &SimSetup,
     name: &[u8],
-    bench: &Bench,
+    end: &End,
 ) -> Result<(), AllocError>
     requires { IsWithin setup.now }
     ensures bars { OnOk result (waits.new.items ≡ waits.old.items
-        ++ map (pictures.wait_bar setup.now name.now bench.now) (values_of Socket setup.now.passes)) }
+        ++ map (pictures.wait_bar setup.now name.now end.now.time end.now.bench)
+        (values_of Socket setup.now.passes)) }
     ensures few { OnOk result (length waits.new.items ≤ length waits.old.items + 64) }
 {
     let sockets = values_of(alloc, Key::Socket, setup.passes.as_slice())?;
     for socket in &sockets {
-        waits.push(wait_bar(alloc, setup, name, bench, *socket)?)?;
+        waits.push(wait_bar(alloc, setup, name, end, *socket)?)?;
     }
     Ok(())
 }
 
-// The run of a policy, of several seeds with the first.
-#[tactic(auto, unfolding(sim_report::specs::Reports::end_of))]
-fn run_of(alloc: Global, setup: &SimSetup, candidate: &Candidate) -> Result<Bench, NoMemory>
+// How the run of a policy ends, of several seeds with the first.
+#[tactic(auto, unfolding(sim_report::specs::Reports::end_of, sim_report::specs::Reports::time_of))]
+fn end_of(alloc: Global, setup: &SimSetup, candidate: &Candidate) -> Result<End, NoMemory>
     requires { IsWithin setup.now }
-    ensures { IfOk result (λ b. b ≡ pictures.end_bench setup.now candidate.now) }
+    ensures bench { IfOk result (λ e. e.bench ≡ pictures.end_bench setup.now candidate.now) }
+    ensures time { IfOk result
+        (λ e. e.time ≡ time_of setup.now setup.now.load.seeds.first candidate.now.rule) }
 {
     let lock = run_setup(setup, setup.load.seeds.first);
     let attrs = setup.passes.as_slice();
     let run = simulate(alloc, &lock, attrs, &candidate.rule, setup.load.turns)?;
-    Ok(run.bench)
+    let time = time_reached(&lock, &run.bench);
+    let bench = run.bench;
+    Ok(End { bench, time })
 }
 
 /// The bars of all policies: their gains, and the longest waits on each socket.
@@ -106,10 +119,10 @@ fn bars_of(alloc: Global, setup: &SimSetup) -> Result<Charts, NoMemory>
     let mut gains = Vec::new(alloc);
     let mut waits = Vec::new(alloc);
     for candidate in &setup.policies {
-        let bench = run_of(alloc, setup, candidate)?;
+        let end = end_of(alloc, setup, candidate)?;
         let name = candidate.name.as_slice();
-        push_gains(alloc, &mut gains, name, bench.order.gained)?;
-        push_waits(alloc, &mut waits, setup, name, &bench)?;
+        push_gains(alloc, &mut gains, name, end.bench.order.gained)?;
+        push_waits(alloc, &mut waits, setup, name, &end)?;
     }
     Ok(Charts { gains, waits })
 }

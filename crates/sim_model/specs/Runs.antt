@@ -123,6 +123,15 @@ is_due (Some e) = true
 abbrev pub is_cut : Setup → Bench → Bool
 is_cut s b = is_due (next_turn s b)
 
+-- the time of a turn, or this one where there is none
+abbrev pub time_or : ℕ → Option Entry → ℕ
+time_or until None = until
+time_or until (Some e) = e.at
+
+-- up to when a run that stands so has come: its end, or where it is cut the time of the turn that would come next
+abbrev pub time_reached : Setup → Bench → ℕ
+time_reached s b = time_or s.until (next_turn s b)
+
 abbrev pub turning : {A : Type 0} → Option Entry → A → (Entry → A) → A
 turning None stops further = stops
 turning (Some e) stops further = further e

@@ -26,7 +26,7 @@ pub use counts::{Counts, Order, Reaches, Served};
 pub use laws::{polls_change_nothing, runs_are_schedules, sums_agree, times_never_fall};
 pub use lines::{Line, Reach};
 pub use locks::open_lock;
-pub use run::{Run, is_cut, next_entry, simulate, take_turn};
+pub use run::{Run, is_cut, next_entry, simulate, take_turn, time_reached};
 pub use setup::{Core, Costs, Layout, Setup, Work, cores_of};
 pub use turns::{Entry, Stand, Turn};
 pub use waiter::AnyWaiter;

@@ -146,6 +146,17 @@ pub fn is_cut(setup: &Setup, bench: &Bench) -> bool
     next_entry(setup, bench).is_some()
 }
 
+/// Up to when a run that stands so has come: its end, or where it is cut the time of the turn that would come next.
+pub fn time_reached(setup: &Setup, bench: &Bench) -> u64
+    requires { setup.now.passes ≤ 64 }
+    ensures { result ≡ runs.time_reached setup.now bench.now }
+{
+    match next_entry(setup, bench) {
+        None => setup.until,
+        Some(entry) => entry.at,
+    }
+}
+
 // One wait more, where there is one.
 fn note(waits: &mut Vec<u64>, wait: Option<u64>) -> Result<(), NoMemory>
     ensures { IsOk result → waits.new.items ≡ waits.old.items ++ runs.listed wait }

@@ -12,7 +12,7 @@ use Rattle.sim_text.specs.Setups.{SetupModel}
 use Rattle.sim_report.specs.declared.tallies.Key.{Key}
 use Rattle.sim_report.specs.declared.tallies.Key.TheVariants.{All, Socket, Prio, Class}
 use Rattle.sim_report.specs.declared.tallies.Tally.{Tally}
-use Rattle.sim_report.specs.Reports.{end_of, cut_of}
+use Rattle.sim_report.specs.Reports.{end_of, cut_of, time_of}
 use Rattle.sim_report.specs.Tallies.{tally_in, values_of, rising, half_of, most_of}
 
 -- gains, reads, steals, and those of the socket of the gain before
@@ -41,15 +41,15 @@ tally_figures t = t.gained ∷ t.waited ∷ t.longest ∷ t.overtaken ∷ []
 abbrev pub values_figures : Key → ℕ → List Attr → List Served → List ℕ
 values_figures key until attrs served = flat_map (λ value. tally_figures (tally_in key value until attrs served)) (values_of key attrs)
 
--- what a run came to, of passes with these attributes
+-- what a run came to up to a time, of passes with these attributes
 unfoldable pub bench_figures : ℕ → List Attr → Bench → List ℕ → Bool → List ℕ
-bench_figures until attrs b waits cut = let t = tally_in All 0 until attrs b.served in
+bench_figures time attrs b waits cut = let t = tally_in All 0 time attrs b.served in
     gains_figures t b.order ++ counts_figures b.counts ++ waits_figures t waits cut
-    ++ values_figures Socket until attrs b.served ++ values_figures Prio until attrs b.served ++ values_figures Class until attrs b.served
+    ++ values_figures Socket time attrs b.served ++ values_figures Prio time attrs b.served ++ values_figures Class time attrs b.served
 
 -- the figures of a policy's run with one seed
 unfoldable pub run_figures : SetupModel → Rule → ℕ → List ℕ
-run_figures s rule seed = let e = end_of s seed rule in bench_figures s.load.until s.passes e.bench (rising e.waits) (cut_of s seed rule)
+run_figures s rule seed = let e = end_of s seed rule in bench_figures (time_of s seed rule) s.passes e.bench (rising e.waits) (cut_of s seed rule)
 
 -- those of its runs with so many seeds, from the first on
 abbrev pub figures_below : SetupModel → Rule → ℕ → List (List ℕ)

@@ -14,7 +14,7 @@ use Rattle.sim_model.specs.declared.counts.Reaches.{Reaches}
 use Rattle.sim_model.specs.declared.counts.Served.{Served}
 use Rattle.sim_model.specs.declared.setup.Setup.{Setup}
 use Rattle.sim_model.specs.Openings.{cores_below}
-use Rattle.sim_model.specs.Runs.{State, ran, opening_state, is_cut}
+use Rattle.sim_model.specs.Runs.{State, ran, opening_state, is_cut, time_reached}
 use Rattle.sim_text.specs.declared.setup.Rule.{Rule}
 use Rattle.sim_report.specs.declared.tallies.Key.{Key}
 use Rattle.sim_report.specs.declared.tallies.Key.TheVariants.{All, Socket, Prio, Class}
@@ -45,6 +45,10 @@ end_of s seed rule = ran (run_setup s seed) (rule_advice rule) s.load.turns (ope
 -- whether it had turns left then
 unfoldable pub cut_of : SetupModel → ℕ → Rule → Bool
 cut_of s seed rule = is_cut (run_setup s seed) (end_of s seed rule).bench
+
+-- up to when it had come: a run without turns left to its end
+unfoldable pub time_of : SetupModel → ℕ → Rule → ℕ
+time_of s seed rule = time_reached (run_setup s seed) (end_of s seed rule).bench
 
 -- ---- the lines
 
@@ -126,24 +130,25 @@ listed (part ∷ parts) = part ++ more_parts parts
 unfoldable pub order_text : Order → List ℕ
 order_text o = codes "order " ++ encode_lower (to_be_bytes w64 o.hash) ++ codes " " ++ listed (map decimal (take (min 16 o.gained) o.first)) ++ codes "\n"
 
--- `cut after N turns`, where a run had turns left
-unfoldable pub cut_text : Bool → ℕ → List ℕ
-cut_text cut turns = cond cut (codes "cut after " ++ decimal turns ++ codes " turns\n") []
+-- `cut after N turns at T`, where a run had turns left: the next would have come at T
+unfoldable pub cut_text : Bool → ℕ → ℕ → List ℕ
+cut_text cut turns time = cond cut (codes "cut after " ++ decimal turns ++ codes " turns at " ++ decimal time ++ codes "\n") []
 
 -- ---- the whole
 
--- what a run came to, of passes with these attributes
+-- what a run came to up to a time, of passes with these attributes
 unfoldable pub bench_text : ℕ → List Attr → Bench → List ℕ → List ℕ
-bench_text until attrs b waits = let t = tally_in All 0 until attrs b.served in
+bench_text time attrs b waits = let t = tally_in All 0 time attrs b.served in
     gains_text t b.order ++ counts_text b.counts ++ waits_text t waits
-    ++ values_text Socket until attrs b.served ++ values_text Prio until attrs b.served ++ values_text Class until attrs b.served ++ order_text b.order
+    ++ values_text Socket time attrs b.served ++ values_text Prio time attrs b.served ++ values_text Class time attrs b.served ++ order_text b.order
 
--- a policy's name, whether its run was cut, and what it came to
-unfoldable pub run_text : SetupModel → List ℕ → Bool → Bench → List ℕ → List ℕ
-run_text s name cut b waits = name_text name ++ cut_text cut s.load.turns ++ bench_text s.load.until s.passes b waits
+-- a policy's name, whether its run was cut, and what it came to up to a time
+unfoldable pub run_text : SetupModel → List ℕ → Bool → ℕ → Bench → List ℕ → List ℕ
+run_text s name cut time b waits = name_text name ++ cut_text cut s.load.turns time ++ bench_text time s.passes b waits
 
 unfoldable pub policy_text : SetupModel → CandidateModel → List ℕ
-policy_text s c = let e = end_of s s.load.seeds.first c.rule in run_text s c.name (cut_of s s.load.seeds.first c.rule) e.bench (rising e.waits)
+policy_text s c = let first = s.load.seeds.first in let e = end_of s first c.rule in
+    run_text s c.name (cut_of s first c.rule) (time_of s first c.rule) e.bench (rising e.waits)
 
 -- the report of a setup, of several seeds with the first
 unfoldable pub single_text : SetupModel → List ℕ

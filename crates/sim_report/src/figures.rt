@@ -99,22 +99,22 @@ fn push_values(
 fn push_ended(
     alloc: Global,
     out: &mut Vec<u64>,
-    until: u64,
     attrs: &[Attr],
     ended: &Ended,
 ) -> Result<(), AllocError>
     requires { length attrs.now ≤ 64 }
-    ensures { OnOk result (out.new.items ≡ out.old.items ++ figures.bench_figures until
+    ensures { OnOk result (out.new.items ≡ out.old.items ++ figures.bench_figures ended.now.time
         attrs.now ended.now.bench ended.now.waits.items ended.now.cut) }
 {
+    let time = ended.time;
     let served = &ended.bench.served;
-    let tally = tally_of(Key::All, 0, until, attrs, served);
+    let tally = tally_of(Key::All, 0, time, attrs, served);
     push_gains(out, &tally, &ended.bench.order)?;
     push_counts(out, &ended.bench.counts)?;
     push_waits(out, &tally, ended.waits.as_slice(), ended.cut)?;
-    push_values(alloc, out, Key::Socket, until, attrs, served)?;
-    push_values(alloc, out, Key::Prio, until, attrs, served)?;
-    push_values(alloc, out, Key::Class, until, attrs, served)
+    push_values(alloc, out, Key::Socket, time, attrs, served)?;
+    push_values(alloc, out, Key::Prio, time, attrs, served)?;
+    push_values(alloc, out, Key::Class, time, attrs, served)
 }
 
 // The figures of a policy's run with one seed.
@@ -130,13 +130,7 @@ fn run_figures(
 {
     let ended = run_of(alloc, setup, seed, rule)?;
     let mut out = Vec::new(alloc);
-    push_ended(
-        alloc,
-        &mut out,
-        setup.load.until,
-        setup.passes.as_slice(),
-        &ended,
-    )?;
+    push_ended(alloc, &mut out, setup.passes.as_slice(), &ended)?;
     Ok(out)
 }
 

@@ -12,7 +12,7 @@ use crate::tallies::{Key, tally_of, values_of};
 use lock_words::form_name;
 use shfl_core::Rules;
 use shfl_line::{Attr, Form, NoMemory};
-use sim_model::{Bench, Served, Setup, cores_of, is_cut, simulate};
+use sim_model::{Bench, Served, Setup, cores_of, is_cut, simulate, time_reached};
 use sim_text::{Candidate, Rule, SimSetup};
 use std::alloc::{AllocError, Global};
 
@@ -112,22 +112,22 @@ fn push_values(
 fn push_bench(
     alloc: Global,
     out: &mut Vec<u8>,
-    until: u64,
+    time: u64,
     attrs: &[Attr],
     bench: &Bench,
     waits: &[u64],
 ) -> Result<(), AllocError>
     requires { length attrs.now ≤ 64 }
     ensures { OnOk result (out.new.items
-        ≡ out.old.items ++ texts.bench_text until attrs.now bench.now waits.now) }
+        ≡ out.old.items ++ texts.bench_text time attrs.now bench.now waits.now) }
 {
-    let tally = tally_of(Key::All, 0, until, attrs, &bench.served);
+    let tally = tally_of(Key::All, 0, time, attrs, &bench.served);
     push_gains(out, &tally, &bench.order)?;
     push_counts(out, &bench.counts)?;
     push_waits(out, &tally, waits)?;
-    push_values(alloc, out, Key::Socket, until, attrs, &bench.served)?;
-    push_values(alloc, out, Key::Prio, until, attrs, &bench.served)?;
-    push_values(alloc, out, Key::Class, until, attrs, &bench.served)?;
+    push_values(alloc, out, Key::Socket, time, attrs, &bench.served)?;
+    push_values(alloc, out, Key::Prio, time, attrs, &bench.served)?;
+    push_values(alloc, out, Key::Class, time, attrs, &bench.served)?;
     push_order(alloc, out, &bench.order)
 }
 
@@ -148,24 +148,33 @@ pub struct Ended {
     pub waits: Vec<u64>,
     /// Whether it had turns left.
     pub cut: bool,
+    /// Up to when it had come.
+    pub time: u64,
 }
 
 /// The run of a rule with this seed.
-#[tactic(auto, unfolding(crate::specs::Reports::end_of, crate::specs::Reports::cut_of))]
+#[tactic(auto, unfolding(crate::specs::Reports::end_of, crate::specs::Reports::cut_of, crate::specs::Reports::time_of))]
 pub fn run_of(alloc: Global, setup: &SimSetup, seed: u64, rule: &Rule) -> Result<Ended, NoMemory>
     requires { IsWithin setup.now }
     ensures bench { IfOk result (λ e. e.bench ≡ (texts.end_of setup.now seed rule.now).bench) }
     ensures waits { IfOk result
         (λ e. e.waits.items ≡ rising (texts.end_of setup.now seed rule.now).waits) }
     ensures cut { IfOk result (λ e. e.cut ≡ texts.cut_of setup.now seed rule.now) }
+    ensures time { IfOk result (λ e. e.time ≡ texts.time_of setup.now seed rule.now) }
 {
     let lock = run_setup(setup, seed);
     let attrs = setup.passes.as_slice();
     let run = simulate(alloc, &lock, attrs, rule, setup.load.turns)?;
     let cut = is_cut(&lock, &run.bench);
+    let time = time_reached(&lock, &run.bench);
     let bench = run.bench;
     let waits = in_order(run.waits)?;
-    Ok(Ended { bench, waits, cut })
+    Ok(Ended {
+        bench,
+        waits,
+        cut,
+        time,
+    })
 }
 
 #[tactic(auto, unfolding(crate::specs::Reports::run_text))]
@@ -174,18 +183,23 @@ fn push_run(
     out: &mut Vec<u8>,
     setup: &SimSetup,
     name: &[u8],
-    cut: bool,
-    bench: &Bench,
-    waits: &[u64],
+    ended: &Ended,
 ) -> Result<(), AllocError>
     requires { length setup.now.passes ≤ 64 }
-    ensures { OnOk result (out.new.items
-        ≡ out.old.items ++ texts.run_text setup.now name.now cut bench.now waits.now) }
+    ensures { OnOk result (out.new.items ≡ out.old.items ++ texts.run_text setup.now name.now
+        ended.now.cut ended.now.time ended.now.bench ended.now.waits.items) }
 {
     let attrs = setup.passes.as_slice();
     push_name(out, name)?;
-    push_cut(out, cut, setup.load.turns)?;
-    push_bench(alloc, out, setup.load.until, attrs, bench, waits)
+    push_cut(out, ended.cut, setup.load.turns, ended.time)?;
+    push_bench(
+        alloc,
+        out,
+        ended.time,
+        attrs,
+        &ended.bench,
+        ended.waits.as_slice(),
+    )
 }
 
 // What the run of a policy comes to.
@@ -201,9 +215,7 @@ fn push_policy(
         ≡ out.old.items ++ texts.policy_text setup.now candidate.now) }
 {
     let ended = run_of(alloc, setup, setup.load.seeds.first, &candidate.rule)?;
-    let name = candidate.name.as_slice();
-    let waits = ended.waits.as_slice();
-    push_run(alloc, out, setup, name, ended.cut, &ended.bench, waits)?;
+    push_run(alloc, out, setup, candidate.name.as_slice(), &ended)?;
     Ok(())
 }
 

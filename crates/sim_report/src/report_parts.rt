@@ -187,14 +187,15 @@ pub fn push_order(alloc: Global, out: &mut Vec<u8>, order: &Order) -> Result<(),
     out.extend_from_slice(b"\n")
 }
 
-/// That a run had turns left.
+/// That a run had turns left, and up to when it had come.
 #[tactic(auto, unfolding(crate::specs::Reports::cut_text))]
-pub fn push_cut(out: &mut Vec<u8>, cut: bool, turns: u32) -> Result<(), AllocError>
-    ensures { OnOk result (out.new.items ≡ out.old.items ++ texts.cut_text cut turns) }
+pub fn push_cut(out: &mut Vec<u8>, cut: bool, turns: u32, time: u64) -> Result<(), AllocError>
+    ensures { OnOk result (out.new.items ≡ out.old.items ++ texts.cut_text cut turns time) }
 {
     if !cut {
         return Ok(());
     }
     push_figure(out, b"cut after ", u64::from(turns))?;
-    out.extend_from_slice(b" turns\n")
+    push_figure(out, b" turns at ", time)?;
+    out.extend_from_slice(b"\n")
 }
