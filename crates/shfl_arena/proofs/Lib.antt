@@ -25,3 +25,4 @@ pub mod SeatKept
 pub mod Attempts
 pub mod Splits
 pub mod FirstState
+pub mod WaitSteps

@@ -105,6 +105,7 @@ module _ {X : Type 0} (shape : Shape) (rules : Rules) (own : PassState) (lock : 
       form = go.form;
       row = λ j. record { arena = record { table = there j; rules = rules; shape = shape }; lock = lock; own = e j; holds = (ap (λ (z : SeatView). z.thread.holds) go.seat ∙ held-then) j; steps_taken = (go.seat j).steps_taken; decisions = (go.seat j).decisions; values = me'.1 };
       number = ap (λ (z : PassState). z.reg.me) e ∙ take-number rules own.reg.me own n choice;
+      waits = λ g. ap (λ (z : SeatView). z.thread.holds) go.seat ∙ (held-then ∙ ap (λ b. cond b me.0.thread.holds (holds_after lock q0 me.0.thread.holds)) (ap moving (sym e) ∙ g));
       here = λ g. ap (mode_held lock) (ap (λ (z : SeatView). z.thread.holds) go.seat ∙ held-then) ∙ (holds-here lock q0 me.0.thread.holds (ap moving (sym e) ∙ g) ∙ ap hold_of (sym e));
       elsewhere = λ l d. ap (mode_held l) (ap (λ (z : SeatView). z.thread.holds) go.seat ∙ held-then) ∙ holds-else l lock q0 me.0.thread.holds d;
       value = subst (λ (z : PassState). MovesValue {V = X} id.slots lock (writes own) (writes z) me.1 me'.1) (sym e) go.value;

@@ -13,3 +13,4 @@ pub mod ArenaTable
 pub mod Operations
 pub mod SeatModels
 pub mod SeatSteps
+pub mod Waits

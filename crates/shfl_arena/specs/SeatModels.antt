@@ -46,6 +46,10 @@ pub record SeatModel (X : Type 0) : Type 0 where
 abbrev pub fresh_seat : {X : Type 0} → ArenaId → ℕ → SeatModel X
 fresh_seat id k = record { arena = id; lock = 0; own = idle k; holds = []; steps_taken = 0; decisions = []; values = [] }
 
+-- a seat of this arena that did nothing
+abbrev pub IsNewAt : {X : Type 0} → ArenaId → SeatModel X → Type 0
+IsNewAt id s = (s.arena ≡ id) × (moving s.own ≡ false) × (s.holds ≡ []) × (s.values ≡ [])
+
 -- the pass of the number k that has just begun to take a lock, or to give it back
 abbrev pub entering : ℕ → Mode → PassState
 entering k mode = record (idle k) { phase = entry mode; reg = record (idle k).reg { mode = mode } }

@@ -33,6 +33,7 @@ pub record TakesStep {X : Type 0} (old : SeatModel X) (choice : Bool) (new : Sea
     values = new.values;
   }
   pub number : new.own.reg.me ≡ old.own.reg.me
+  pub waits : moving new.own ≡ true → new.holds ≡ old.holds
   -- where it has no step to make any more, it holds that lock at rest exactly where it holds it; and the other locks as before
   pub here : moving new.own ≡ false → mode_held old.lock new.holds ≡ hold_of new.own
   pub elsewhere : (l : ℕ) → l ≢ old.lock → mode_held l new.holds ≡ mode_held l old.holds

@@ -1,5 +1,5 @@
 -- Values behind the locks: a lock that nobody holds as a writer has its value at home, and an operation moves no other value.
-use Rattle.std.specs.Prelude.{◌≡◌, ℕ, ◌<◌, ◌≤◌, ◌&&◌, Bool, true, false, List, ◌∷◌, length, Option, Some}
+use Rattle.std.specs.Prelude.{◌≡◌, ℕ, ◌<◌, ◌≤◌, ◌&&◌, Bool, true, false, List, ◌∷◌, length, Option, Some, None}
 use mathlib.Core.Option.{some}
 use lib.ListN.{get_elem?}
 use Rattle.atomic_table.specs.Table.{rest}
@@ -34,6 +34,10 @@ pub record MovesValue {V : Type 0} (slots l : ℕ) (before after : Bool) (old ne
 -- whoever gives a lock with a value back has the value, and in front
 abbrev pub HasInFront : {V : Type 0} → ℕ → List (ℕ × Option V) → Type 0
 HasInFront {V} l carried = (x : V) × (carried ≡ (l, Some x) ∷ rest carried)
+
+-- the value in front is that of the lock l, and it was taken out
+abbrev pub IsOutInFront : {V : Type 0} → ℕ → List (ℕ × Option V) → Type 0
+IsOutInFront {V} l carried = carried ≡ (l, None) ∷ rest carried
 
 abbrev pub MayGive : {V : Type 0} → ℕ → ℕ → Bool → Bool → List (ℕ × Option V) → Type 0
 MayGive slots l before after carried = l < slots → before ≡ true → after ≡ false → HasInFront l carried

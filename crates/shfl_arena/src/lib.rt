@@ -9,7 +9,10 @@ mod performing;
 mod plays;
 mod seats;
 pub mod shape;
+mod standing;
+mod values;
 pub mod view;
+mod waiting;
 
 pub use arena::Arena;
 pub use laws::{
@@ -20,3 +23,4 @@ pub use performing::perform;
 pub use seats::ArenaSeat;
 pub use shape::Shape;
 pub use view::{Decision, ThreadView};
+pub use waiting::{free, wait_for};

@@ -1,10 +1,10 @@
 //! The opening of an arena.
-ghost use Rattle.std.specs.Prelude.{◌≡◌, ℕ, ◌+◌, ◌*◌, ◌<◌, ◌≤◌, [], map, IfOk, length, vec_len, slice_get, Some};
+ghost use Rattle.std.specs.Prelude.{◌≡◌, ℕ, ◌+◌, ◌*◌, ◌<◌, ◌≤◌, [], map, All, IfOk, length, vec_len, slice_get, Some};
 ghost use Rattle.shfl_arena.specs.ArenaOpening as openings;
 ghost use Rattle.shfl_arena.specs.ArenaWords as words;
 ghost use Rattle.shfl_arena.specs.ArenaWords.{word_count};
 ghost use Rattle.shfl_arena.specs.Threads.{new_thread};
-ghost use Rattle.shfl_arena.specs.SeatModels.{fresh_seat};
+ghost use Rattle.shfl_arena.specs.SeatModels.{IsNewAt, fresh_seat};
 ghost use Rattle.shfl_arena.specs.SeatViews.{new_seat};
 ghost use Rattle.shfl_core.specs.Words.{most_passes};
 
@@ -124,6 +124,7 @@ impl<V: Drop> Arena<V> {
         ensures count { IfOk result (λ r. vec_len r.1 ≡ length attrs.now) }
         ensures seats { IfOk result (λ r. (i : ℕ) → i < vec_len r.1
             → slice_get r.1.items i ≡ Some (fresh_seat r.0.id i)) }
+        ensures fresh { IfOk result (λ r. All (IsNewAt r.0.id) r.1.items) }
     {
         let words = arena_words(alloc, shape, attrs)?;
         let rules = Rules { limit, form };

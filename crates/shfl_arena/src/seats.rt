@@ -3,7 +3,6 @@ ghost use Rattle.std.specs.Prelude.{◌≡◌, ◌<◌, ◌∷◌, true, false, 
 ghost use Rattle.shfl_line.specs.declared.events.Mode.TheVariants.{Write};
 ghost use Rattle.shfl_core.specs.Plan as plan;
 ghost use Rattle.shfl_core.specs.Take as take;
-ghost use Rattle.shfl_core.specs.Waiting as waiting;
 ghost use Rattle.shfl_core.specs.Waiting.{MayUse};
 ghost use Rattle.shfl_arena.specs.SeatModels.{entering, leaving};
 ghost use Rattle.shfl_arena.specs.SeatSteps.{TakesStep, WinsAttempt, LosesAttempt, TriesOnce};
@@ -15,9 +14,9 @@ use crate::operation::{attempt_once, disable_once, operate, store_attribute};
 use crate::shape::Shape;
 use crate::view::SeatView;
 use atomic_table::Seat;
-use shfl_core::asks::{ask_row, attempt_row_in_place, idle_pass, is_moving, watch_row};
+use shfl_core::asks::{attempt_row_in_place, idle_pass, is_moving};
 use shfl_core::rows::take_row_in_place;
-use shfl_core::{Ask, Nap, PassState, Phase, Rules, Watch};
+use shfl_core::{PassState, Phase, Rules};
 use shfl_line::{Attr, Mode};
 use std::marker::{Brand, Model};
 
@@ -94,70 +93,6 @@ fn leaving_pass(number: u32, mode: Mode) -> PassState
 }
 
 impl<V: Drop> ArenaSeat<V> {
-    /// Its place among the seats of the arena, from 0 on.
-    #[inline(always)]
-    pub fn number(&self) -> u32
-        ensures { result ≡ self.now.own.reg.me }
-    {
-        self.own.reg.me
-    }
-
-    /// The lock at which its last call was made.
-    #[inline(always)]
-    pub fn lock(&self) -> u32
-        ensures { result ≡ self.now.lock }
-    {
-        self.lock
-    }
-
-    /// Where its pass stands at that lock.
-    #[inline(always)]
-    pub fn phase(&self) -> Phase
-        ensures { result ≡ self.now.own.phase }
-    {
-        self.own.phase
-    }
-
-    /// Whether it is awake or parked, or between the two.
-    #[inline(always)]
-    pub fn nap(&self) -> Nap
-        ensures { result ≡ self.now.own.nap }
-    {
-        self.own.nap
-    }
-
-    /// Whether its last call or step left it holding that lock.
-    #[inline(always)]
-    pub fn held(&self) -> bool
-        ensures { result ≡ plan.is_held self.now.own.phase }
-    {
-        matches!(self.own.phase, Phase::Held)
-    }
-
-    /// Whether it has a step to make, at the lock of its last call.
-    #[inline(always)]
-    pub fn moving(&self) -> bool
-        ensures { result ≡ plan.moving self.now.own }
-    {
-        is_moving(self.own)
-    }
-
-    /// What its next step asks the policy.
-    #[inline(always)]
-    pub fn ask(&self) -> Ask
-        ensures { result ≡ waiting.ask self.now.arena.rules self.now.own }
-    {
-        ask_row(self.rules, self.own)
-    }
-
-    /// Whom its next step may make ready or group, and so wake.
-    #[inline(always)]
-    pub fn watch(&self) -> Watch
-        ensures { result ≡ waiting.watch_at self.now.own.reg self.now.own.phase }
-    {
-        watch_row(self.own)
-    }
-
     /// Begins to take a lock that it doesn't hold: steps follow until it is held. False, and nothing changes, where the seat has a step
     /// to make.
     #[inline(always)]

@@ -1,0 +1,128 @@
+-- A seat that waits goes on waiting by each step, until it holds the lock.
+use Rattle.std.proofs.Common.{◌≡◌, ◌≢◌, ℕ, ◌==◌, Bool, true, false, cond, List, ◌∷◌, refl, sym, ap, ◌∙◌, subst, ⊎_elim, arith}
+use Rattle.std.specs.Prelude.{Option, Some, None}
+use Rattle.shfl_line.specs.declared.events.Mode.{Mode}
+use Rattle.shfl_line.specs.declared.events.Mode.TheVariants.{Write, Read}
+use Rattle.shfl_core.specs.declared.phase.Phase.{Phase}
+use Rattle.shfl_core.specs.declared.phase.Phase.TheVariants.{Release, ReadRelease}
+use Rattle.shfl_core.specs.declared.phase.PassState.{PassState}
+use Rattle.shfl_core.specs.Phases.{is_holding}
+use Rattle.shfl_core.specs.Plan.{moving}
+use Rattle.shfl_core.specs.Take.{take}
+use Rattle.std.proofs.lemmas.Bool.Decides.{nat_tests}
+use Rattle.shfl_laws.specs.Holds.{hold_of, is_ending, is_releasing}
+use Rattle.shfl_laws.proofs.laws.Holds.{take-mode}
+use Rattle.shfl_laws.proofs.laws.Waits.{waits-on}
+use Rattle.shfl_laws.proofs.laws.MoveLaws.{resting-is}
+use Rattle.shfl_arena.specs.Threads.{mode_held, resting}
+use Rattle.shfl_arena.specs.ValueMoves.{writes, MovesValue}
+use Rattle.shfl_arena.specs.SeatModels.{SeatModel, entering}
+use Rattle.shfl_arena.specs.SeatSteps.{TakesStep, WinsAttempt, LosesAttempt}
+use Rattle.shfl_arena.specs.Waits.{WaitsFor}
+use Rattle.shfl_arena.proofs.Threads.{still-is}
+use Rattle.shfl_arena.proofs.ValueMoves.{frees-writer}
+
+-- one move of a value after another, where a hold that came stays
+then-value : {X : Type 0} (slots l : ℕ) (b b' : Bool) (c d e : List (ℕ × Option X)) → (b ≡ true → b' ≡ true) → MovesValue {V = X} slots l false b c d → MovesValue {V = X} slots l b b' d e → MovesValue {V = X} slots l false b' c e
+then-value {X} slots l false b' c d e keeps m n = record {
+  stays = λ h. n.stays h ∙ m.stays refl;
+  none = λ h. n.none h ∙ m.none h;
+  gains = λ h z t. (let y = n.gains h refl t in (y.0, y.1 ∙ ap (λ k. (l, Some y.0) ∷ k) (m.stays refl)));
+  frees = λ h z t. absurd (cc);
+}
+then-value {X} slots l true b' c d e keeps m n = let t : b' ≡ true = keeps refl in record {
+  stays = λ h. absurd (let z : false ≡ true = h ∙ t in cc);
+  none = λ h. n.none h ∙ m.none h;
+  gains = λ h z w. (let y = m.gains h refl refl in (y.0, n.stays (sym t) ∙ y.1));
+  frees = λ h z w. absurd (cc);
+}
+
+-- a pass that neither is idle nor leaves, and has no step to make, holds
+holds-still : (q : PassState) → is_ending q.phase ≡ false → moving q ≡ false → hold_of q ≡ Some q.reg.mode
+holds-still q on still = ⊎_elim
+    (λ f. absurd (let z : is_ending q.phase ≡ true = ap is_ending f in cc))
+    (λ r. (let f = (resting-is q r).0 in ap (λ z. cond (is_holding z) (Some q.reg.mode) None) f))
+    (still-is q still)
+
+not-releasing : (f : Phase) → is_ending f ≡ false → is_releasing f ≡ true → ⊥
+not-releasing Release e r = cc
+not-releasing ReadRelease e r = cc
+not-releasing _ e r = cc
+
+module _ {X : Type 0} (lock : ℕ) (mode : Mode) (old : SeatModel X) where
+  pub waits-more : (mid new : SeatModel X) (choice : Bool) → WaitsFor {X = X} lock mode old mid → TakesStep {X = X} mid choice new → WaitsFor {X = X} lock mode old new
+  waits-more mid new choice w s = record {
+    arena = ap (λ (z : SeatModel X). z.arena) s.row ∙ w.arena;
+    number = s.number ∙ w.number;
+    lock_is = ap (λ (z : SeatModel X). z.lock) s.row ∙ w.lock_is;
+    mode_is = mode';
+    goes_on = on';
+    here = λ g. subst (λ l. mode_held l new.holds ≡ Some mode) w.lock_is (s.here g ∙ (holds-still new.own on' g ∙ ap Some mode'));
+    elsewhere = λ l d. s.elsewhere l (λ e. d (e ∙ w.lock_is)) ∙ w.elsewhere l d;
+    value = then-value {X = X} old.arena.table.slots lock (writes mid.own) (writes new.own) old.values mid.values new.values keeps w.value
+        (subst (λ (z : ℕ × ℕ). MovesValue {V = X} z.0 z.1 (writes mid.own) (writes new.own) mid.values new.values) (λ j. ((ap (λ z. z.table.slots) w.arena) j, w.lock_is j)) s.value);
+  }
+    where
+      own-is : new.own ≡ take mid.arena.rules mid.own.reg.me mid.own s.found choice
+      own-is = ap (λ (z : SeatModel X). z.own) s.row
+
+      mode' : new.own.reg.mode ≡ mode
+      mode' = ap (λ (z : PassState). z.reg.mode) own-is ∙ (take-mode mid.arena.rules mid.own.reg.me mid.own s.found choice ∙ w.mode_is)
+
+      on' : is_ending new.own.phase ≡ false
+      on' = ap (λ (z : PassState). is_ending z.phase) own-is ∙ waits-on mid.arena.rules mid.own.reg.me mid.own s.found choice w.goes_on
+
+      keeps : writes mid.own ≡ true → writes new.own ≡ true
+      keeps h = by (writes new.own) refl
+        where
+          by : (b : Bool) → writes new.own ≡ b → writes new.own ≡ true
+          by true e = e
+          by false e = absurd (not-releasing mid.own.phase w.goes_on (frees-writer mid.arena.rules mid.own.reg.me mid.own s.found choice h (ap writes (sym own-is) ∙ e)).0)
+
+  entering-on : (k : ℕ) (m : Mode) → (is_ending (entering k m).phase ≡ false) × (moving (entering k m) ≡ true) × (writes (entering k m) ≡ false)
+  entering-on k Write = (refl, refl, refl)
+  entering-on k Read = (refl, refl, refl)
+
+  -- a seat that was refused, and then began to take the lock
+  pub waits-begin : (mid new : SeatModel X) (word : ℕ) → LosesAttempt {X = X} lock mode word old mid → new ≡ record mid { lock = lock; own = entering mid.own.reg.me mode } → WaitsFor {X = X} lock mode old new
+  waits-begin mid new word l e = let p = entering-on mid.own.reg.me mode in record {
+    arena = ap (λ (z : SeatModel X). z.arena) e ∙ ap (λ (z : SeatModel X). z.arena) l.after;
+    number = ap (λ (z : SeatModel X). z.own.reg.me) e ∙ ap (λ (z : SeatModel X). z.own.reg.me) l.after;
+    lock_is = ap (λ (z : SeatModel X). z.lock) e;
+    mode_is = ap (λ (z : SeatModel X). z.own.reg.mode) e;
+    goes_on = ap (λ (z : SeatModel X). is_ending z.own.phase) e ∙ p.0;
+    here = λ g. absurd (let z : moving new.own ≡ true = ap (λ (z : SeatModel X). moving z.own) e ∙ p.1 in cc);
+    elsewhere = λ i d. ap (λ (z : SeatModel X). mode_held i z.holds) e ∙ ap (λ (z : SeatModel X). mode_held i z.holds) l.after;
+    value = let same : new.values ≡ old.values = ap (λ (z : SeatModel X). z.values) e ∙ ap (λ (z : SeatModel X). z.values) l.after in
+        let still : writes new.own ≡ false = ap (λ (z : SeatModel X). writes z.own) e ∙ p.2 in record {
+          stays = λ _. same;
+          none = λ _. same;
+          gains = λ _ _ t. absurd (let z : false ≡ true = sym still ∙ t in cc);
+          frees = λ _ t _. absurd (cc);
+        };
+  }
+
+  resting-on : (k : ℕ) (m : Mode) → (is_ending (resting k m).phase ≡ false) × (moving (resting k m) ≡ false)
+  resting-on k m = (refl, refl)
+
+  -- a seat whose attempt took the lock
+  pub waits-won : (new : SeatModel X) → WinsAttempt {X = X} lock mode old new → WaitsFor {X = X} lock mode old new × (moving new.own ≡ false)
+  waits-won new a = (
+    record {
+      arena = ap (λ (z : SeatModel X). z.arena) a.after;
+      number = ap (λ (z : SeatModel X). z.own.reg.me) a.after;
+      lock_is = ap (λ (z : SeatModel X). z.lock) a.after;
+      mode_is = ap (λ (z : SeatModel X). z.own.reg.mode) a.after;
+      goes_on = ap (λ (z : SeatModel X). is_ending z.own.phase) a.after;
+      here = λ g. ap (λ (z : SeatModel X). mode_held lock z.holds) a.after ∙ ap (λ b. cond b (Some mode) (mode_held lock old.holds)) same;
+      elsewhere = λ l d. ap (λ (z : SeatModel X). mode_held l z.holds) a.after ∙ ap (λ b. cond b (Some mode) (mode_held l old.holds)) (else l d);
+      value = a.value;
+    },
+    ap (λ (z : SeatModel X). moving z.own) a.after,
+  )
+    where
+      same : (lock == lock) ≡ true
+      same = grind (arith, nat_tests)
+
+      else : (l : ℕ) → l ≢ lock → (lock == l) ≡ false
+      else l d = grind (arith, nat_tests)

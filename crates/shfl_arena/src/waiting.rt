@@ -1,0 +1,158 @@
+//! The loop in which a seat waits for a lock.
+ghost use Rattle.std.specs.Prelude.{◌≡◌, ◌<◌, false, true, None, Some};
+ghost use Rattle.shfl_line.specs.declared.events.Mode.TheVariants.{Write};
+ghost use Rattle.shfl_core.specs.Plan as plan;
+ghost use Rattle.shfl_core.specs.Waiting.{MayUse};
+ghost use Rattle.shfl_arena.specs.SeatSteps.{TakesStep};
+ghost use Rattle.shfl_arena.specs.Threads.{mode_held};
+ghost use Rattle.shfl_arena.specs.ValueMoves.{HasInFront};
+ghost use Rattle.shfl_arena.specs.Waits.{Frees, WaitsFor};
+
+use crate::arena::Arena;
+use crate::seats::ArenaSeat;
+use shfl_core::{Ask, Nap, Phase};
+use shfl_line::{Attr, Chooser, Form, Mode};
+use std::sync::Wait;
+use std::sync::atomic::AtomicU64;
+use std::time::Duration;
+use std::{hint, thread};
+
+// How often a seat looks before it gives its processor to others, and how often it has looked when, in a form whose waiters sleep, it
+// naps instead.
+const LOOKS: u32 = 50;
+
+const NAPS: u32 = 250;
+
+// Each nap is longer than the one before by so many microseconds, up to a millisecond.
+const LONGER: u32 = 16;
+
+const LONGEST: u32 = 1000;
+
+// Lets others go on where the seat looks again, and counts how often it did.
+fn pause<Rt: Wait>(rt: &Rt, form: Form, looks: u32, again: bool) -> u32 {
+    if !again {
+        return 0;
+    }
+    if looks < LOOKS {
+        hint::spin_loop();
+    } else if looks < NAPS || matches!(form, Form::Spin | Form::Rw) {
+        thread::yield_now();
+    } else {
+        let longer = (looks - NAPS).saturating_mul(LONGER).saturating_add(LONGER);
+        let micros = u64::from(longer.min(LONGEST));
+        AtomicU64::new(0).park_timeout(rt, 0, Duration::from_micros(micros));
+    }
+    looks.saturating_add(1)
+}
+
+// The policy's answer to what the next step asks. The first question of a round opens it.
+fn answer<C: Chooser, Rt: Wait>(rt: &Rt, chooser: &mut C, anchor: &Attr, ask: Ask) -> bool
+    ensures home { C.home chooser.new ≡ C.home chooser.old }
+{
+    match ask {
+        Ask::Nothing => false,
+        Ask::Skip { batch } => {
+            chooser.begin(rt);
+            chooser.skip(anchor, batch)
+        }
+        Ask::Should { waiter, batch } => chooser.should(anchor, &waiter, batch),
+    }
+}
+
+// Closes a round whose last step this was.
+fn close_round<C: Chooser>(chooser: &mut C, ended: bool)
+    ensures home { C.home chooser.new ≡ C.home chooser.old }
+{
+    if ended {
+        chooser.end();
+    }
+}
+
+// Whether the seat looks at the same word again.
+fn looks_again(before: Phase, after: Phase, nap: Nap) -> bool {
+    if matches!(nap, Nap::Hear) {
+        return true;
+    }
+    match before {
+        Phase::Look => matches!(after, Phase::Look),
+        Phase::Peek => matches!(after, Phase::Peek),
+        Phase::Late => matches!(after, Phase::Late),
+        Phase::HeadLook => matches!(after, Phase::HeadLook),
+        _ => false,
+    }
+}
+
+// One step, with what goes round it. Whether it looked at a word that is looked at again.
+fn step_on<V: Drop, C: Chooser, Rt: Wait>(
+    rt: &Rt,
+    arena: &Arena<V>,
+    seat: &mut ArenaSeat<V>,
+    anchor: &Attr,
+    chooser: &mut C,
+) -> bool
+    requires arena { seat.old.arena ≡ arena.now.id }
+    requires moving { plan.moving seat.old.own ≡ true }
+    ensures home { C.home chooser.new ≡ C.home chooser.old }
+    ensures row { (choice : _) × TakesStep seat.old choice seat.new }
+{
+    let before = seat.phase();
+    let nap = seat.nap();
+    let ask = seat.ask();
+    let choice = answer(rt, chooser, anchor, ask);
+    let _ = seat.step(arena, choice);
+    let ended = matches!(nap, Nap::Awake) && matches!(before, Phase::Give);
+    close_round(chooser, ended);
+    looks_again(before, seat.phase(), nap)
+}
+
+/// Takes a lock that the seat doesn't hold, in a mode, and waits until it holds the lock and owes no step. It tries once without
+/// queueing, and then queues. The chooser answers what the steps ask: it is opened before a round's first question, and closed after the
+/// round's last step. `anchor` has the attributes of the thread.
+pub fn wait_for<V: Drop, C: Chooser, Rt: Wait>(
+    rt: &Rt,
+    arena: &Arena<V>,
+    seat: &mut ArenaSeat<V>,
+    lock: u32,
+    mode: Mode,
+    anchor: &Attr,
+    chooser: &mut C,
+)
+    requires arena { seat.old.arena ≡ arena.now.id }
+    requires rests { plan.moving seat.old.own ≡ false }
+    requires lock { lock < seat.old.arena.shape.locks }
+    requires mode { MayUse seat.old.arena.rules.form mode }
+    requires free { mode_held lock seat.old.holds ≡ None }
+    ensures home { C.home chooser.new ≡ C.home chooser.old }
+    ensures rests { plan.moving seat.new.own ≡ false }
+    ensures waited { WaitsFor lock mode seat.old seat.new }
+{
+    if seat.attempt(arena, lock, mode).is_ok() {
+        return;
+    }
+    let _ = seat.acquire(lock, mode);
+    let form = seat.form();
+    let mut looks = 0;
+    for _ in rt.forever() {
+        if !seat.moving() {
+            return;
+        }
+        let again = step_on(rt, arena, seat, anchor, chooser);
+        looks = pause(rt, form, looks, again);
+    }
+    unreachable!()
+}
+
+/// Frees a lock that the seat holds in this mode, with its value in and in front where it has one.
+#[inline(always)]
+pub fn free<V: Drop>(arena: &Arena<V>, seat: &mut ArenaSeat<V>, lock: u32, mode: Mode)
+    requires arena { seat.old.arena ≡ arena.now.id }
+    requires rests { plan.moving seat.old.own ≡ false }
+    requires lock { lock < seat.old.arena.shape.locks }
+    requires holds { mode_held lock seat.old.holds ≡ Some mode }
+    requires value { mode ≡ Write → lock < seat.old.arena.table.slots
+        → HasInFront lock seat.old.values }
+    ensures { Frees lock mode seat.old seat.new }
+{
+    let _ = seat.release(lock, mode);
+    let _ = seat.step(arena, false);
+}
