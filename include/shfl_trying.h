@@ -84,8 +84,9 @@ static inline bool shfl_is_due(struct shfl_parking *parking) {
     uint32_t holds = __atomic_load_n(&parking->holds, __ATOMIC_RELAXED) + 1;
     __atomic_store_n(&parking->holds, holds, __ATOMIC_RELAXED);
     if (holds % SHFL_PASSED != 0) return false;
+    const uint64_t apart = SHFL_PASSED_NS;
     uint64_t now = shfl_clock();
-    if (now - __atomic_load_n(&parking->promoted_at, __ATOMIC_RELAXED) < SHFL_PASSED_NS) return false;
+    if (now - __atomic_load_n(&parking->promoted_at, __ATOMIC_RELAXED) < apart) return false;
     __atomic_store_n(&parking->promoted_at, now, __ATOMIC_RELAXED);
     return true;
 }
