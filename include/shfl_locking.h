@@ -32,7 +32,7 @@ __attribute__((noinline, unused)) static void shfl_lock_waiting(struct shfl_pass
 }
 
 /* Whether the first attempt may come before anything else. */
-static inline bool shfl_may_steal(struct shfl_pass *pass) { return !pass->queues && !pass->aside; }
+static inline bool shfl_may_steal(struct shfl_pass *pass) { return !pass->queues && pass->aside != SHFL_ASIDE_AT_ONCE; }
 
 /* Takes the lock as a writer, asleep after a while. The pass is idle. */
 static inline void shfl_lock_sleeping(struct shfl_pass *pass) {

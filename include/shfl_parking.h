@@ -22,7 +22,7 @@ extern "C" {
 #endif
 
 /* 1 while the thread of a pass sleeps or is about to, else 0. Each is on a cache line of its own. */
-struct shfl_place { uint32_t asleep, apart[15]; };
+struct shfl_place { uint32_t asleep, unused[15]; };
 
 /* All of it is read and written atomically. What each unlock reads stands in the first 16 bytes. */
 struct shfl_parking {
@@ -30,11 +30,13 @@ struct shfl_parking {
     uint32_t outside; /* how many sleep outside */
     uint32_t inside; /* how many wait otherwise, while somebody sleeps outside; those who queue always count */
     uint32_t holds; /* how many there were while somebody slept outside */
-    uint64_t promoted_at;
+    uint64_t woken_at; /* when one outside was last woken */
+    uint64_t promoted_at; /* when one was woken to queue */
+    uint32_t promoted; /* 1 from then until that one knows */
+    uint32_t apart; /* the next one is, in nanoseconds */
     uint32_t wakeups; /* changes with each wakeup outside */
-    uint32_t promoted; /* 1 from when one outside is woken to queue until that one knows */
     uint32_t open; /* how many passes are */
-    uint32_t apart[7];
+    uint32_t unused[4];
 };
 
 static inline struct shfl_place *shfl_place_of(struct shfl_parking *parking, uint32_t whom) {

@@ -29,7 +29,7 @@ else
 fi
 
 # without any patience the lock is exact too
-"$cc" -std=gnu11 -O2 -Wall -Wextra -Werror -DSHFL_PAUSES=0 -DSHFL_YIELDS=0 -DSHFL_TRYING_NS=0 -DSHFL_TRIES=1 -DSHFL_LOOKING_NS=0 \
+"$cc" -std=gnu11 -O2 -Wall -Wextra -Werror -DSHFL_PAUSES=0 -DSHFL_YIELDS=0 -DSHFL_TRYING_NS=0 -DSHFL_TRYING_AGAIN_NS=0 -DSHFL_TRIES=1 -DSHFL_LOOKING_NS=0 \
     -DSHFL_LOOKING_FAR_NS=0 -DSHFL_NAP_NS=1 -DSHFL_PASSED=1 -DSHFL_PASSED_NS=0 -I "$top/include" "$top/examples/c/counter.c" \
     "$top/include/shfl_heap.c" "$archive" -o "$room/hasty" -lpthread || exit 1
 "$room/hasty" 2000 >"$room/got" || { echo "tests/c.sh: without patience: $(cat "$room/got")" >&2; failed=1; }
@@ -64,6 +64,11 @@ int main() {
     shfl_unlock_parked(seats, 1);
     shfl_rdlock_parked(seats, 0);
     shfl_unlock_parked(seats, 0);
+    shfl_queue_when(&seats[0].pass, SHFL_QUEUE, 0);
+    shfl_lock(&seats[0].pass);
+    shfl_unlock(&seats[0].pass);
+    shfl_rdlock_yielding(&seats[1].pass);
+    shfl_unlock(&seats[1].pass);
     for (shfl_seat &seat : seats) shfl_close(&seat.pass);
     return refused ? 0 : 1;
 }
