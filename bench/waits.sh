@@ -42,7 +42,7 @@ storm() {
     local part="$1" threads="$2" hold="$3" think="$4" reads="$5" lock
     for lock in "${@:6}"; do
         timed "$part" "$threads $hold $think" "$lock" "$room/waits" "$lock" "$threads" "$hold" "$think" "$reads" \
-            $((100 + threads * hold / 20000))
+            $((${storm_ms:-100} + threads * hold / 20000))
     done
 }
 
@@ -66,7 +66,7 @@ readers() {
 
 # sixteen programs that only count
 busy() {
-    local k others=() threads hold
+    local k others=() threads hold storm_ms=400
     for ((k = 0; k < 16; k++)); do
         sh -c 'while :; do :; done' &
         others+=($!)

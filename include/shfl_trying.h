@@ -143,13 +143,14 @@ __attribute__((noinline, unused)) static void shfl_after_passing(struct shfl_pas
 }
 
 /* Sleeps outside. True: it holds the lock instead. Who has announced itself tries once more, since the release that it waits for may
- * have come before; who steps aside at once has just woken another, whose release wakes it. */
+ * have come before. Who steps aside at once does so only where nobody is inside: whoever is has yet to release, and will wake it. */
 static inline bool shfl_sleep_outside(struct shfl_waiter *waiter, uint8_t aside) {
     struct shfl_parking *parking = waiter->pass->parking;
     __atomic_fetch_add(&parking->outside, 1, __ATOMIC_SEQ_CST);
     uint32_t seen = shfl_load(&parking->wakeups);
     shfl_leave_inside(waiter);
-    bool won = aside != SHFL_ASIDE_AT_ONCE && shfl_try(waiter);
+    bool sleeps = aside == SHFL_ASIDE_AT_ONCE && shfl_load(&parking->inside) > 0;
+    bool won = !sleeps && shfl_try(waiter);
     if (!won) {
         /* the count of a reader that tried may be what the queue's head found in its way */
         if (waiter->shared) shfl_ring(&parking->head_asleep);
