@@ -79,8 +79,8 @@ static void attach_all(const char *policy, int count) {
     bool socket = strcmp(policy, "socket") == 0;
     if (!socket && strcmp(policy, "never") != 0) return;
     for (int k = 0; k < count; k++) {
-        struct shfl_verdict told = shfl_attach(&passes[k], 1, socket ? by_socket : never, socket ? sizeof by_socket : sizeof never, never, 0);
-        if (told.fault != 0) exit(2);
+        size_t length = socket ? sizeof by_socket : sizeof never;
+        if (shfl_attach(&passes[k], 1, socket ? by_socket : never, length, never, 0).fault != 0) exit(2);
     }
 }
 

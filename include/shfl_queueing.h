@@ -56,7 +56,7 @@ static inline void shfl_give_away(struct shfl_looks *looks, bool alone) {
 
 /* Sleeps where it has announced that before its last look, and announces it where it hasn't: a waker that comes after the look then
  * finds the announcement. Only who can't be told of all that it waits for naps: the head of what stands beside the lock's words, and a
- * shuffler of who comes. */
+ * shuffler of who comes. Whoever was woken stays awake for a while: it was grouped, and its turn is near. */
 static inline void shfl_sleep_or_announce(struct shfl_looks *looks, bool naps) {
     if (shfl_load(looks->asleep) == 0) {
         shfl_store(looks->asleep, 1);
@@ -65,6 +65,7 @@ static inline void shfl_sleep_or_announce(struct shfl_looks *looks, bool naps) {
     uint64_t most = naps ? (uint64_t)SHFL_NAP_NS << (looks->naps < 7 ? looks->naps : 7) : SHFL_ASLEEP_NS;
     if (naps) looks->naps++;
     shfl_futex_wait(looks->asleep, 1, most);
+    if (shfl_load(looks->asleep) == 0) looks->until = shfl_clock() + SHFL_LOOKING_NS;
 }
 
 /* A pause after a step that looked in vain, or ended a round that moved nobody and led to a look for the own turn. */
