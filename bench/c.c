@@ -1,7 +1,7 @@
 /* The lock of include/shfl.h beside pthread's mutex, in one run: alone, four threads with holds of one microsecond, and the memory of
  * a lock of 64 passes. Each figure is the best of its repeats. */
 #define _GNU_SOURCE
-#include "shfl_park.h"
+#include "shfl.h"
 #include <malloc.h>
 #include <pthread.h>
 #include <stdio.h>
@@ -12,7 +12,6 @@ enum { PAIRS = 20000, REPEATS = 300, THREADS = 4, RUNS = 5 };
 
 static const char *const forms[] = {"spin", "rw", "park", "rw park"};
 static struct shfl_pass passes[64];
-static struct shfl_seat seats[THREADS];
 static pthread_mutex_t mutex = PTHREAD_MUTEX_INITIALIZER;
 static volatile long counter;
 
@@ -76,16 +75,13 @@ static void *work(void *arg) {
     while (going == 1) {
         switch (own->kind) {
         case 0: shfl_lock(&passes[own->me]); break;
-        case 1: shfl_lock_parked(seats, own->me); break;
+        case 1: shfl_lock_yielding(&passes[own->me]); break;
         default: pthread_mutex_lock(&mutex);
         }
         hold();
         counter++;
-        switch (own->kind) {
-        case 0: shfl_unlock(&passes[own->me]); break;
-        case 1: shfl_unlock_parked(seats, own->me); break;
-        default: pthread_mutex_unlock(&mutex);
-        }
+        if (own->kind < 2) shfl_unlock(&passes[own->me]);
+        else pthread_mutex_unlock(&mutex);
         own->done++;
     }
     return NULL;
@@ -120,15 +116,13 @@ static double crowd(int kind, long *least, long *most) {
 
 static void crowds(void) {
     static const uint64_t attrs[THREADS];
-    static const char *const kinds[] = {"yielding", "sleeping", "mutex"};
+    static const char *const kinds[] = {"sleeping", "yielding", "mutex"};
     calibrate();
     for (uint8_t form = SHFL_SPIN; form <= SHFL_RW_PARK; form++) {
         for (int kind = 0; kind < 3; kind++) {
             double best = 0;
             long least = 0, most = 0;
-            if (kind == 1 && form > SHFL_RW) continue;
             if (!shfl_open(attrs, THREADS, form, 1024, passes, THREADS)) exit(2);
-            if (kind == 1) shfl_seat_all(passes, seats, THREADS);
             for (int r = 0; r < RUNS; r++) {
                 long low, high;
                 double rate = crowd(kind, &low, &high);
@@ -138,7 +132,7 @@ static void crowds(void) {
                     most = high;
                 }
             }
-            for (int k = 0; k < THREADS; k++) shfl_close(kind == 1 ? &seats[k].pass : &passes[k]);
+            for (int k = 0; k < THREADS; k++) shfl_close(&passes[k]);
             printf("four threads, holds of 1 us, %-8s %-8s %9.0f locks a second, of a thread %ld to %ld\n", forms[form], kinds[kind], best, least, most);
         }
     }

@@ -28,9 +28,26 @@ else
     failed=1
 fi
 
-# without any patience the headers compile too
-"$cc" -std=gnu11 -O2 -Wall -Wextra -Werror -DSHFL_PAUSES=0 -DSHFL_YIELDS=0 -DSHFL_LOOKS=0 -DSHFL_STEPS_AWAKE=0 -I "$top/include" \
-    -c "$top/examples/c/counter.c" -o "$room/hasty.o" || exit 1
+# without any patience the lock is exact too
+"$cc" -std=gnu11 -O2 -Wall -Wextra -Werror -DSHFL_PAUSES=0 -DSHFL_YIELDS=0 -DSHFL_TRYING_NS=0 -DSHFL_TRYING_AGAIN_NS=0 -DSHFL_TRIES=1 -DSHFL_LOOKING_NS=0 \
+    -DSHFL_LOOKING_FAR_NS=0 -DSHFL_NAP_NS=1 -DSHFL_PASSED=1 -DSHFL_PASSED_NS=0 -I "$top/include" "$top/examples/c/counter.c" \
+    "$top/include/shfl_heap.c" "$archive" -o "$room/hasty" -lpthread || exit 1
+"$room/hasty" 2000 >"$room/got" || { echo "tests/c.sh: without patience: $(cat "$room/got")" >&2; failed=1; }
+
+# where the C library hides the call of the system, threads yield instead of sleeping
+"$cc" -std=c11 -O2 -Wall -Wextra -Werror -I "$top/include" "$top/examples/c/counter.c" "$top/include/shfl_heap.c" "$archive" \
+    -o "$room/strict" -lpthread || exit 1
+"$room/strict" 2000 >"$room/got" || { echo "tests/c.sh: without a futex: $(cat "$room/got")" >&2; failed=1; }
+
+# how threads wait: the linker puts a spy before three calls
+"$cc" -std=gnu11 -O2 -Wall -Wextra -Werror -Wl,--wrap=shfl_advance,--wrap=sched_yield,--wrap=syscall -I "$top/include" \
+    "$top/tests/waits.c" "$top/include/shfl_heap.c" "$archive" -o "$room/waits" -lpthread || exit 1
+if timeout 120 "$room/waits" >"$room/got"; then
+    sed 's,^,tests/c.sh: ,' "$room/got"
+else
+    echo "tests/c.sh: how threads wait, status $?: $(cat "$room/got")" >&2
+    failed=1
+fi
 
 # C++ may include the headers, and build the heap
 if command -v c++ >/dev/null; then
@@ -47,6 +64,11 @@ int main() {
     shfl_unlock_parked(seats, 1);
     shfl_rdlock_parked(seats, 0);
     shfl_unlock_parked(seats, 0);
+    shfl_queue_when(&seats[0].pass, SHFL_QUEUE, 0);
+    shfl_lock(&seats[0].pass);
+    shfl_unlock(&seats[0].pass);
+    shfl_rdlock_yielding(&seats[1].pass);
+    shfl_unlock(&seats[1].pass);
     for (shfl_seat &seat : seats) shfl_close(&seat.pass);
     return refused ? 0 : 1;
 }

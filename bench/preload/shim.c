@@ -2,7 +2,7 @@
  * demonstration, not a product: the real mutex is taken inside, so that condition variables and trylock go on working. Recursive,
  * error-checking and robust mutexes go to the real one alone, and so does a 65th thread. */
 #define _GNU_SOURCE
-#include "shfl_park.h"
+#include "shfl.h"
 #include <dlfcn.h>
 #include <pthread.h>
 #include <stdatomic.h>
@@ -14,7 +14,7 @@ enum { SEATS = 64, ENTRIES = 1 << 14, PROBES = 64, NOT_YET = -1, NO_SEAT = -2, N
 /* A mutex and its lock. The holder is the seat of the thread that has both, and is read and written under the mutex alone. */
 struct entry {
     _Atomic(pthread_mutex_t *) mutex;
-    struct shfl_seat *_Atomic seats;
+    struct shfl_pass *_Atomic passes;
     int holder;
 };
 
@@ -61,13 +61,11 @@ static int own_seat(void) {
     }
 }
 
-static struct shfl_seat *opened(void) {
+static struct shfl_pass *opened(void) {
     static const uint64_t attrs[SEATS];
-    struct shfl_pass passes[SEATS] = {{0}};
-    struct shfl_seat *seats = aligned_alloc(64, SEATS * sizeof *seats);
-    if (!seats || !shfl_open(attrs, SEATS, SHFL_SPIN, 1024, passes, SEATS)) abort();
-    shfl_seat_all(passes, seats, SEATS);
-    return seats;
+    struct shfl_pass *passes = calloc(SEATS, sizeof *passes);
+    if (!passes || !shfl_open(attrs, SEATS, SHFL_SPIN, 1024, passes, SEATS)) abort();
+    return passes;
 }
 
 /* The entry of a mutex, which is made where it isn't there; NULL where there is none, or no room for one. */
@@ -79,12 +77,12 @@ static struct entry *entry_of(pthread_mutex_t *mutex, bool make) {
         if (!there && !make) return NULL;
         if (!there && atomic_compare_exchange_strong(&entry->mutex, &there, mutex)) {
             entry->holder = NOBODY;
-            atomic_store(&entry->seats, opened());
+            atomic_store(&entry->passes, opened());
             atomic_fetch_add(&locks, 1);
             return entry;
         }
         if (there == mutex) {
-            while (!atomic_load(&entry->seats)) sched_yield();
+            while (!atomic_load(&entry->passes)) sched_yield();
             return entry;
         }
     }
@@ -98,7 +96,7 @@ static struct entry *enter(pthread_mutex_t *mutex) {
     if (!ready || !is_normal(mutex)) return NULL;
     int me = own_seat();
     struct entry *entry = me < 0 ? NULL : entry_of(mutex, true);
-    if (entry) shfl_lock_parked(entry->seats, (unsigned)me);
+    if (entry) shfl_lock(&entry->passes[me]);
     return entry;
 }
 
@@ -120,7 +118,7 @@ static struct entry *held_beside(pthread_mutex_t *mutex) {
     return entry;
 }
 
-static void leave(struct entry *entry) { shfl_unlock_parked(entry->seats, (unsigned)seat); }
+static void leave(struct entry *entry) { shfl_unlock(&entry->passes[seat]); }
 
 int pthread_mutex_lock(pthread_mutex_t *mutex) {
     if (!real_lock) real_lock = (int (*)(pthread_mutex_t *))dlsym(RTLD_NEXT, "pthread_mutex_lock");

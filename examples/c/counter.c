@@ -1,5 +1,5 @@
-/* Four threads add to one counter behind a lock, in each form: counter [ROUNDS]. */
-#include "shfl_park.h"
+/* Four threads add to one counter behind a lock, in each form, asleep while they wait and yielding: counter [ROUNDS]. */
+#include "shfl.h"
 #include <pthread.h>
 #include <stdio.h>
 #include <stdlib.h>
@@ -7,7 +7,6 @@
 enum { THREADS = 4 };
 static const char *const forms[] = {"spin", "rw", "park", "rw park"};
 static struct shfl_pass passes[THREADS];
-static struct shfl_seat seats[THREADS];
 static long rounds = 20000;
 static long counter;
 
@@ -21,22 +20,21 @@ static void *work(void *arg) {
     return NULL;
 }
 
-static void *work_parked(void *arg) {
-    unsigned me = (unsigned)((struct shfl_seat *)arg - seats);
+static void *work_yielding(void *arg) {
+    struct shfl_pass *pass = arg;
     for (long k = 0; k < rounds; k++) {
-        shfl_lock_parked(seats, me);
+        shfl_lock_yielding(pass);
         counter++;
-        shfl_unlock_parked(seats, me);
+        shfl_unlock(pass);
     }
     return NULL;
 }
 
-static void run(bool parked) {
+static void run(void *(*how)(void *)) {
     pthread_t threads[THREADS];
     counter = 0;
     for (int k = 0; k < THREADS; k++) {
-        void *arg = parked ? (void *)&seats[k] : (void *)&passes[k];
-        if (pthread_create(&threads[k], NULL, parked ? work_parked : work, arg)) exit(2);
+        if (pthread_create(&threads[k], NULL, how, &passes[k])) exit(2);
     }
     for (int k = 0; k < THREADS; k++) pthread_join(threads[k], NULL);
 }
@@ -57,16 +55,11 @@ int main(int argc, char **argv) {
     bool exact = true;
     for (uint8_t form = SHFL_SPIN; form <= SHFL_RW_PARK; form++) {
         if (!open_all(form)) return 2;
-        run(false);
+        run(work);
+        exact &= told(forms[form], "sleeping");
+        run(work_yielding);
         exact &= told(forms[form], "yielding");
-        if (form <= SHFL_RW) {
-            shfl_seat_all(passes, seats, THREADS);
-            run(true);
-            exact &= told(forms[form], "sleeping");
-            for (int k = 0; k < THREADS; k++) shfl_close(&seats[k].pass);
-        } else {
-            for (int k = 0; k < THREADS; k++) shfl_close(&passes[k]);
-        }
+        for (int k = 0; k < THREADS; k++) shfl_close(&passes[k]);
     }
     return exact ? 0 : 1;
 }

@@ -1,0 +1,91 @@
+"""The tables of waits.sh from its runs: waits.py RUNS."""
+import statistics
+import sys
+
+OURS = ["spin", "rw", "park", "rwpark"]
+HEADS = {
+    "storms": "Threads that take the lock again and again",
+    "readers": "The same with 80 of 100 holds for reading",
+    "busy": "The same beside sixteen busy programs",
+}
+
+
+def runs_of(path):
+    """part -> row -> lock -> the numbers of each run"""
+    parts = {}
+    for line in open(path):
+        part, row, lock, told = line.rstrip("\n").split("|")
+        parts.setdefault(part, {}).setdefault(row, {}).setdefault(lock, []).append([float(x) for x in told.split()])
+    return parts
+
+
+def two(values, worst, digits=0):
+    """median and worst"""
+    return f"{statistics.median(values):,.{digits}f}, {worst(values):,.{digits}f}"
+
+
+def span(ns):
+    ns = int(ns)
+    return "0" if ns == 0 else f"{ns / 1000:g} us"
+
+
+def storm_table(rows, peer, other, ours):
+    locks = [peer] + ([other] if other else []) + ours
+    print(f"| Threads, hold, think | {' | '.join(locks)} | worst ours to worst {peer} |", "longest wait, ms: " + peer + " | ours |",
+          "Jain: " + peer + " | ours |")
+    print("|---" * (len(locks) + 6) + "|")
+    for row, by_lock in rows.items():
+        threads, hold, think = row.split()
+        rates = {lock: [run[0] / 1000 for run in by_lock[lock]] for lock in locks}
+        cells = [two(rates[lock], min) for lock in locks]
+        ratio = min(min(rates[lock]) for lock in ours) / min(rates[peer])
+        wait = {lock: [run[2] for run in by_lock[lock]] for lock in locks}
+        jain = {lock: [run[1] for run in by_lock[lock]] for lock in locks}
+        longest = max(ours, key=lambda lock: statistics.median(wait[lock]))
+        uneven = min(ours, key=lambda lock: statistics.median(jain[lock]))
+        print(f"| {threads}, {span(hold)}, {span(think)} | {' | '.join(cells)} | {ratio:.2f} | {two(wait[peer], max, 1)} |",
+              f"{two(wait[longest], max, 1)} | {two(jain[peer], min, 3)} | {two(jain[uneven], min, 3)} |")
+
+
+def plain_table(rows, title, locks, digits, pick):
+    print(f"| {title} | {' | '.join(locks)} |")
+    print("|---" * (len(locks) + 1) + "|")
+    for row, by_lock in rows.items():
+        cells = [two([run[pick] for run in by_lock[lock]], max, digits) for lock in locks]
+        print(f"| {row} | {' | '.join(cells)} |")
+
+
+def policy_table(rows):
+    print("| Threads, hold, think | none | moves nobody | of the medians |")
+    print("|---|---|---|---|")
+    for row, by_lock in rows.items():
+        threads, hold, think = row.split()
+        none, never = ([run[0] / 1000 for run in by_lock[which]] for which in ("none", "never"))
+        ratio = statistics.median(never) / statistics.median(none)
+        print(f"| {threads}, {span(hold)}, {span(think)} | {two(none, min)} | {two(never, min)} | {ratio:.2f} |")
+
+
+def main():
+    parts = runs_of(sys.argv[1])
+    for part, head in HEADS.items():
+        if part not in parts:
+            continue
+        rows = parts[part]
+        fewest = min(len(runs) for by_lock in rows.values() for runs in by_lock.values())
+        print(f"\n{head}: thousand holds a second, median and worst of {fewest} runs; of the waits and of Jain's index the worse form's.\n")
+        if part == "readers":
+            storm_table(rows, "rwlock", None, ["rw", "rwpark"])
+        else:
+            storm_table(rows, "mutex", "mcs", OURS)
+    if "handover" in parts:
+        print("\nFrom an unlock to the next one's return from lock, by waiters and hold in us: microseconds, median and worst run of the medians.\n")
+        plain_table(parts["handover"], "Waiters, hold", ["mutex", "mcs"] + OURS, 2, 0)
+    if "asleep" in parts:
+        print("\nProcessor time of all threads in 2 s of holds of 100 ms, asleep, a policy by socket attached: milliseconds, median and worst.\n")
+        plain_table(parts["asleep"], "Threads", ["mutex"] + OURS, 1, 0)
+    if "policy" in parts:
+        print("\nEach queues at once: without a policy, and with one that moves nobody: thousand holds a second, median and worst.\n")
+        policy_table(parts["policy"])
+
+
+main()

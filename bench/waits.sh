@@ -1,0 +1,122 @@
+#!/usr/bin/env bash
+# How threads wait: the lock for C in its four forms beside pthread's locks and an MCS lock that yields, in turn. Words:
+#   waits.sh [ROUNDS [PART ..]]
+# A part is storms, readers, busy, handover, asleep or policy; all, in this order, where none is given; ROUNDS is 20 where it is left
+# out. With WAITS_ROOM set, the runs are kept in that folder, and the tables are of all that are there, so that many sittings make one
+# table. WAITS_RUN is put before each program that is timed, and RESULTS_ONLY set prints the tables alone.
+set -u
+top="$(cd "$(dirname "$(readlink -f "${BASH_SOURCE[0]}")")/.." && pwd)"
+rounds="${1:-20}"
+parts=("${@:2}")
+[ "${#parts[@]}" -gt 0 ] || parts=(storms readers busy handover asleep policy)
+room="${WAITS_ROOM:-$(mktemp -d)}"
+[ -n "${WAITS_ROOM:-}" ] || trap 'rm -rf "$room"' EXIT
+mkdir -p "$room"
+read -ra before <<<"${WAITS_RUN:-}"
+ours=(spin rw park rwpark)
+
+build() {
+    local archive="$top/crates/shfl_c/out/libshfl_c.a" name
+    if [ ! -e "$archive" ]; then
+        (cd "$top/crates/shfl_c" && rt lib </dev/null) >"$room/built" 2>&1 || { tail -n 20 "$room/built" >&2; exit 1; }
+    fi
+    for name in waits handover; do
+        "${CC:-cc}" -std=gnu11 -O2 -Wall -Wextra -I "$top/include" "$top/bench/$name.c" "$top/include/shfl_heap.c" "$archive" \
+            -o "$room/$name" -lpthread || exit 1
+    done
+}
+
+# one run: its part, the row of the table, the lock, and what it told
+timed() {
+    local part="$1" row="$2" lock="$3" told
+    shift 3
+    if told="$("${before[@]}" timeout 60 "$@")"; then
+        echo "$part|$row|$lock|$told" >>"$room/runs"
+    else
+        echo "waits.sh: $*: status $?" >&2
+    fi
+}
+
+# threads, hold, think, per cent of reads, then the locks in turn. Long holds by many threads are given more time.
+storm() {
+    local part="$1" threads="$2" hold="$3" think="$4" reads="$5" lock
+    for lock in "${@:6}"; do
+        timed "$part" "$threads $hold $think" "$lock" "$room/waits" "$lock" "$threads" "$hold" "$think" "$reads" \
+            $((${storm_ms:-100} + threads * hold / 20000))
+    done
+}
+
+# each number of threads, hold and think, in nanoseconds
+storms() {
+    local part="$1" threads hold times
+    for threads in 2 4 8 16 64; do
+        storm "$part" "$threads" 0 0 0 mutex mcs "${ours[@]}"
+        for hold in 1000 10000 100000; do
+            for times in 0 1 10; do storm "$part" "$threads" "$hold" $((hold * times)) 0 mutex mcs "${ours[@]}"; done
+        done
+    done
+}
+
+readers() {
+    local threads hold
+    for threads in 2 4 8 16 64; do
+        for hold in 0 1000 10000 100000; do storm readers "$threads" "$hold" "$hold" 80 rwlock rw rwpark; done
+    done
+}
+
+# sixteen programs that only count
+busy() {
+    local k others=() threads hold storm_ms=400
+    for ((k = 0; k < 16; k++)); do
+        sh -c 'while :; do :; done' &
+        others+=($!)
+    done
+    for threads in 4 16; do
+        for hold in 1000 10000 100000; do storm busy "$threads" "$hold" "$hold" 0 mutex mcs "${ours[@]}"; done
+    done
+    kill "${others[@]}"
+    wait "${others[@]}" 2>/dev/null
+}
+
+# waiters, the hold in microseconds
+handover() {
+    local row lock
+    for row in "1 15" "1 200" "4 200" "15 500"; do
+        for lock in mutex mcs "${ours[@]}"; do
+            timed handover "$row" "$lock" "$room/handover" "$lock" ${row% *} ${row#* } 100
+        done
+    done
+}
+
+asleep() {
+    local threads lock
+    for threads in 16 64; do
+        for lock in mutex "${ours[@]}"; do timed asleep "$threads" "$lock" "$room/handover" "$lock" "$threads" asleep 2000 socket; done
+    done
+}
+
+# the queue without a policy, and with one that moves nobody
+policy() {
+    local threads hold which
+    for threads in 2 4 16; do
+        for hold in 1000 10000 100000; do
+            for which in none never; do
+                timed policy "$threads $hold 0" "$which" "$room/waits" spin "$threads" "$hold" 0 0 100 "$which" queue
+            done
+        done
+    done
+}
+
+if [ -z "${RESULTS_ONLY:-}" ]; then
+    build
+    for ((round = 0; round < rounds; round++)); do
+        for part in "${parts[@]}"; do
+            case "$part" in
+            storms) storms storms ;;
+            readers | busy | handover | asleep | policy) "$part" ;;
+            *) echo "waits.sh: no part is called $part" >&2; exit 2 ;;
+            esac
+        done
+    done
+fi
+python3 "$top/bench/waits.py" "$room/runs"
