@@ -14,6 +14,8 @@ mod plain_world;
 #[cfg(test)]
 mod shared_waiter;
 #[cfg(test)]
+mod stealing;
+#[cfg(test)]
 mod tickets;
 #[cfg(test)]
 mod word_machine;

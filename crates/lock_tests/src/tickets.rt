@@ -62,7 +62,7 @@ fn leaves(ticket: &mut Ticket) -> bool {
 
 /// Whether an idle pass has the lock by an attempt.
 fn wins(ticket: &mut Ticket) -> bool {
-    ticket.idle() && ticket.attempt(Mode::Write).is_ok()
+    ticket.attempt(Mode::Write)
 }
 
 /// The first holds the lock, and the others are queued behind it. A round doesn't ask about the queue's end.

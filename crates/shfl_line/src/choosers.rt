@@ -27,6 +27,13 @@ pub trait Chooser {
     /// The answers so far, where it tells them.
     ghost told: { Self → Option (List Answer) };
 
+    /// Whether it may move a waiter up.
+    ghost moves_waiters: { Self → Bool } = { λ _. true };
+
+    /// Whether it may move a waiter up. Where none does, a pass may try for a while before it queues.
+    fn may_move_waiters(&self) -> bool
+        ensures { result ≡ moves_waiters self.now };
+
     /// Opens a round. It may wait for another thread.
     fn begin<Rt: Wait>(&mut self, rt: &Rt)
         ensures home { home self.new ≡ home self.old }
@@ -60,9 +67,15 @@ pub struct Never;
 impl Chooser for Never {
     ghost home = { λ _. [] };
 
+    ghost moves_waiters = { λ _. false };
+
     ghost in_round = { λ _. false };
 
     ghost told = { λ _. None };
+
+    fn may_move_waiters(&self) -> bool {
+        false
+    }
 
     fn begin<Rt: Wait>(&mut self, _rt: &Rt) {}
 
@@ -92,6 +105,10 @@ impl Chooser for Always {
 
     ghost told = { λ _. None };
 
+    fn may_move_waiters(&self) -> bool {
+        true
+    }
+
     fn begin<Rt: Wait>(&mut self, _rt: &Rt) {}
 
     fn skip(&mut self, _anchor: &Attr, _batch: u16) -> bool
@@ -119,6 +136,10 @@ impl Chooser for BySocket {
     ghost in_round = { λ _. false };
 
     ghost told = { λ _. None };
+
+    fn may_move_waiters(&self) -> bool {
+        true
+    }
 
     fn begin<Rt: Wait>(&mut self, _rt: &Rt) {}
 

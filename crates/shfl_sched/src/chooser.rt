@@ -40,6 +40,10 @@ impl<'a> Chooser for RuleChooser<'a> {
 
     ghost told = { λ _. None };
 
+    fn may_move_waiters(&self) -> bool {
+        true
+    }
+
     fn begin<Rt: Wait>(&mut self, _rt: &Rt)
         ensures { self.new ≡ self.old }
     {}

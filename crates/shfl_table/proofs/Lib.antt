@@ -19,3 +19,4 @@ pub mod Entries
 pub mod PackedStates
 pub mod LongerBooks
 pub mod BookVisits
+pub mod HeadDisables

@@ -28,7 +28,7 @@ use Rattle.shfl_table.specs.Histories.{Continues, HasSeen, IsCurrent, common_his
 use Rattle.shfl_table.specs.declared.view.Decision.{Decision}
 use Rattle.shfl_table.specs.declared.kept.Action.{Action}
 use Rattle.shfl_table.specs.declared.view.View.{View}
-use Rattle.shfl_table.specs.Views.{number, passes_from, step_decisions, view_after}
+use Rattle.shfl_table.specs.Views.{Deeds, number, passes_from, step_deeds, view_after}
 use Rattle.shfl_table.specs.BoardRule.{BoardRule, IsHome, world_of}
 use Rattle.shfl_table.specs.ValueMoves.{GainsHold, MayFree, MovesValues, access_play, step_play}
 use Rattle.shfl_laws.proofs.laws.Holds.{take-mode, hold-seen, frees-only}
@@ -37,7 +37,7 @@ use Rattle.shfl_table.proofs.Values.{all-home, freed-ruled, own-home, read-ruled
 use Rattle.std.proofs.lemmas.List.{length-map}
 
 -- an operation of a pass, whichever it is
-module _ {V : Type 0} (initial_state : V → List ℕ) (history : V → List Action) (t : Terms) (r : List ℕ) (slots id : ℕ) (m : Me (Option V) View) (a : Access) (next : ℕ → PassState) (qs : List Decision) (live : m.0.live ≡ true) (blind : (n : ℕ) → next (told a n) ≡ next n)
+module _ {V : Type 0} (initial_state : V → List ℕ) (history : V → List Action) (t : Terms) (r : List ℕ) (slots id : ℕ) (m : Me (Option V) View) (a : Access) (next : ℕ → PassState) (qs : Deeds) (live : m.0.live ≡ true) (blind : (n : ℕ) → next (told a n) ≡ next n)
     (law : number m.0 ≡ id → (w : World) → Lawful t w → get_elem? w.passes id ≡ some m.0.pass → Lawful t (after_access w id a (next (look w.words (site a)))))
     (steady : (n : ℕ) (x y : Mode) → hold_of m.0.pass ≡ Some x → hold_of (next n) ≡ Some y → x ≡ y)
     (ready : (n : ℕ) (x : Mode) → hold_of m.0.pass ≡ Some x → hold_of (next n) ≡ None → MayFree initial_state history x slots m) where
@@ -210,7 +210,7 @@ module _ {V : Type 0} (initial_state : V → List ℕ) (history : V → List Act
 pub row-permits : {V : Type 0} (initial_state : V → List ℕ) (history : V → List Action) (t : Terms) (r : List ℕ) (slots id : ℕ) (m : Me (Option V) View) (q : PassState) (choice : Bool) → m.0.live ≡ true → SeenAs t.rules.form q m.0.pass
     → ((x : Mode) → hold_of q ≡ Some x → is_releasing q.phase ≡ true → MayFree initial_state history x slots m)
     → Permits (BoardRule initial_state history t r) slots id m (step_play initial_state history t q choice) (plan t.rules (number m.0) q)
-row-permits initial_state history t r slots id m q choice live seen ready = operate-permits initial_state history t r slots id m (plan t.rules (number m.0) q) (λ i. take t.rules (number m.0) q i choice) (step_decisions t.rules q choice) live
+row-permits initial_state history t r slots id m q choice live seen ready = operate-permits initial_state history t r slots id m (plan t.rules (number m.0) q) (λ i. take t.rules (number m.0) q i choice) (step_deeds t.rules q choice) live
     (λ n. store-blind t.rules (number m.0) q n choice)
     (λ num w ok at. subst (λ k. Lawful t (after_access w id (plan t.rules k q) (take t.rules k q (look w.words (site (plan t.rules k q))) choice))) (sym num) (own-step t w id q m.0.pass ok at seen choice).lawful)
     (λ n x y e f. same-mode (is_holding q.phase) (is_holding (take t.rules (number m.0) q n choice).phase) q.reg.mode (take t.rules (number m.0) q n choice).reg.mode x y (take-mode t.rules (number m.0) q n choice) (hold-seen t.rules.form q m.0.pass seen ∙ e) f)

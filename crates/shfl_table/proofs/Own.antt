@@ -14,7 +14,7 @@ use Rattle.shfl_table.specs.declared.view.View.{View}
 use Rattle.shfl_laws.specs.Holds.{hold_of, is_releasing}
 use Rattle.shfl_table.specs.Places.{first_place, place_count, Every, numbered, values_of}
 use Rattle.shfl_table.specs.Histories.{Continues, HasSeen, IsCurrent, common_history}
-use Rattle.shfl_table.specs.Views.{number, step_decisions, view_after}
+use Rattle.shfl_table.specs.Views.{Deeds, number, step_decisions, step_deeds, view_after}
 use Rattle.shfl_table.specs.ValueMoves.{FitsWords, GainsHold, MayFree, MovesValues}
 use Rattle.shfl_line.specs.declared.events.Form.{Form}
 use Rattle.shfl_core.specs.declared.phase.Rules.{Rules}
@@ -30,6 +30,8 @@ use Rattle.shfl_laws.proofs.laws.Waits.{none-leads-to-release}
 use Rattle.shfl_table.proofs.Places.{values_numbered}
 use Rattle.shfl_table.specs.PassModel.{GrowsUnder, PassModel}
 use Rattle.shfl_table.specs.PassInvariant.{Carries, IsGoodUnder, PassInvariant}
+use Rattle.shfl_table.specs.declared.outcomes.Outcome.{Outcome}
+use Rattle.shfl_table.specs.Outcomes.{IsOutcome}
 use Rattle.shfl_table.specs.PassSteps.{TakesStep}
 
 -- who gives the lock back holds it
@@ -60,7 +62,7 @@ module _ {X : Type 0} (initial_state : X → List ℕ) (history : X → List Act
       }
 
   -- the values after an operation, by what it tells
-  module _ (slots : ℕ) (own own' : PassState) (me me' : Me (Option X) View) (next : ℕ → PassState) (qs : List Decision) (n : ℕ) (is : own' ≡ next n) (num : number me.0 ≡ own.reg.me) (num' : own'.reg.me ≡ own.reg.me) (alike : hold_of own ≡ hold_of me.0.pass)
+  module _ (slots : ℕ) (own own' : PassState) (me me' : Me (Option X) View) (next : ℕ → PassState) (qs : Deeds) (n : ℕ) (is : own' ≡ next n) (num : number me.0 ≡ own.reg.me) (num' : own'.reg.me ≡ own.reg.me) (alike : hold_of own ≡ hold_of me.0.pass)
       (steady : (x y : Mode) → hold_of own ≡ Some x → hold_of own' ≡ Some y → x ≡ y) (still : is_releasing own'.phase ≡ true → own'.phase ≡ own.phase)
       (k : Carries initial_state history slots own me.0 me.1) (r : MovesValues initial_state history next qs slots me n me') where
     now-is : hold_of own' ≡ hold_of (next n)
@@ -144,7 +146,7 @@ module _ {X : Type 0} (initial_state : X → List ℕ) (history : X → List Act
   ready = ready-of initial_state history id.slots own me number-is k.carries
 
   module _ (t : Terms) (choice : Bool) (n : ℕ) (me' : Me (Option X) View) (q : PassState) (e : q ≡ take rules own.reg.me own n choice)
-      (go : FitsWords initial_state history t (plan rules own.reg.me own) (λ i. take rules own.reg.me own i choice) me n) (r : MovesValues initial_state history (λ i. take rules own.reg.me own i choice) (step_decisions rules own choice) id.slots me n me') where
+      (go : FitsWords initial_state history t (plan rules own.reg.me own) (λ i. take rules own.reg.me own i choice) me n) (r : MovesValues initial_state history (λ i. take rules own.reg.me own i choice) (step_deeds rules own choice) id.slots me n me') where
     pub found : is_store (plan rules own.reg.me own) ≡ false → NamesPass (site (plan rules own.reg.me own)) n
     found f = formed-names (site (plan rules own.reg.me own)) n (go.form f)
 
@@ -163,8 +165,8 @@ module _ {X : Type 0} (initial_state : X → List ℕ) (history : X → List Act
     only : (m : Mode) → hold_of own ≡ Some m → hold_of q ≡ None → is_releasing own.phase ≡ true
     only m a b = frees-only rules own.reg.me own n choice m a (sym (ap hold_of e) ∙ b)
 
-    view : (seen : List Action) × (me'.0 ≡ view_after (step_decisions rules own choice) me.0 (take rules own.reg.me own n choice) seen)
-    view = view-by initial_state history id.slots own q me me' (λ i. take rules own.reg.me own i choice) (step_decisions rules own choice) n e number-is num' alike steady still k.carries r (hold_of own) (hold_of q) refl refl only
+    view : (seen : List Action) × (me'.0 ≡ view_after (step_deeds rules own choice) me.0 (take rules own.reg.me own n choice) seen)
+    view = view-by initial_state history id.slots own q me me' (λ i. take rules own.reg.me own i choice) (step_deeds rules own choice) n e number-is num' alike steady still k.carries r (hold_of own) (hold_of q) refl refl only
 
     pub row-kept : (id' : TableId) → id' ≡ id → t.rules ≡ rules → id.words ≡ wide (count t) → PassInvariant initial_state history rules q id' me'
     row-kept id' same ruled words = record {
@@ -173,20 +175,19 @@ module _ {X : Type 0} (initial_state : X → List ℕ) (history : X → List Act
       range = subst (λ i. index (site (plan rules q.reg.me q)) < i) (sym words ∙ ap (λ (z : TableId). z.words) (sym same))
           (subst (λ (z : Rules × ℕ × PassState). index (site (plan z.0 z.1 z.2)) < wide (count t)) (λ j. (ruled j, (number-is ∙ sym num') j, sym e j)) go.range);
       carries = subst (λ (z : TableId). Carries initial_state history z.slots q me'.0 me'.1) (sym same)
-          (carries-after initial_state history id.slots own q me me' (λ i. take rules own.reg.me own i choice) (step_decisions rules own choice) n e number-is num' alike steady still k.carries r (hold_of own) (hold_of q) refl refl only);
+          (carries-after initial_state history id.slots own q me me' (λ i. take rules own.reg.me own i choice) (step_deeds rules own choice) n e number-is num' alike steady still k.carries r (hold_of own) (hold_of q) refl refl only);
       back = ap (λ (v : View). v.back) view.1 ∙ k.back;
     }
 
-    pub row-told : (id' : TableId) (m : PassModel X) → id' ≡ id → record { board = record { table = id; rules = rules }; own = own; steps_taken = me.0.steps_taken; decisions = me.0.decisions; initial_state = me.0.initial_state; history = me.0.history; values = values_of me.1 } ≡ m
-        → TakesStep initial_state history m choice (record { board = record { table = id'; rules = rules }; own = q; steps_taken = me'.0.steps_taken; decisions = me'.0.decisions; initial_state = me'.0.initial_state; history = me'.0.history; values = values_of me'.1 })
-    row-told id' m same is = subst (λ (z : PassModel X). TakesStep initial_state history z choice (record { board = record { table = id'; rules = rules }; own = q; steps_taken = me'.0.steps_taken; decisions = me'.0.decisions; initial_state = me'.0.initial_state; history = me'.0.history; values = values_of me'.1 })) is (record {
+    pub told-row : (id' : TableId) → id' ≡ id → TakesStep initial_state history (record { board = record { table = id; rules = rules }; own = own; steps_taken = me.0.steps_taken; decisions = me.0.decisions; attempts = me.0.attempts; initial_state = me.0.initial_state; history = me.0.history; values = values_of me.1 }) choice (record { board = record { table = id'; rules = rules }; own = q; steps_taken = me'.0.steps_taken; decisions = me'.0.decisions; attempts = me'.0.attempts; initial_state = me'.0.initial_state; history = me'.0.history; values = values_of me'.1 })
+    told-row id' same = record {
       found = n;
       form = go.form;
       number = num';
-      row = λ j. record { board = record { table = same j; rules = rules }; own = e j; steps_taken = (view.1 j).steps_taken; decisions = (view.1 j).decisions; initial_state = (view.1 j).initial_state; history = me'.0.history; values = values_of me'.1 };
+      row = λ j. record { board = record { table = same j; rules = rules }; own = e j; steps_taken = (view.1 j).steps_taken; decisions = (view.1 j).decisions; attempts = (view.1 j).attempts; initial_state = (view.1 j).initial_state; history = me'.0.history; values = values_of me'.1 };
       stays = λ x. let s = r.stays (sym alike ∙ (x ∙ ap hold_of e)) in (ap values_of s.0, ap (λ (v : View). v.history) s.1);
-      gains = λ mode a b. let g : GainsHold initial_state history (step_decisions rules own choice) mode id.slots me (take rules own.reg.me own n choice) me' = r.gains mode (sym alike ∙ a) (sym (ap hold_of e) ∙ b) in let tales : g.told ≡ me'.0.history = sym (ap (λ (v : View). v.history) g.view) in
-          let none : me.1 ≡ [] = nothing initial_state history id.slots own q me me' (λ i. take rules own.reg.me own i choice) (step_decisions rules own choice) n e number-is num' alike steady still k.carries r a in (
+      gains = λ mode a b. let g : GainsHold initial_state history (step_deeds rules own choice) mode id.slots me (take rules own.reg.me own n choice) me' = r.gains mode (sym alike ∙ a) (sym (ap hold_of e) ∙ b) in let tales : g.told ≡ me'.0.history = sym (ap (λ (v : View). v.history) g.view) in
+          let none : me.1 ≡ [] = nothing initial_state history id.slots own q me me' (λ i. take rules own.reg.me own i choice) (step_deeds rules own choice) n e number-is num' alike steady still k.carries r a in (
             subst (λ (z : List Action × ℕ). HasSeen z.0 z.1 me.0.history) (λ j. (tales j, number-is j)) g.knew,
             (
               g.values,
@@ -197,4 +198,9 @@ module _ {X : Type 0} (initial_state : X → List ℕ) (history : X → List Act
           );
       frees = λ mode a b xs says. let v = k.carries in let w : v.values ≡ map Some xs = sym (ap values_of v.is ∙ values_numbered (first_place (hold_of own) own.reg.me) v.values) ∙ says in
           let g = r.frees mode (sym alike ∙ a) (sym (ap hold_of e) ∙ b) (first_place (hold_of own) own.reg.me) xs (v.is ∙ ap (numbered (first_place (hold_of own) own.reg.me)) w) in (ap values_of g.0, ap (λ (x : View). x.history) g.1);
-    })
+    }
+
+    pub row-told : (id' : TableId) (m : PassModel X) → id' ≡ id → record { board = record { table = id; rules = rules }; own = own; steps_taken = me.0.steps_taken; decisions = me.0.decisions; attempts = me.0.attempts; initial_state = me.0.initial_state; history = me.0.history; values = values_of me.1 } ≡ m → (outcome : Outcome) → IsOutcome own n q outcome
+        → (s : TakesStep initial_state history m choice (record { board = record { table = id'; rules = rules }; own = q; steps_taken = me'.0.steps_taken; decisions = me'.0.decisions; attempts = me'.0.attempts; initial_state = me'.0.initial_state; history = me'.0.history; values = values_of me'.1 })) × IsOutcome m.own s.found q outcome
+    unfolding told-row
+    row-told id' m same is outcome came = subst (λ (z : PassModel X). (s : TakesStep initial_state history z choice (record { board = record { table = id'; rules = rules }; own = q; steps_taken = me'.0.steps_taken; decisions = me'.0.decisions; attempts = me'.0.attempts; initial_state = me'.0.initial_state; history = me'.0.history; values = values_of me'.1 })) × IsOutcome z.own s.found q outcome) is (told-row id' same, came)

@@ -1,5 +1,5 @@
 -- What a step is permitted, by what the pass knows of itself.
-use Rattle.shfl_table.specs.Views.{number}
+use Rattle.shfl_table.specs.Views.{attempt_deeds, number}
 use Rattle.std.proofs.Common.{◌≡◌, ℕ, Bool, true, cond, List, [], Option, Some, None, refl, sym, ap, ◌∙◌, subst}
 use Rattle.atomic_table.specs.Table.{Me}
 use Rattle.shfl_line.specs.declared.events.Mode.{Mode}
@@ -38,8 +38,8 @@ told-attempt Read n = refl
 
 -- the first operation of an attempt, with what it gains
 pub tried-permits : {V : Type 0} (initial_state : V → List ℕ) (history : V → List Action) (t : Terms) (r : List ℕ) (slots id : ℕ) (m : Me (Option V) View) (mode : Mode) → m.0.live ≡ true → m.0.pass.phase ≡ Idle → MayUse t.rules.form mode
-    → Permits (BoardRule initial_state history t r) slots id m (access_play initial_state history t (attempt_plan mode) (attempted mode m.0.pass.reg) []) (attempt_plan mode)
-tried-permits initial_state history t r slots id m mode live idle may = operate-permits initial_state history t r slots id m (attempt_plan mode) (attempted mode m.0.pass.reg) [] live
+    → Permits (BoardRule initial_state history t r) slots id m (access_play initial_state history t (attempt_plan mode) (attempted mode m.0.pass.reg) attempt_deeds) (attempt_plan mode)
+tried-permits initial_state history t r slots id m mode live idle may = operate-permits initial_state history t r slots id m (attempt_plan mode) (attempted mode m.0.pass.reg) attempt_deeds live
     (λ n. ap (attempted mode m.0.pass.reg) (told-attempt mode n))
     (λ num w ok at. (attempt-law t mode w id m.0.pass ok at idle may).lawful)
     (λ n x y e f. absurd (out x e))

@@ -24,7 +24,7 @@ use Rattle.shfl_table.specs.declared.view.View.{View}
 use Rattle.shfl_laws.specs.Holds.{hold_of, is_releasing}
 use Rattle.shfl_table.specs.Places.{first_place, place_count, Every, numbered, values_of}
 use Rattle.shfl_table.specs.Histories.{HasSeen, IsCurrent}
-use Rattle.shfl_table.specs.Views.{number, step_decisions, view_after}
+use Rattle.shfl_table.specs.Views.{attempt_deeds, number, step_decisions, view_after}
 use Rattle.shfl_table.specs.ValueMoves.{FitsWords, GainsHold, MovesValues}
 use Rattle.shfl_table.specs.PassInvariant.{Carries, PassInvariant}
 use Rattle.shfl_table.specs.PassModel.{PassModel}
@@ -53,7 +53,7 @@ module _ {X : Type 0} (initial_state : X → List ℕ) (history : X → List Act
       none (x ∷ xs) e = absurd (omega arith)
 
   module _ (t : Terms) (mode : Mode) (n : ℕ) (me' : Me (Option X) View) (q : PassState) (e : q ≡ attempted mode own.reg n)
-      (go : FitsWords initial_state history t (attempt_plan mode) (attempted mode me.0.pass.reg) me n) (r : MovesValues initial_state history (attempted mode me.0.pass.reg) [] id.slots me n me') where
+      (go : FitsWords initial_state history t (attempt_plan mode) (attempted mode me.0.pass.reg) me n) (r : MovesValues initial_state history (attempted mode me.0.pass.reg) attempt_deeds id.slots me n me') where
     is : q ≡ attempted mode me.0.pass.reg n
     is = e ∙ ap (λ (z : PassState). attempted mode z.reg n) alike
 
@@ -72,8 +72,8 @@ module _ {X : Type 0} (initial_state : X → List ℕ) (history : X → List Act
     only : (m : Mode) → hold_of own ≡ Some m → hold_of q ≡ None → is_releasing own.phase ≡ true
     only m a b = absurd (let z : None ≡ Some m = sym out ∙ a in cc)
 
-    view : (seen : List Action) × (me'.0 ≡ view_after [] me.0 (attempted mode me.0.pass.reg n) seen)
-    view = view-by initial_state history id.slots own q me me' (attempted mode me.0.pass.reg) [] n is num num' same steady still k.carries r (hold_of own) (hold_of q) refl refl only
+    view : (seen : List Action) × (me'.0 ≡ view_after attempt_deeds me.0 (attempted mode me.0.pass.reg n) seen)
+    view = view-by initial_state history id.slots own q me me' (attempted mode me.0.pass.reg) attempt_deeds n is num num' same steady still k.carries r (hold_of own) (hold_of q) refl refl only
 
     pub try-kept : (id' : TableId) → id' ≡ id → t.rules ≡ rules → id.words ≡ wide (count t) → PassInvariant initial_state history rules q id' me'
     try-kept id' there ruled words = record {
@@ -82,16 +82,16 @@ module _ {X : Type 0} (initial_state : X → List ℕ) (history : X → List Act
       range = subst (λ i. index (site (plan rules q.reg.me q)) < i) (sym words ∙ ap (λ (z : TableId). z.words) (sym there))
           (subst (λ (z : Rules × ℕ × PassState). index (site (plan z.0 z.1 z.2)) < wide (count t)) (λ j. (ruled j, (num ∙ sym num') j, sym is j)) go.range);
       carries = subst (λ (z : TableId). Carries initial_state history z.slots q me'.0 me'.1) (sym there)
-          (carries-after initial_state history id.slots own q me me' (attempted mode me.0.pass.reg) [] n is num num' same steady still k.carries r (hold_of own) (hold_of q) refl refl only);
+          (carries-after initial_state history id.slots own q me me' (attempted mode me.0.pass.reg) attempt_deeds n is num num' same steady still k.carries r (hold_of own) (hold_of q) refl refl only);
       back = ap (λ (v : View). v.back) view.1 ∙ k.back;
     }
 
-    pub try-told : (id' : TableId) (m : PassModel X) → id' ≡ id → record { board = record { table = id; rules = rules }; own = own; steps_taken = me.0.steps_taken; decisions = me.0.decisions; initial_state = me.0.initial_state; history = me.0.history; values = values_of me.1 } ≡ m
-        → TriesOnce initial_state history m mode n (record { board = record { table = id'; rules = rules }; own = q; steps_taken = me'.0.steps_taken; decisions = me'.0.decisions; initial_state = me'.0.initial_state; history = me'.0.history; values = values_of me'.1 })
-    try-told id' m there is_m = subst (λ (z : PassModel X). TriesOnce initial_state history z mode n (record { board = record { table = id'; rules = rules }; own = q; steps_taken = me'.0.steps_taken; decisions = me'.0.decisions; initial_state = me'.0.initial_state; history = me'.0.history; values = values_of me'.1 })) is_m (record {
-      row = λ j. record { board = record { table = there j; rules = rules }; own = e j; steps_taken = (view.1 j).steps_taken; decisions = (ap (λ (v : View). v.decisions) view.1 ∙ append-nil me.0.decisions) j; initial_state = (view.1 j).initial_state; history = me'.0.history; values = values_of me'.1 };
+    pub try-told : (id' : TableId) (m : PassModel X) → id' ≡ id → record { board = record { table = id; rules = rules }; own = own; steps_taken = me.0.steps_taken; decisions = me.0.decisions; attempts = me.0.attempts; initial_state = me.0.initial_state; history = me.0.history; values = values_of me.1 } ≡ m
+        → TriesOnce initial_state history m mode n (record { board = record { table = id'; rules = rules }; own = q; steps_taken = me'.0.steps_taken; decisions = me'.0.decisions; attempts = me'.0.attempts; initial_state = me'.0.initial_state; history = me'.0.history; values = values_of me'.1 })
+    try-told id' m there is_m = subst (λ (z : PassModel X). TriesOnce initial_state history z mode n (record { board = record { table = id'; rules = rules }; own = q; steps_taken = me'.0.steps_taken; decisions = me'.0.decisions; attempts = me'.0.attempts; initial_state = me'.0.initial_state; history = me'.0.history; values = values_of me'.1 })) is_m (record {
+      row = λ j. record { board = record { table = there j; rules = rules }; own = e j; steps_taken = (view.1 j).steps_taken; decisions = (ap (λ (v : View). v.decisions) view.1 ∙ append-nil me.0.decisions) j; attempts = (view.1 j).attempts; initial_state = (view.1 j).initial_state; history = me'.0.history; values = values_of me'.1 };
       stays = λ x. let s = r.stays (sym same ∙ (out ∙ (sym x ∙ ap (λ (z : PassState). hold_of (attempted mode z.reg n)) alike))) in (ap values_of s.0, ap (λ (v : View). v.history) s.1);
-      gains = λ m a. let g : GainsHold initial_state history [] m id.slots me (attempted mode me.0.pass.reg n) me' = r.gains m (sym same ∙ out) (ap (λ (z : PassState). hold_of (attempted mode z.reg n)) (sym alike) ∙ a) in let tales : g.told ≡ me'.0.history = sym (ap (λ (v : View). v.history) g.view) in (
+      gains = λ m a. let g : GainsHold initial_state history attempt_deeds m id.slots me (attempted mode me.0.pass.reg n) me' = r.gains m (sym same ∙ out) (ap (λ (z : PassState). hold_of (attempted mode z.reg n)) (sym alike) ∙ a) in let tales : g.told ≡ me'.0.history = sym (ap (λ (v : View). v.history) g.view) in (
         subst (λ (z : List Action × ℕ). HasSeen z.0 z.1 me.0.history) (λ j. (tales j, num j)) g.knew,
         (
           g.values,
@@ -120,9 +120,9 @@ module _ {X : Type 0} (initial_state : X → List ℕ) (history : X → List Act
       by true h = absurd (cc)
       by false h = refl
 
-  pub took : is_held mid.own.phase ≡ true → (mid ≡ record old { own = as_holder mode old.own; steps_taken = old.steps_taken + 1; history = mid.history; values = mid.values }) × SeesValues initial_state history mode old mid
+  pub took : is_held mid.own.phase ≡ true → (mid ≡ record old { own = as_holder mode old.own; steps_taken = old.steps_taken + 1; attempts = old.attempts + 1; history = mid.history; values = mid.values }) × SeesValues initial_state history mode old mid
   took h = let w = held-so mode (sym (ap (λ (q : PassState). is_held q.phase) where-is) ∙ h) in (
-    t.row ∙ ap (λ (q : PassState). record old { own = q; steps_taken = old.steps_taken + 1; history = mid.history; values = mid.values }) w,
+    t.row ∙ ap (λ (q : PassState). record old { own = q; steps_taken = old.steps_taken + 1; attempts = old.attempts + 1; history = mid.history; values = mid.values }) w,
     t.gains mode (ap hold_of w),
   )
 
@@ -136,12 +136,12 @@ away-read q n true h = (refl, refl)
 away-read q n false h = absurd (cc)
 
 pub refused : {X : Type 0} (initial_state : X → List ℕ) (history : X → List Action) (old mid : PassModel X) (mode : Mode) (n : ℕ) → TriesOnce initial_state history old mode n mid → is_held mid.own.phase ≡ false → (moved : Bool) (new : PassModel X) → moved ≡ moving mid.own → (moved ≡ false → new ≡ mid)
-    → (moved ≡ true → TakesStep initial_state history mid false new) → Refuses mode n × (new ≡ record old { own = as_refused mode n old.own; steps_taken = old.steps_taken + attempt_steps mode })
+    → (moved ≡ true → TakesStep initial_state history mid false new) → Refuses mode n × (new ≡ record old { own = as_refused mode n old.own; steps_taken = old.steps_taken + attempt_steps mode; attempts = old.attempts + 1 })
 refused {X} initial_state history old mid Write n t h moved new is still step = let w : mid.own ≡ attempted Write old.own.reg n = ap (λ (z : PassModel X). z.own) t.row in
     let a = away-write old.own n (n == 0) refl (sym (ap (λ (q : PassState). is_held q.phase) w) ∙ h) in
     let s = t.stays (ap hold_of a.1) in (
       a.0,
-      still (is ∙ ap moving (w ∙ a.1)) ∙ (t.row ∙ (λ j. record old { own = a.1 j; steps_taken = old.steps_taken + 1; history = s.1 j; values = s.0 j })),
+      still (is ∙ ap moving (w ∙ a.1)) ∙ (t.row ∙ (λ j. record old { own = a.1 j; steps_taken = old.steps_taken + 1; attempts = old.attempts + 1; history = s.1 j; values = s.0 j })),
     )
 refused {X} initial_state history old mid Read n t h moved new is still step = let w : mid.own ≡ attempted Read old.own.reg n = ap (λ (z : PassModel X). z.own) t.row in
     let a = away-read old.own n (held_of n || closed_of n) (sym (ap (λ (q : PassState). is_held q.phase) w) ∙ h) in
@@ -152,5 +152,5 @@ refused {X} initial_state history old mid Read n t h moved new is still step = l
     let kept = g.stays (ap hold_of at ∙ sym (ap hold_of is_ending)) in
     let two : mid.steps_taken + 1 ≡ old.steps_taken + 2 = (let l = ap (λ (z : PassModel X). z.steps_taken) t.row in omega arith) in (
       a.0,
-      g.row ∙ (λ j. record { board = (t.row j).board; own = went j; steps_taken = two j; decisions = ((λ i. mid.decisions ++ step_decisions mid.board.rules (at i) false) ∙ (append-nil mid.decisions ∙ ap (λ (z : PassModel X). z.decisions) t.row)) j; initial_state = (t.row j).initial_state; history = (kept.1 ∙ s.1) j; values = (kept.0 ∙ s.0) j }),
+      g.row ∙ (λ j. record { board = (t.row j).board; own = went j; steps_taken = two j; decisions = ((λ i. mid.decisions ++ step_decisions mid.board.rules (at i) false) ∙ (append-nil mid.decisions ∙ ap (λ (z : PassModel X). z.decisions) t.row)) j; attempts = (t.row j).attempts; initial_state = (t.row j).initial_state; history = (kept.1 ∙ s.1) j; values = (kept.0 ∙ s.0) j }),
     )

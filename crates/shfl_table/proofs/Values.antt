@@ -17,14 +17,14 @@ use Rattle.shfl_table.specs.Histories.{Continues, HasSeen, actions_by}
 use Rattle.shfl_table.specs.declared.view.Decision.{Decision}
 use Rattle.shfl_table.specs.declared.kept.Action.{Action}
 use Rattle.shfl_table.specs.declared.view.View.{View}
-use Rattle.shfl_table.specs.Views.{passes_from, view_after}
+use Rattle.shfl_table.specs.Views.{Deeds, passes_from, step_deeds, view_after}
 use Rattle.shfl_table.specs.BoardRule.{AreHome, BoardRule, Homes, IsHome, SeatFacts, world_of}
 use Rattle.shfl_laws.proofs.laws.Holds.{alone}
 use Rattle.shfl_table.proofs.Histories.{knew_itself, knew_more}
 use Rattle.shfl_table.proofs.SeatViews.{passes-set, live-pass, pass-there, seated_after, none-some, write-read, hold-here, hold-was, hold-else, hold-same}
 
 -- a pass, whose seat knows v and carries c, goes to q, and the world stays lawful
-module _ {V : Type 0} (initial_state : V → List ℕ) (history : V → List Action) (qs : List Decision) (t : Terms) (r : List ℕ) (id : ℕ) (v : View) (s : State (Option V) View) (ok : BoardRule initial_state history t r s) (at : get_elem? s.views id ≡ some v) (live : v.live ≡ true)
+module _ {V : Type 0} (initial_state : V → List ℕ) (history : V → List Action) (qs : Deeds) (t : Terms) (r : List ℕ) (id : ℕ) (v : View) (s : State (Option V) View) (ok : BoardRule initial_state history t r s) (at : get_elem? s.views id ≡ some v) (live : v.live ≡ true)
     (q : PassState) (words : List ℕ) (law : Lawful t (record { words = words; passes = set (passes_from 0 s.views) id q })) where
   abbrev P : List PassState
   P = passes_from 0 s.views

@@ -1,5 +1,5 @@
 -- A pass that waits, step by step; and one that gives the lock back.
-use Rattle.std.proofs.Common.{length, ◌≡◌, ℕ, ◌+◌, Bool, true, false, cond, List, [], ◌∷◌, ◌++◌, map, Option, Some, None, refl, sym, ap, ◌∙◌, subst, inl, inr, ⊎_elim, append_assoc, append-nil}
+use Rattle.std.proofs.Common.{length, ◌≡◌, ℕ, ◌+◌, Bool, true, false, cond, List, [], ◌∷◌, ◌++◌, map, Option, Some, None, refl, sym, ap, ◌∙◌, subst, inl, inr, ⊎_elim, append_assoc, append-nil, arith, ◌≤◌}
 use Rattle.std.specs.Prelude.{◌&&◌, not}
 use Rattle.shfl_line.specs.declared.words.Attr.{Attr}
 use Rattle.shfl_line.specs.declared.choosers.Answer.{Answer}
@@ -64,18 +64,19 @@ leaves-ends Release e = refl
 leaves-ends ReadRelease e = refl
 leaves-ends _ e = absurd (cc)
 
-module _ {X : Type 0} (initial_state : X → List ℕ) (history : X → List Action) (mode : Mode) where
+module _ {X : Type 0} (initial_state : X → List ℕ) (history : X → List Action) (attempts : ℕ) (mode : Mode) where
   -- a pass that begins
-  pub waits-first : (old : PassModel X) → is_idle old.own.phase ≡ true → old.values ≡ [] → WaitsFor initial_state history mode old (record old { own = acquired mode old.own })
+  pub waits-first : (old : PassModel X) → is_idle old.own.phase ≡ true → old.values ≡ [] → WaitsFor initial_state history attempts mode old (record old { own = acquired mode old.own })
   waits-first old idle none = by (is_idle old.own.phase) idle mode refl
     where
-      by : (b : Bool) → b ≡ true → (m : Mode) → mode ≡ m → WaitsFor initial_state history mode old (record old { own = cond b (record old.own { phase = entry mode; reg = record old.own.reg { mode = mode } }) old.own })
+      by : (b : Bool) → b ≡ true → (m : Mode) → mode ≡ m → WaitsFor initial_state history attempts mode old (record old { own = cond b (record old.own { phase = entry mode; reg = record old.own.reg { mode = mode } }) old.own })
       by false e m f = absurd (cc)
       by true e m f = record {
         board = refl;
         root_is = refl;
         number = refl;
         mode_is = refl;
+        tried = omega arith;
         goes_on = begins mode;
         out = λ _. (none, refl);
         within = λ x h. absurd (no-hold mode mode x h);
@@ -90,12 +91,13 @@ module _ {X : Type 0} (initial_state : X → List ℕ) (history : X → List Act
           no-hold Read n x e = let z : None ≡ Some x = e in cc
 
   -- what waits after tries in vain waits from before them
-  pub waits-after : (old tried new : PassModel X) → TriedInVain old tried → WaitsFor initial_state history mode tried new → WaitsFor initial_state history mode old new
+  pub waits-after : (old tried new : PassModel X) → TriedInVain attempts old tried → WaitsFor initial_state history 0 mode tried new → WaitsFor initial_state history attempts mode old new
   waits-after old tried new v w = record {
     board = w.board ∙ v.board;
     root_is = w.root_is ∙ v.root_is;
     number = w.number ∙ v.number;
     mode_is = w.mode_is;
+    tried = (let a = w.tried in let b = v.tried in omega arith);
     goes_on = w.goes_on;
     out = λ e. let b = w.out e in (b.0, b.1 ∙ v.seen);
     within = λ m e. earlier m (w.within m e);
@@ -105,7 +107,20 @@ module _ {X : Type 0} (initial_state : X → List ℕ) (history : X → List Act
       earlier m g = subst (λ (z : ℕ × List Action × List ℕ × BoardId). HasSeen new.history z.0 z.1 × ((xs : List X) × (new.values ≡ map Some xs) × (length xs ≡ place_count (Some m) z.0 z.3.table.slots) × Every (IsCurrent initial_state history z.2 new.history) xs))
           (λ j. (v.number j, v.seen j, v.root_is j, v.board j)) g
 
-  module _ (old now new : PassModel X) (choice : Bool) (w : WaitsFor initial_state history mode old now) (s : TakesStep initial_state history now choice new) where
+  -- where stealing is disabled meanwhile, it waits on
+  pub waits-beside : (old now : PassModel X) (n : ℕ) → WaitsFor initial_state history attempts mode old now → WaitsFor initial_state history attempts mode old (record now { steps_taken = n })
+  waits-beside old now n w = record {
+    board = w.board;
+    root_is = w.root_is;
+    number = w.number;
+    mode_is = w.mode_is;
+    tried = w.tried;
+    goes_on = w.goes_on;
+    out = w.out;
+    within = w.within;
+  }
+
+  module _ (old now new : PassModel X) (choice : Bool) (w : WaitsFor initial_state history attempts mode old now) (s : TakesStep initial_state history now choice new) where
     own-is : new.own ≡ take now.board.rules now.own.reg.me now.own s.found choice
     own-is = ap (λ (z : PassModel X). z.own) s.row
 
@@ -135,12 +150,13 @@ module _ {X : Type 0} (initial_state : X → List ℕ) (history : X → List Act
     in-so m (Some x) e f = let same : x ≡ m = sym (holds-mode (is_holding now.own.phase) now.own.reg.mode x e) ∙ (w.mode_is ∙ (sym mode-so ∙ holds-mode (is_holding new.own.phase) new.own.reg.mode m f)) in
         kept m (w.within m (e ∙ ap (λ (z : Mode). Some z) same)) (s.stays (e ∙ (ap (λ (z : Mode). Some z) same ∙ sym f)))
 
-    pub waits-more : WaitsFor initial_state history mode old new
+    pub waits-more : WaitsFor initial_state history attempts mode old new
     waits-more = record {
       board = ap (λ (z : PassModel X). z.board) s.row ∙ w.board;
       root_is = ap (λ (z : PassModel X). z.initial_state) s.row ∙ w.root_is;
       number = s.number ∙ w.number;
       mode_is = mode-so;
+      tried = (let a = ap (λ (z : PassModel X). z.attempts) s.row in let b = w.tried in omega arith);
       goes_on = on;
       out = out-so (hold_of now.own) refl;
       within = λ m. in-so m (hold_of now.own) refl;
@@ -183,7 +199,7 @@ module _ {X : Type 0} (initial_state : X → List ℕ) (history : X → List Act
           let went : take old.board.rules old.own.reg.me (released old.own) s.found false ≡ as_idle old.own = ap (λ (q : PassState). take old.board.rules old.own.reg.me q s.found false) at ∙ goes m s.found in
           let ends_at = ap (λ (z : PassModel X). z.own) s.row ∙ (ap (λ (k : ℕ). take old.board.rules k (released old.own) s.found false) (ap (λ (q : PassState). q.reg.me) at) ∙ went) in
           let f = s.frees old.own.reg.mode (ap hold_of at ∙ held m) (ap hold_of ends_at) xs says in
-          s.row ∙ (λ j. record { board = old.board; own = (ap (λ (k : ℕ). take old.board.rules k (released old.own) s.found false) (ap (λ (q : PassState). q.reg.me) at) ∙ went) j; steps_taken = old.steps_taken + 1; decisions = (ap (λ (q : PassState). old.decisions ++ step_decisions old.board.rules q false) at ∙ (quiet m ∙ append-nil old.decisions)) j; initial_state = old.initial_state; history = f.1 j; values = f.0 j })
+          s.row ∙ (λ j. record { board = old.board; own = (ap (λ (k : ℕ). take old.board.rules k (released old.own) s.found false) (ap (λ (q : PassState). q.reg.me) at) ∙ went) j; steps_taken = old.steps_taken + 1; decisions = (ap (λ (q : PassState). old.decisions ++ step_decisions old.board.rules q false) at ∙ (quiet m ∙ append-nil old.decisions)) j; attempts = old.attempts; initial_state = old.initial_state; history = f.1 j; values = f.0 j })
         where
           moves : (m : Mode) → moving (record { phase = exit m; reg = old.own.reg; nap = Awake }) ≡ true
           moves Write = refl
@@ -205,7 +221,7 @@ pub has-hold : (q : PassState) (m : Mode) → is_resting q ≡ true → q.reg.mo
 has-hold q m r e = ap (λ f. cond (is_holding f) (Some q.reg.mode) None) (resting-is q r).0 ∙ ap (λ (z : Mode). Some z) e
 
 -- a pass that waited and holds the lock has all the places of its hold, and their values are in
-pub waits-in : {X : Type 0} (initial_state : X → List ℕ) (history : X → List Action) (mode : Mode) (old now : PassModel X) → WaitsFor initial_state history mode old now → is_resting now.own ≡ true
+pub waits-in : {X : Type 0} (initial_state : X → List ℕ) (history : X → List Action) (attempts : ℕ) (mode : Mode) (old now : PassModel X) → WaitsFor initial_state history attempts mode old now → is_resting now.own ≡ true
     → AreIn history now.history now.values × (length now.values ≡ place_count (Some mode) old.own.reg.me old.board.table.slots)
-waits-in initial_state history mode old now w rests = let s = w.within mode (has-hold now.own mode rests w.mode_is) in
+waits-in initial_state history attempts mode old now w rests = let s = w.within mode (has-hold now.own mode rests w.mode_is) in
     ((s.1.0, s.1.1, sees-in initial_state history old.initial_state now.history s.1.0 s.1.3), ap length s.1.1 ∙ (length-map s.1.0 Some ∙ s.1.2))

@@ -8,4 +8,7 @@ pub mod Places
 pub mod ValueMoves
 pub mod Views
 pub mod Waits
+pub mod Outcomes
+pub mod Queueing
+pub mod Disabling
 pub mod Books

@@ -32,6 +32,8 @@ pub record PassModel (X : Type 0) : Type 0 where
   pub steps_taken : ℕ
   -- what its steps asked the policy, with the choices
   pub decisions : List Decision
+  -- how often it tried to take the lock without queueing
+  pub attempts : ℕ
   -- that of all the board's values
   pub initial_state : List ℕ
   -- what it saw of the history of the values when it last held the lock
@@ -50,6 +52,7 @@ fresh_pass initial_state board k = record {
   own = idle k;
   steps_taken = 0;
   decisions = [];
+  attempts = 0;
   initial_state = initial_state;
   history = [];
   values = [];

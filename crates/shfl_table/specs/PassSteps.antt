@@ -33,7 +33,7 @@ pub record TakesStep {X : Type 0} (initial_state : X → List ℕ) (history : X 
 
 -- the one operation of an attempt, which found n
 pub record TriesOnce {X : Type 0} (initial_state : X → List ℕ) (history : X → List Action) (old : PassModel X) (mode : Mode) (n : ℕ) (new : PassModel X) : Type 0 where
-  pub row : new ≡ record old { own = attempted mode old.own.reg n; steps_taken = old.steps_taken + 1; history = new.history; values = new.values }
+  pub row : new ≡ record old { own = attempted mode old.own.reg n; steps_taken = old.steps_taken + 1; attempts = old.attempts + 1; history = new.history; values = new.values }
   pub stays : hold_of (attempted mode old.own.reg n) ≡ None → (new.values ≡ old.values) × (new.history ≡ old.history)
   pub gains : (m : Mode) → hold_of (attempted mode old.own.reg n) ≡ Some m → SeesValues initial_state history m old new
 
@@ -59,6 +59,7 @@ WinsAttempt initial_state history mode old new =
     (new ≡ record old {
       own = as_holder mode old.own;
       steps_taken = old.steps_taken + 1;
+      attempts = old.attempts + 1;
       history = new.history;
       values = new.values;
     })
@@ -71,4 +72,5 @@ LosesAttempt mode word old new =
     × (new ≡ record old {
       own = as_refused mode word old.own;
       steps_taken = old.steps_taken + attempt_steps mode;
+      attempts = old.attempts + 1;
     })

@@ -15,11 +15,11 @@ use Rattle.shfl_table.specs.declared.view.View.{View}
 use Rattle.shfl_laws.specs.Holds.{hold_of}
 use Rattle.shfl_table.specs.Places.{first_place, place_count, numbered, Every}
 use Rattle.shfl_table.specs.Histories.{HasSeen, Continues, common_history, IsCurrent}
-use Rattle.shfl_table.specs.Views.{number, view_after, step_decisions}
+use Rattle.shfl_table.specs.Views.{Deeds, attempt_deeds, number, step_deeds, view_after}
 
 module _ {V : Type 0} (initial_state : V → List ℕ) (history : V → List Action) where
   -- the hold came: so did its places
-  pub record GainsHold (qs : List Decision) (mode : Mode) (slots : ℕ) (m : Me (Option V) View) (q : PassState) (m' : Me (Option V) View) : Type 0 where
+  pub record GainsHold (qs : Deeds) (mode : Mode) (slots : ℕ) (m : Me (Option V) View) (q : PassState) (m' : Me (Option V) View) : Type 0 where
     pub values : List V
     pub told : List Action
     pub long : length values ≡ place_count (Some mode) (number m.0) slots
@@ -29,7 +29,7 @@ module _ {V : Type 0} (initial_state : V → List ℕ) (history : V → List Act
     pub view : m'.0 ≡ view_after qs m.0 q told
 
   -- any operation: by the hold before and after, places come, go, or stay
-  pub record MovesValues (next : ℕ → PassState) (qs : List Decision) (slots : ℕ) (m : Me (Option V) View) (n : ℕ) (m' : Me (Option V) View) : Type 0 where
+  pub record MovesValues (next : ℕ → PassState) (qs : Deeds) (slots : ℕ) (m : Me (Option V) View) (n : ℕ) (m' : Me (Option V) View) : Type 0 where
     pub stays : hold_of m.0.pass ≡ hold_of (next n) → (m'.1 ≡ m.1) × (m'.0 ≡ view_after qs m.0 (next n) m.0.history)
     pub gains : (mode : Mode) → hold_of m.0.pass ≡ None → hold_of (next n) ≡ Some mode → GainsHold qs mode slots m (next n) m'
     pub frees : (mode : Mode) → hold_of m.0.pass ≡ Some mode → hold_of (next n) ≡ None → (i : ℕ) (xs : List V) → m.1 ≡ numbered i (map Some xs) → (m'.1 ≡ []) × (m'.0 ≡ view_after qs m.0 (next n) (common_history history m.0.history xs))
@@ -49,13 +49,13 @@ module _ {V : Type 0} (initial_state : V → List ℕ) (history : V → List Act
     pub stays : (next n).reg.me ≡ number m.0
     pub range : InRange t (number m.0) (next n)
 
-  abbrev pub access_play : Terms → Access → (ℕ → PassState) → List Decision → Step (Option V) → Me (Option V) View → ℕ → Me (Option V) View → Type 0
+  abbrev pub access_play : Terms → Access → (ℕ → PassState) → Deeds → Step (Option V) → Me (Option V) View → ℕ → Me (Option V) View → Type 0
   access_play t a next qs st m n m' = FitsWords t a next m n × MovesValues next qs st.slots m n m'
 
   -- the step of a pass
   abbrev pub step_play : Terms → PassState → Bool → Step (Option V) → Me (Option V) View → ℕ → Me (Option V) View → Type 0
-  step_play t q choice st m n m' = access_play t (plan t.rules (number m.0) q) (λ i. take t.rules (number m.0) q i choice) (step_decisions t.rules q choice) st m n m'
+  step_play t q choice st m n m' = access_play t (plan t.rules (number m.0) q) (λ i. take t.rules (number m.0) q i choice) (step_deeds t.rules q choice) st m n m'
 
   -- the one operation of an attempt
   abbrev pub attempt_play : Terms → Mode → Step (Option V) → Me (Option V) View → ℕ → Me (Option V) View → Type 0
-  attempt_play t mode st m n m' = access_play t (attempt_plan mode) (attempted mode m.0.pass.reg) [] st m n m'
+  attempt_play t mode st m n m' = access_play t (attempt_plan mode) (attempted mode m.0.pass.reg) attempt_deeds st m n m'

@@ -28,6 +28,7 @@ new_view initial_state k = record {
   pass = idle k;
   steps_taken = 0;
   decisions = [];
+  attempts = 0;
   initial_state = initial_state;
   history = [];
   live = true;
@@ -53,12 +54,27 @@ decision_on choice a = record { ask = a; choice = choice } ∷ []
 abbrev pub step_decisions : Rules → PassState → Bool → List Decision
 step_decisions r q choice = decision_on choice (ask r q)
 
--- the view after an operation that led to this pass state, with these decisions and this history
-abbrev pub view_after : List Decision → View → PassState → List Action → View
+-- what an operation adds to what its pass did: decisions, or an attempt
+pub record Deeds : Type 0 where
+  pub decisions : List Decision
+  pub attempts : Bool
+
+abbrev pub step_deeds : Rules → PassState → Bool → Deeds
+step_deeds r q choice = record { decisions = step_decisions r q choice; attempts = false }
+
+abbrev pub attempt_deeds : Deeds
+attempt_deeds = record { decisions = []; attempts = true }
+
+abbrev pub no_deeds : Deeds
+no_deeds = record { decisions = []; attempts = false }
+
+-- the view after an operation that led to this pass state, with what it adds and this history
+abbrev pub view_after : Deeds → View → PassState → List Action → View
 view_after qs v q told = record v {
   pass = q;
   steps_taken = v.steps_taken + 1;
-  decisions = v.decisions ++ qs;
+  decisions = v.decisions ++ qs.decisions;
+  attempts = cond qs.attempts (v.attempts + 1) v.attempts;
   history = told;
 }
 

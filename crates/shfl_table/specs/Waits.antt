@@ -1,5 +1,5 @@
 -- A pass that waits for the lock, and what it asks meanwhile.
-use Rattle.std.specs.Prelude.{◌≡◌, ◌⊎◌, ◌&&◌, ℕ, Bool, true, false, List, [], ◌∷◌, ◌++◌, Option, Some, None}
+use Rattle.std.specs.Prelude.{◌≡◌, ◌⊎◌, ◌&&◌, ◌+◌, ◌≤◌, ℕ, Bool, true, false, List, [], ◌∷◌, ◌++◌, Option, Some, None}
 use Rattle.shfl_line.specs.declared.words.Attr.{Attr}
 use Rattle.shfl_line.specs.declared.choosers.Answer.{Answer}
 use Rattle.shfl_line.specs.Policies.{skip_answer, should_answer}
@@ -59,21 +59,23 @@ IsOpenInRounds in_round q = in_round ≡ true → is_round q.phase ≡ true
 abbrev pub as_idle : PassState → PassState
 as_idle q = record { phase = Idle; reg = q.reg; nap = Awake }
 
--- a pass that began to take the lock in a mode, and made some steps since
-pub record WaitsFor {X : Type 0} (initial_state : X → List ℕ) (history : X → List Action) (mode : Mode) (old now : PassModel X) : Type 0 where
+-- a pass that began to take the lock in a mode, after so many attempts at most, and made some steps since
+pub record WaitsFor {X : Type 0} (initial_state : X → List ℕ) (history : X → List Action) (attempts : ℕ) (mode : Mode) (old now : PassModel X) : Type 0 where
   pub board : now.board ≡ old.board
   pub root_is : now.initial_state ≡ old.initial_state
   pub number : now.own.reg.me ≡ old.own.reg.me
   pub mode_is : now.own.reg.mode ≡ mode
+  pub tried : now.attempts ≤ old.attempts + attempts
   pub goes_on : is_ending now.own.phase ≡ false
   pub out : hold_of now.own ≡ None → (now.values ≡ []) × (now.history ≡ old.history)
   pub within : (m : Mode) → hold_of now.own ≡ Some m → SeesValues initial_state history m old now
 
--- a pass that tried to take the lock without queueing, and is idle as before
-pub record TriedInVain {X : Type 0} (old now : PassModel X) : Type 0 where
+-- a pass that tried so often at most to take the lock without queueing, and is idle as before
+pub record TriedInVain {X : Type 0} (attempts : ℕ) (old now : PassModel X) : Type 0 where
   pub board : now.board ≡ old.board
   pub root_is : now.initial_state ≡ old.initial_state
   pub number : now.own.reg.me ≡ old.own.reg.me
+  pub tried : now.attempts ≤ old.attempts + attempts
   pub rests : is_idle now.own.phase ≡ true
   pub asked : now.decisions ≡ old.decisions
   pub seen : now.history ≡ old.history

@@ -1,6 +1,6 @@
 //! The board: the words and the values that threads share.
 use crate::kept::Kept;
-use crate::sleepers::Sleeper;
+use crate::sleepers::{Sleeper, SleepingHead};
 use crate::view::{LawfulBoard, Opening, View};
 use atomic_table::Table;
 use std::alloc::Global;
@@ -12,8 +12,10 @@ pub struct SharedBoard<V: Kept + Drop> {
     pub(crate) table: Table<Option<V>, View, Opening<V>, LawfulBoard, Global>,
     // Room for the values at the end, so that the closing takes no memory.
     pub(crate) room: Vec<V>,
-    // One for each of the first passes, mostly for all. No proof rests on them.
+    // One for each of the first passes, mostly for all. No proof rests on them, nor on the next.
     pub(crate) sleepers: Vec<Sleeper>,
+    // The queue's head, while it sleeps.
+    pub(crate) head: SleepingHead,
 }
 
 impl<V: Kept + Drop> Model for SharedBoard<V> {

@@ -121,6 +121,7 @@ impl<V: Kept + Drop> Closing<V> {
             table,
             room,
             sleepers: _,
+            head: _,
         } = board;
         let places = table.slot_count();
         drained(table.close_with(desk), places, room)

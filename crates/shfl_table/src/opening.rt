@@ -1,7 +1,7 @@
 //! The opening of a board.
 ghost use Rattle.std.specs.Prelude.{◌≡◌, ℕ, ◌<◌, ◌≤◌, true, [], map, All, IfOk, length, vec_len, slice_get, Some};
 ghost use Rattle.shfl_core.specs.Waiting.{idle};
-ghost use Rattle.shfl_core.specs.Words.{wide};
+ghost use Rattle.shfl_core.specs.Words.{most_passes, wide};
 ghost use Rattle.shfl_table.specs.Histories.{AreUntouched, initial_state_of};
 ghost use Rattle.shfl_table.specs.PassModel.{IsIdleAt, fresh_pass};
 ghost use Rattle.shfl_table.specs.Views.{first_view};
@@ -9,7 +9,7 @@ ghost use Rattle.shfl_table.specs.Views.{first_view};
 use crate::board::SharedBoard;
 use crate::kept::Kept;
 use crate::passes::Pass;
-use crate::sleepers::Sleeper;
+use crate::sleepers::{Sleeper, SleepingHead};
 use crate::view::{LawfulBoard, NextPass, Opening, View};
 use atomic_table::{Seat, Shared, Table};
 use shfl_core::Rules;
@@ -24,6 +24,7 @@ fn seated<V: Kept + Drop>(rules: Rules, number: u32, seat: Seat<Option<V>, View>
     requires words { 0 < seat.table_id.words }
     requires view { (seat.me.0.live ≡ true) × (seat.me.0.pass ≡ idle number)
         × (seat.me.0.steps_taken ≡ 0) × (seat.me.0.decisions ≡ []) × (seat.me.0.history ≡ [])
+        × (seat.me.0.attempts ≡ 0)
         × (seat.me.0.back ≡ []) × (seat.me.1 ≡ []) }
     ensures { result ≡ fresh_pass seat.me.0.initial_state
         (record { table = seat.table_id; rules = rules }) number }
@@ -98,7 +99,7 @@ pub fn open_with_sleepers<V: Kept + Drop>(
     sleepers: u32,
 ) -> Result<(SharedBoard<V>, Vec<Pass<V>>), NoMemory>
     requires some { 0 < length attrs.now }
-    requires few { length attrs.now ≤ 64 }
+    requires few { length attrs.now ≤ most_passes }
     requires limited { (0 < limit) × (limit ≤ 1024) }
     requires values { AreUntouched V.initial_state V.history values.items }
     ensures board { IfOk result (λ r.
@@ -132,12 +133,13 @@ pub fn open_with_sleepers<V: Kept + Drop>(
             table,
             room,
             sleepers,
+            head: SleepingHead::new(),
         },
         passes,
     ))
 }
 
-/// A board with an idle pass for each of these attributes, and with these values behind its lock: none, one, or one for each pass.
+/// A board with an idle pass for each of these attributes, up to 65,535, and with these values behind its lock: none, one, or one for each pass.
 /// `limit` bounds a batch, from 1 to 1,024.
 pub fn open<V: Kept + Drop>(
     alloc: Global,
@@ -147,7 +149,7 @@ pub fn open<V: Kept + Drop>(
     values: Vec<V>,
 ) -> Result<(SharedBoard<V>, Vec<Pass<V>>), NoMemory>
     requires some { 0 < length attrs.now }
-    requires few { length attrs.now ≤ 64 }
+    requires few { length attrs.now ≤ most_passes }
     requires limited { (0 < limit) × (limit ≤ 1024) }
     requires values { AreUntouched V.initial_state V.history values.items }
     ensures board { IfOk result (λ r.

@@ -1,5 +1,5 @@
 //! The atomic operations of a pass on its board.
-ghost use Rattle.std.specs.Prelude.{◌≡◌, ◌<◌, true, [], Some};
+ghost use Rattle.std.specs.Prelude.{◌≡◌, ◌<◌, true, Some};
 ghost use Rattle.shfl_line.specs.declared.events.Mode.{Mode};
 ghost use Rattle.shfl_core.specs.declared.phase.Phase.TheVariants.{Idle};
 ghost use Rattle.shfl_core.specs.Plan.{plan, attempt_plan};
@@ -9,7 +9,7 @@ ghost use Rattle.shfl_core.specs.Waiting.{MayUse};
 ghost use Rattle.shfl_laws.specs.Seen.{SeenAs};
 ghost use Rattle.shfl_laws.specs.Holds.{hold_of, is_releasing};
 ghost use Rattle.shfl_table.specs.ValueMoves.{FitsWords, MovesValues, MayFree};
-ghost use Rattle.shfl_table.specs.Views.{step_decisions, number};
+ghost use Rattle.shfl_table.specs.Views.{attempt_deeds, step_deeds, number};
 ghost use Rattle.shfl_laws.specs.Moves.{told_terms};
 
 use crate::kept::Kept;
@@ -45,7 +45,7 @@ pub fn operate<V: Kept, M: StepTerms>(
         shared.now.key.count shared.now.key.words.value.items) (plan rules own.reg.me own)
         (λ n. take rules own.reg.me own n choice) seat.old.me result }
     ensures played { MovesValues V.initial_state V.history
-        (λ n. take rules own.reg.me own n choice) (step_decisions rules own choice)
+        (λ n. take rules own.reg.me own n choice) (step_deeds rules own choice)
         seat.old.table_id.slots seat.old.me result seat.new.me }
 {
     let access = plan_row(rules, own.reg.me, own);
@@ -72,7 +72,7 @@ pub fn attempt_once<V: Kept, M: AttemptTerms>(
         shared.now.key.count shared.now.key.words.value.items) (attempt_plan mode)
         (attempted mode seat.old.me.0.pass.reg) seat.old.me result }
     ensures played { MovesValues V.initial_state V.history
-        (attempted mode seat.old.me.0.pass.reg) [] seat.old.table_id.slots seat.old.me result
+        (attempted mode seat.old.me.0.pass.reg) attempt_deeds seat.old.table_id.slots seat.old.me result
         seat.new.me }
 {
     let access = attempt_access(mode);

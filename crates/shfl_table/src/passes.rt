@@ -5,13 +5,16 @@ ghost use Rattle.shfl_core.specs.Take as taking;
 ghost use Rattle.shfl_core.specs.Waiting as waiting;
 ghost use Rattle.shfl_core.specs.Waiting.{MayUse};
 ghost use Rattle.shfl_laws.specs.Holds.{hold_of};
+ghost use Rattle.shfl_table.specs.Outcomes.{IsOutcome};
 ghost use Rattle.shfl_table.specs.PassModel.{AreIn};
 ghost use Rattle.shfl_table.specs.PassSteps.{TakesStep};
 ghost use Rattle.shfl_table.specs.Places.{place_count};
+ghost use Rattle.shfl_table.specs.declared.outcomes.Outcome.TheVariants.{Resting};
 
 use crate::board::SharedBoard;
 use crate::kept::Kept;
 use crate::operation::operate;
+use crate::outcomes::{Outcome, outcome_of};
 use crate::view::View;
 use atomic_table::Seat;
 use shfl_core::asks::{acquire_row_in_place, ask_row, is_moving, release_row_in_place, watch_row};
@@ -40,6 +43,7 @@ impl<V: Kept> Model for Pass<V> {
       own = p.own;
       steps_taken = p.seat.me.0.steps_taken;
       decisions = p.seat.me.0.decisions;
+      attempts = p.seat.me.0.attempts;
       initial_state = p.seat.me.0.initial_state;
       history = p.seat.me.0.history;
       values = values_of p.seat.me.1;
@@ -130,8 +134,28 @@ impl<V: Kept + Drop> Pass<V> {
         release_row_in_place(&mut self.own)
     }
 
-    /// Makes one step, which is one atomic operation on one word. `choice` answers what it asks. False, and nothing changes, where
-    /// the pass has no step to make. It waits for nobody, and takes no memory.
+    /// Makes one step, which is one atomic operation on one word, and tells what came of it. `choice` answers what it asks. Nothing
+    /// changes where the pass has no step to make. It waits for nobody, and takes no memory.
+    #[inline(always)]
+    pub fn advance(&mut self, board: &SharedBoard<V>, choice: bool) -> Outcome
+        requires board { self.old.board ≡ board.now.id }
+        ensures resting { plan.moving self.old.own ≡ false
+            → (result ≡ Resting) × (self.new ≡ self.old) }
+        ensures row { plan.moving self.old.own ≡ true
+            → (s : TakesStep V.initial_state V.history self.old choice self.new)
+            × IsOutcome self.old.own s.found self.new.own result }
+    {
+        if !is_moving(self.own) {
+            return Outcome::Resting;
+        }
+        let own = self.own;
+        let table = &board.table;
+        let found = operate::<V, Brand>(&table.shared, &mut self.seat, self.rules, own, choice);
+        take_row_in_place(self.rules, own.reg.me, &mut self.own, found, choice);
+        outcome_of(own, found, self.own)
+    }
+
+    /// Makes one step, as `advance` does. False, and nothing changes, where the pass has no step to make.
     #[inline(always)]
     pub fn step(&mut self, board: &SharedBoard<V>, choice: bool) -> bool
         requires board { self.old.board ≡ board.now.id }
@@ -140,13 +164,8 @@ impl<V: Kept + Drop> Pass<V> {
         ensures row { result ≡ true
             → TakesStep V.initial_state V.history self.old choice self.new }
     {
-        if !is_moving(self.own) {
-            return false;
-        }
-        let own = self.own;
-        let table = &board.table;
-        let found = operate::<V, Brand>(&table.shared, &mut self.seat, self.rules, own, choice);
-        take_row_in_place(self.rules, own.reg.me, &mut self.own, found, choice);
-        true
+        let moving = is_moving(self.own);
+        let _ = self.advance(board, choice);
+        moving
     }
 }

@@ -1,22 +1,33 @@
-//! What a pass does between two looks at a word that doesn't change.
+//! What a waiter does between two looks at a word that doesn't change, and between two rounds that move nobody.
+use crate::board::SharedBoard;
 use crate::kept::Kept;
+use crate::outcomes::Outcome;
 use crate::passes::Pass;
+use shfl_core::Phase;
 use shfl_line::Form;
 use std::sync::Wait;
 use std::sync::atomic::AtomicU64;
 use std::time::Duration;
 use std::{hint, thread};
 
-// How often a pass looks before it gives its processor to others, and how often it has looked when, in a form whose waiters sleep, it
-// naps instead.
-const LOOKS: u32 = 50;
+// How often a waiter looks again at once, in the queue and at its head; then it gives its processor to others a few times, and sleeps.
+const SPINS: u32 = 100;
 
-const NAPS: u32 = 250;
+const SPINS_AT_HEAD: u32 = 1000;
 
-// Each nap is longer than the one before by so many microseconds, up to a millisecond.
-const LONGER: u32 = 16;
+const YIELDS: u32 = 4;
 
-const LONGEST: u32 = 1000;
+// After so many rounds that moved nobody a shuffler sleeps until the next; before, it spins so long, and each time twice as long.
+const BRIEF_ROUNDS: u32 = 3;
+
+const BRIEF_PAUSE: u32 = 64;
+
+// The first sleep, in microseconds; each next one is twice as long, up to a longest one, which is shorter at the queue's head.
+const FIRST_SLEEP: u32 = 50;
+
+const DOUBLINGS: u32 = 8;
+
+const LONGEST_AT_HEAD: u32 = 1000;
 
 /// Whether waiters sleep in the lock's form.
 pub(crate) fn sleeps<V: Kept>(pass: &Pass<V>) -> bool {
@@ -28,18 +39,136 @@ pub(crate) fn nap<Rt: Wait>(rt: &Rt, micros: u32) {
     AtomicU64::new(0).park_timeout(rt, 0, Duration::from_micros(u64::from(micros)));
 }
 
-/// Lets others go on where the pass looks again, and counts how often it did.
-pub(crate) fn pause<V: Kept, Rt: Wait>(rt: &Rt, pass: &Pass<V>, looks: u32, again: bool) -> u32 {
-    if !again {
-        return 0;
+/// What a waiter remembers of its pauses.
+#[derive(Drop)]
+pub(crate) struct Pauses {
+    // How often it looked in vain since it last went on.
+    looks: u32,
+    // How many rounds in a row moved nobody.
+    rounds: u32,
+    // How often it slept since it last moved somebody or became the head.
+    sleeps: u32,
+    // Others know that it may sleep.
+    announced: bool,
+    // Whoever frees the lock knows it too.
+    at_head: bool,
+}
+
+impl Pauses {
+    pub(crate) fn new() -> Pauses {
+        Pauses {
+            looks: 0,
+            rounds: 0,
+            sleeps: 0,
+            announced: false,
+            at_head: false,
+        }
     }
-    if looks < LOOKS {
-        hint::spin_loop();
-    } else if looks < NAPS || !sleeps(pass) {
-        thread::yield_now();
-    } else {
-        let longer = (looks - NAPS).saturating_mul(LONGER).saturating_add(LONGER);
-        nap(rt, longer.min(LONGEST));
+
+    // Sleeps, unless a wake came since it was announced; where it wasn't, that comes first, and the waiter looks once more before. Who was
+    // woken stays awake for a while.
+    fn sleep<V: Kept + Drop, Rt: Wait>(&mut self, rt: &Rt, board: &SharedBoard<V>, pass: &Pass<V>) {
+        let Some(sleeper) = board.sleepers.get(pass.number() as usize) else {
+            thread::yield_now();
+            return;
+        };
+        let head = matches!(pass.phase(), Phase::Peek | Phase::HeadLook);
+        if head && !self.at_head {
+            board.head.announce(pass.number());
+            self.at_head = true;
+            self.announced = sleeper.announce();
+            self.sleeps = 0;
+            return;
+        }
+        if self.announced {
+            let longer = FIRST_SLEEP << self.sleeps.min(DOUBLINGS);
+            let micros = if head {
+                longer.min(LONGEST_AT_HEAD)
+            } else {
+                longer
+            };
+            self.sleeps = self.sleeps.saturating_add(1);
+            if sleeper.sleep_at_most(rt, micros) {
+                self.looks = 0;
+            }
+        }
+        self.announced = sleeper.announce();
     }
-    looks.saturating_add(1)
+
+    // Lets others go on between two looks. Who has the lock word and waits for its successor's link gives its processor away last.
+    fn look_again<V: Kept + Drop, Rt: Wait>(
+        &mut self,
+        rt: &Rt,
+        board: &SharedBoard<V>,
+        pass: &Pass<V>,
+    ) {
+        let looks = self.looks;
+        self.looks = looks.saturating_add(1);
+        let spins = match pass.phase() {
+            Phase::Look => SPINS,
+            _ => SPINS_AT_HEAD,
+        };
+        if looks < spins {
+            hint::spin_loop();
+        } else if looks < spins + YIELDS || matches!(pass.phase(), Phase::Late) {
+            thread::yield_now();
+        } else {
+            self.sleep(rt, board, pass);
+        }
+    }
+
+    // Pauses after a round that moved nobody, longer each time. The head goes on: it looks for the lock.
+    fn after_round<V: Kept + Drop, Rt: Wait>(
+        &mut self,
+        rt: &Rt,
+        board: &SharedBoard<V>,
+        pass: &Pass<V>,
+    ) {
+        if !matches!(pass.phase(), Phase::Look) {
+            return;
+        }
+        let rounds = self.rounds;
+        self.rounds = rounds.saturating_add(1);
+        if rounds < BRIEF_ROUNDS {
+            for _ in 0..BRIEF_PAUSE << rounds.min(BRIEF_ROUNDS) {
+                hint::spin_loop();
+            }
+        } else {
+            self.sleep(rt, board, pass);
+        }
+    }
+
+    /// What comes between a step and the next one. Only a step that looked in vain is followed by a pause, and a round that moved nobody.
+    pub(crate) fn after<V: Kept + Drop, Rt: Wait>(
+        &mut self,
+        rt: &Rt,
+        board: &SharedBoard<V>,
+        pass: &Pass<V>,
+        outcome: Outcome,
+    ) {
+        match outcome {
+            Outcome::Resting => {}
+            Outcome::Advanced => {
+                self.looks = 0;
+                if matches!(pass.phase(), Phase::Mark) {
+                    self.rounds = 0;
+                    self.sleeps = 0;
+                }
+            }
+            Outcome::InVain | Outcome::InVainOpen => self.look_again(rt, board, pass),
+            Outcome::GroupedNobody => self.after_round(rt, board, pass),
+        }
+    }
+
+    /// The waiter holds the lock, and sleeps no more.
+    pub(crate) fn end<V: Kept + Drop>(&self, board: &SharedBoard<V>, pass: &Pass<V>) {
+        if self.at_head {
+            board.head.rise(pass.number());
+        }
+        if self.announced {
+            if let Some(sleeper) = board.sleepers.get(pass.number() as usize) {
+                sleeper.rise();
+            }
+        }
+    }
 }

@@ -70,3 +70,28 @@ impl<M: AttemptTerms, V: Kept> Play<Option<V>, View> for AttemptPlay<M> {
 
     ghost then = { attempt_play V.initial_state V.history M.goal M.wants };
 }
+
+/// What disabling stealing is made for: the rules and attributes.
+pub trait DisablingTerms {
+    ghost use Rattle.shfl_core.specs.Lawful.{Terms};
+
+    ghost lock: { Terms };
+}
+
+impl DisablingTerms for Brand {
+    ghost use Rattle.std.specs.Prelude.{[]};
+    ghost use Rattle.shfl_line.specs.declared.events.Form.TheVariants.{Spin};
+
+    ghost lock = { record { rules = record { limit = 1; form = Spin }; attrs = [] } };
+}
+
+/// The queue's head disables stealing again.
+pub struct DisablingPlay<M> {
+    of: PhantomData<M>,
+}
+
+impl<M: DisablingTerms, V: Kept> Play<Option<V>, View> for DisablingPlay<M> {
+    ghost use Rattle.shfl_table.specs.Disabling.{disabling_play};
+
+    ghost then = { disabling_play V.initial_state V.history M.lock };
+}

@@ -8,6 +8,7 @@ use crossbeam_utils::CachePadded;
 use std::hint;
 use std::sync::Wait;
 use std::sync::atomic::{AtomicU64, Ordering};
+use std::time::Duration;
 
 // Nobody sleeps here, and nobody was woken.
 const EMPTY: u64 = 0;
@@ -69,11 +70,99 @@ impl Sleeper {
         }
     }
 
+    /// Announces that a pass is about to sleep here, so that `rouse` wakes it from now on. False where a wake came before, which is used
+    /// up.
+    pub fn announce(&self) -> bool {
+        if self.turns(NOTIFIED, EMPTY) {
+            return false;
+        }
+        let _ = self.turns(EMPTY, PARKED);
+        true
+    }
+
+    /// Sleeps for so many microseconds at most, or not at all where a wake came since the announcement: whether one came. The
+    /// announcement stands no more.
+    pub fn sleep_at_most<R: Wait>(&self, rt: &R, micros: u32) -> bool {
+        let state: &AtomicU64 = &self.state;
+        state.park_timeout(rt, PARKED as u32, Duration::from_micros(u64::from(micros)));
+        state.swap(EMPTY, Ordering::SeqCst) == NOTIFIED
+    }
+
+    /// Takes the announcement back, and forgets a wake.
+    pub fn rise(&self) {
+        let state: &AtomicU64 = &self.state;
+        state.store(EMPTY, Ordering::SeqCst);
+    }
+
+    /// Wakes whoever has announced that it sleeps here, and else does nothing but look.
+    #[inline(always)]
+    pub fn rouse(&self) {
+        let state: &AtomicU64 = &self.state;
+        if state.load(Ordering::SeqCst) == PARKED {
+            self.wake();
+        }
+    }
+
     /// Ends the sleep that is going on here, or else the next one. Only a pass that really sleeps costs a call of the system.
     pub fn wake(&self) {
         let state: &AtomicU64 = &self.state;
         if state.swap(NOTIFIED, Ordering::SeqCst) == PARKED {
             state.wake_one();
+        }
+    }
+}
+
+/// Which pass sleeps at the queue's head, so that whoever frees the lock wakes it.
+#[derive(Drop)]
+pub struct SleepingHead {
+    // Its number plus 1, or 0.
+    who: CachePadded<AtomicU64>,
+}
+
+impl SleepingHead {
+    pub fn new() -> SleepingHead {
+        SleepingHead {
+            who: CachePadded::new(AtomicU64::new(0)),
+        }
+    }
+
+    /// The pass of this number is about to sleep at the queue's head.
+    pub fn announce(&self, number: u32) {
+        let who: &AtomicU64 = &self.who;
+        who.store(u64::from(number) + 1, Ordering::SeqCst);
+    }
+
+    /// The pass of this number sleeps there no more.
+    pub fn rise(&self, number: u32) {
+        let who: &AtomicU64 = &self.who;
+        let _ = who.compare_exchange(u64::from(number) + 1, 0, Ordering::SeqCst, Ordering::SeqCst);
+    }
+
+    /// The number of the pass that sleeps there.
+    #[inline(always)]
+    pub fn number(&self) -> Option<usize> {
+        let who: &AtomicU64 = &self.who;
+        match who.load(Ordering::SeqCst) {
+            0 => None,
+            next => Some((next - 1) as usize),
+        }
+    }
+}
+
+impl<V: Kept + Drop> SharedBoard<V> {
+    /// Wakes the pass of this number where it has announced that it sleeps.
+    #[inline(always)]
+    pub(crate) fn rouse(&self, number: usize) {
+        if let Some(sleeper) = self.sleepers.get(number) {
+            sleeper.rouse();
+        }
+    }
+
+    /// Wakes the queue's head where it sleeps. It is made for whoever has just freed the lock.
+    #[inline(always)]
+    pub(crate) fn rouse_head(&self) {
+        if let Some(number) = self.head.number() {
+            self.rouse(number);
         }
     }
 }

@@ -4,6 +4,7 @@ mod boards;
 mod crowd;
 mod draws;
 mod driven;
+mod rounds;
 mod threads;
 
 use crate::attempts::Busy;

@@ -12,31 +12,20 @@ use shfl_line::Mode;
 use std::sync::Wait;
 use std::{hint, thread};
 
-// How often a pass tries, how often of these with pauses in between, and how often it then gives its processor to others. In a form
-// whose waiters sleep it naps from then on.
-const TRIES: u32 = 50;
+// So often the pause after an attempt is spent spinning, each time twice as long, up to eight times the first; then others go on. In a
+// form whose waiters sleep it naps from then on, for so many microseconds.
+const SPINNING: u32 = 10;
 
-const PAUSES: u32 = 10;
+const FIRST_PAUSE: u32 = 20;
 
 const AWAKE: u32 = 12;
 
-const NAPPING: u32 = 32;
-
-// How long a nap is, in microseconds.
 const NAP: u32 = 50;
 
-// How long the first pause is; each is twice the one before, up to eight times this.
-const PAUSE: u32 = 20;
-
-// How often a pass tries before it queues.
-fn tries<V: Kept>(pass: &Pass<V>) -> u32 {
-    if sleeps(pass) { NAPPING } else { TRIES }
-}
-
-// Lets others go on after this try.
+// Lets others go on after this attempt.
 fn back_off<V: Kept, Rt: Wait>(rt: &Rt, pass: &Pass<V>, tried: u32) {
-    if tried < PAUSES {
-        for _ in 0..PAUSE << tried.min(3) {
+    if tried < SPINNING {
+        for _ in 0..FIRST_PAUSE << tried.min(3) {
             hint::spin_loop();
         }
     } else if tried < AWAKE || !sleeps(pass) {
@@ -46,24 +35,25 @@ fn back_off<V: Kept, Rt: Wait>(rt: &Rt, pass: &Pass<V>, tried: u32) {
     }
 }
 
-/// Tries for a while to take the lock without queueing: whether the pass holds it. Each try fails while stealing is disabled, as it is
-/// while others queue.
+/// Makes at most so many attempts to take the lock without queueing: whether the pass holds it. Each attempt fails while stealing is
+/// disabled, as it is while others queue.
 pub(crate) fn try_first<V: Kept + Drop, Rt: Wait>(
     rt: &Rt,
     board: &SharedBoard<V>,
     pass: &mut Pass<V>,
     mode: Mode,
+    attempts: u32,
 ) -> bool
     requires board { pass.old.board ≡ board.now.id }
     requires mode { MayUse pass.old.board.rules.form mode }
     requires idle { plan.is_idle pass.old.own.phase ≡ true }
     ensures waited { result ≡ true
-        → WaitsFor V.initial_state V.history mode pass.old pass.new }
+        → WaitsFor V.initial_state V.history attempts mode pass.old pass.new }
     ensures holds { result ≡ true → plan.is_resting pass.new.own ≡ true }
-    ensures lost { result ≡ false → TriedInVain pass.old pass.new }
+    ensures lost { result ≡ false → TriedInVain attempts pass.old pass.new }
     ensures asked { pass.new.decisions ≡ pass.old.decisions }
 {
-    for tried in 0..tries(pass) {
+    for tried in 0..attempts {
         if pass.attempt(board, mode).is_ok() {
             return true;
         }

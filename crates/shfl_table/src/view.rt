@@ -23,6 +23,8 @@ pub struct View {
     pub pass: PassState,
     pub steps_taken: u64,
     pub decisions: LinkedList<Decision>,
+    /// How often it tried to take the lock without queueing.
+    pub attempts: u64,
     pub initial_state: LinkedList<u64>,
     /// The history of the values, as far as the pass saw it.
     pub history: LinkedList<Action>,

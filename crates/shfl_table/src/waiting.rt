@@ -1,18 +1,23 @@
 //! The loop in which a pass waits for the lock.
-ghost use Rattle.std.specs.Prelude.{◌≡◌, ◌+◌, Bool, true, false, List, [], length, map, Some};
+ghost use Rattle.std.specs.Prelude.{◌≡◌, ◌≢◌, ◌+◌, ℕ, Bool, true, false, List, [], length, map, Some};
 ghost use Rattle.shfl_core.specs.Plan as plan;
 ghost use Rattle.shfl_core.specs.Waiting.{MayUse};
 ghost use Rattle.shfl_table.specs.Histories.{common_history};
 ghost use Rattle.shfl_table.specs.PassModel.{AreIn};
 ghost use Rattle.shfl_table.specs.PassSteps.{TakesStep};
 ghost use Rattle.shfl_table.specs.Places.{place_count};
+ghost use Rattle.shfl_table.specs.Queueing.{attempts_before};
 ghost use Rattle.shfl_table.specs.Views.{step_decisions};
+ghost use Rattle.shfl_table.specs.declared.outcomes.Outcome.TheVariants.{InVainOpen};
+ghost use Rattle.shfl_table.specs.declared.queueing.Queueing.TheVariants.{ByPolicy};
 ghost use Rattle.shfl_table.specs.Waits.{AsksAll, IsOpenInRounds, Tells, WaitsFor, answer_of, answers_of, as_idle, is_last_of_round, opens_round};
 
 use crate::board::SharedBoard;
 use crate::kept::Kept;
+use crate::outcomes::Outcome;
 use crate::passes::Pass;
-use crate::pausing::pause;
+use crate::pausing::Pauses;
+use crate::queueing::{Queueing, attempts_before};
 use crate::trying::try_first;
 use shfl_core::{Ask, Nap, Phase};
 use shfl_line::{Attr, Chooser, Mode};
@@ -63,20 +68,6 @@ fn tell_gate<G: Gate, Rt: Wait>(rt: &Rt, gate: &G, worker: u32, before: Phase, n
     }
 }
 
-// Whether the pass looks at the same word again.
-fn looks_again(before: Phase, after: Phase, nap: Nap) -> bool {
-    if !matches!(nap, Nap::Awake) {
-        return false;
-    }
-    match before {
-        Phase::Look => matches!(after, Phase::Look),
-        Phase::Peek => matches!(after, Phase::Peek),
-        Phase::Late => matches!(after, Phase::Late),
-        Phase::HeadLook => matches!(after, Phase::HeadLook),
-        _ => false,
-    }
-}
-
 // Sleeps where the wakeup flag was looked for and not found, and wakes the pass whose flag was set.
 fn park_or_wake<V: Kept + Drop, Rt: Wait>(
     rt: &Rt,
@@ -97,7 +88,21 @@ fn park_or_wake<V: Kept + Drop, Rt: Wait>(
     }
 }
 
-// One step, with what goes round it. Whether it looked at a word that is looked at again.
+// Wakes the pass that the step has made ready, or has given the shuffler's flag, where it sleeps, and the head, which a reader's count
+// that was taken back may have kept out.
+fn rouse_other<V: Kept + Drop>(board: &SharedBoard<V>, before: Phase, nap: Nap, pass: &Pass<V>) {
+    if !matches!(nap, Nap::Awake) {
+        return;
+    }
+    match before {
+        Phase::Ready => board.rouse(pass.own.reg.heir as usize),
+        Phase::Give => board.rouse(pass.own.reg.last as usize),
+        Phase::Uncount => board.rouse_head(),
+        _ => {}
+    }
+}
+
+// One step, with what goes round it, and what came of it.
 fn step_on<V: Kept + Drop, C: Chooser, G: Gate, Rt: Wait>(
     rt: &Rt,
     board: &SharedBoard<V>,
@@ -105,7 +110,7 @@ fn step_on<V: Kept + Drop, C: Chooser, G: Gate, Rt: Wait>(
     anchor: &Attr,
     chooser: &mut C,
     gate: &G,
-) -> bool
+) -> Outcome
     requires board { pass.old.board ≡ board.now.id }
     requires moving { plan.moving pass.old.own ≡ true }
     ensures home { C.home chooser.new ≡ C.home chooser.old }
@@ -120,16 +125,73 @@ fn step_on<V: Kept + Drop, C: Chooser, G: Gate, Rt: Wait>(
     let nap = pass.nap();
     let ask = pass.ask();
     let choice = answer(rt, chooser, anchor, ask);
-    let _ = pass.step(board, choice);
+    let outcome = pass.advance(board, choice);
     close_round(chooser, ends_round(before, nap));
     tell_gate(rt, gate, pass.number(), before, nap);
+    rouse_other(board, before, nap, pass);
     park_or_wake(rt, board, pass, nap);
-    looks_again(before, pass.phase(), nap)
+    outcome
 }
 
-/// Takes the lock in a mode, and waits until the pass holds it and owes no step. It tries for a while without queueing, in which it
-/// asks nothing, and then queues. The chooser answers what the steps ask: it is opened before a round's first question, and closed after the round's last step. `anchor` has the attributes of the pass. The gate
-/// is told when the pass has joined the queue, and after each round.
+// Disables stealing again where the queue's head found it enabled.
+fn keep_disabled<V: Kept + Drop>(board: &SharedBoard<V>, pass: &mut Pass<V>, outcome: Outcome)
+    requires board { pass.old.board ≡ board.now.id }
+    ensures same { outcome ≢ InVainOpen → pass.new ≡ pass.old }
+    ensures disabled { (n : ℕ) × (pass.new ≡ record pass.old { steps_taken = n }) }
+{
+    if matches!(outcome, Outcome::InVainOpen) {
+        let _ = pass.disable_stealing(board);
+    }
+}
+
+/// Takes the lock in a mode, and waits until the pass holds it and owes no step. `queueing` says how often it tries before it joins the
+/// queue; while it tries it asks nothing. The chooser answers what the steps ask: it is opened before a round's first question, and
+/// closed after the round's last step. `anchor` has the attributes of the pass. The gate is told when the pass has joined the queue,
+/// and after each round. A step that looked in vain is followed by a pause, and no other but the last of a round that moved nobody: the
+/// pass spins, gives its processor to others, and then sleeps until it is made ready, or finds the lock freed, or for a while.
+pub fn wait_by<V: Kept + Drop, C: Chooser, G: Gate, Rt: Wait>(
+    rt: &Rt,
+    board: &SharedBoard<V>,
+    pass: &mut Pass<V>,
+    mode: Mode,
+    queueing: Queueing,
+    anchor: &Attr,
+    chooser: &mut C,
+    gate: &G,
+)
+    requires board { pass.old.board ≡ board.now.id }
+    requires mode { MayUse pass.old.board.rules.form mode }
+    requires idle { (plan.is_idle pass.old.own.phase ≡ true) × (pass.old.values ≡ []) }
+    ensures home { C.home chooser.new ≡ C.home chooser.old }
+    ensures in_round { C.in_round chooser.old ≡ false → C.in_round chooser.new ≡ false }
+    ensures holds { plan.is_resting pass.new.own ≡ true }
+    ensures waited { WaitsFor V.initial_state V.history
+        (attempts_before queueing (C.moves_waiters chooser.old)) mode pass.old pass.new }
+    ensures within { AreIn V.history pass.new.history pass.new.values }
+    ensures places { length pass.new.values
+        ≡ place_count (Some mode) pass.old.own.reg.me pass.old.board.table.slots }
+    ensures asked { AsksAll anchor.now pass.old.decisions pass.new.decisions
+        (C.told chooser.old) (C.told chooser.new) }
+{
+    let attempts = attempts_before(queueing, chooser.may_move_waiters());
+    if try_first(rt, board, pass, mode, attempts) {
+        return;
+    }
+    let _ = pass.acquire(mode);
+    let mut pauses = Pauses::new();
+    for _ in rt.forever() {
+        if !pass.moving() {
+            pauses.end(board, pass);
+            return;
+        }
+        let outcome = step_on(rt, board, pass, anchor, chooser, gate);
+        keep_disabled(board, pass, outcome);
+        pauses.after(rt, board, pass, outcome);
+    }
+    unreachable!()
+}
+
+/// Waits as `wait_by` does: it queues at once where the chooser may move waiters up, and else tries a few times before.
 pub fn wait_for<V: Kept + Drop, C: Chooser, G: Gate, Rt: Wait>(
     rt: &Rt,
     board: &SharedBoard<V>,
@@ -145,29 +207,27 @@ pub fn wait_for<V: Kept + Drop, C: Chooser, G: Gate, Rt: Wait>(
     ensures home { C.home chooser.new ≡ C.home chooser.old }
     ensures in_round { C.in_round chooser.old ≡ false → C.in_round chooser.new ≡ false }
     ensures holds { plan.is_resting pass.new.own ≡ true }
-    ensures waited { WaitsFor V.initial_state V.history mode pass.old pass.new }
+    ensures waited { WaitsFor V.initial_state V.history
+        (attempts_before ByPolicy (C.moves_waiters chooser.old)) mode pass.old pass.new }
     ensures within { AreIn V.history pass.new.history pass.new.values }
     ensures places { length pass.new.values
         ≡ place_count (Some mode) pass.old.own.reg.me pass.old.board.table.slots }
     ensures asked { AsksAll anchor.now pass.old.decisions pass.new.decisions
         (C.told chooser.old) (C.told chooser.new) }
 {
-    if try_first(rt, board, pass, mode) {
-        return;
-    }
-    let _ = pass.acquire(mode);
-    let mut looks = 0;
-    for _ in rt.forever() {
-        if !pass.moving() {
-            return;
-        }
-        let again = step_on(rt, board, pass, anchor, chooser, gate);
-        looks = pause(rt, pass, looks, again);
-    }
-    unreachable!()
+    wait_by(
+        rt,
+        board,
+        pass,
+        mode,
+        Queueing::ByPolicy,
+        anchor,
+        chooser,
+        gate,
+    );
 }
 
-/// Frees the lock, with all values put back, and with one history.
+/// Frees the lock, with all values put back, and with one history, and wakes the queue's head where that sleeps.
 #[inline(always)]
 pub fn free<V: Kept + Drop>(board: &SharedBoard<V>, pass: &mut Pass<V>)
     requires board { pass.old.board ≡ board.now.id }
@@ -182,4 +242,5 @@ pub fn free<V: Kept + Drop>(board: &SharedBoard<V>, pass: &mut Pass<V>)
 {
     let _ = pass.release();
     let _ = pass.step(board, false);
+    board.rouse_head();
 }

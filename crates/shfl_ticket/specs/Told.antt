@@ -1,5 +1,5 @@
 -- What C is told, as numbers.
-use Rattle.std.specs.Prelude.{ℕ, ◌==◌, cond, Result, Ok, Err}
+use Rattle.std.specs.Prelude.{◌≡◌, ℕ, Bool, ◌==◌, cond, Result, Ok, Err}
 use Rattle.shfl_line.specs.declared.events.Form.{Form}
 use Rattle.shfl_line.specs.declared.events.Form.TheVariants.{Spin, Rw, Park, RwPark}
 use Rattle.bpf_isa.specs.declared.insn.Profile.{Profile}
@@ -9,6 +9,10 @@ use Rattle.shfl_core.specs.declared.phase.Ask.{Ask}
 use Rattle.shfl_core.specs.declared.phase.Ask.TheVariants.{Nothing, Skip as SkipAsk, Should as ShouldAsk}
 use Rattle.shfl_core.specs.declared.phase.Watch.{Watch}
 use Rattle.shfl_core.specs.declared.phase.Watch.TheVariants.{Other, Look, Mark, Ready}
+use Rattle.shfl_table.specs.declared.outcomes.Outcome.{Outcome}
+use Rattle.shfl_table.specs.declared.outcomes.Outcome.TheVariants.{Resting, Advanced, InVain, InVainOpen, GroupedNobody}
+use Rattle.shfl_table.specs.Outcomes.{IsOutcome}
+use Rattle.shfl_ticket.specs.Tickets.{TicketModel, TakesStep}
 use Rattle.bpf_isa.specs.declared.error.IsaError.{IsaError}
 use Rattle.bpf_isa.specs.declared.error.IsaError.TheVariants as isa
 use Rattle.bpf_verifier.specs.declared.refusal.Refusal.{Refusal}
@@ -33,6 +37,17 @@ watch_told Other = record { whom = 0; kind = 0 }
 watch_told Look = record { whom = 0; kind = 1 }
 watch_told (Mark w) = record { whom = w; kind = 2 }
 watch_told (Ready w) = record { whom = w; kind = 3 }
+
+abbrev pub outcome_told : Outcome → ℕ
+outcome_told Resting = 0
+outcome_told Advanced = 1
+outcome_told InVain = 2
+outcome_told InVainOpen = 3
+outcome_told GroupedNobody = 4
+
+-- a step was made, and this number tells what came of it
+abbrev pub ToldAdvance : Bool → TicketModel → TicketModel → ℕ → Type 0
+ToldAdvance choice old new number = (s : TakesStep choice old new) × (outcome : Outcome) × IsOutcome old.own s.found new.own outcome × (number ≡ outcome_told outcome)
 
 -- the number of a fault of decoding, its slot and its register; 255 is want of memory
 abbrev pub of_decoder : IsaError → ℕ × ℕ × ℕ

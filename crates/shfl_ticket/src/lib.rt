@@ -13,4 +13,4 @@ pub use asked::{form_numbered, profile_numbered};
 pub use boxes::boxed_each;
 pub use opening::open;
 pub use ticket::Ticket;
-pub use told::{ShflAsk, ShflVerdict, ShflWatch, ask_told, verdict_told, watch_told};
+pub use told::{ShflAsk, ShflVerdict, ShflWatch, ask_told, outcome_told, verdict_told, watch_told};

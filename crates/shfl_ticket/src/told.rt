@@ -1,11 +1,12 @@
 //! What C is told, as structs of numbers.
 ghost use Rattle.std.specs.Prelude.{◌≡◌};
-ghost use Rattle.shfl_ticket.specs.Told.{ask_told, watch_told, of_decoder, of_verifier, of_program, hook_number, verdict_told};
+ghost use Rattle.shfl_ticket.specs.Told.{ask_told, watch_told, outcome_told, of_decoder, of_verifier, of_program, hook_number, verdict_told};
 
 use bpf_isa::IsaError;
 use bpf_verifier::Refusal;
 use shfl_core::{Ask, Watch};
 use shfl_policy::{Hook, LoadError, ProgramFault};
+use shfl_table::Outcome;
 
 /// What the next step asks the policy: kind 0 nothing, 1 whether to skip the round, 2 whether the waiter joins the batch. The
 /// attributes of the waiter are four numbers of 16 bits, the socket lowest.
@@ -70,6 +71,20 @@ pub fn watch_told(watch: Watch) -> ShflWatch
         Watch::Look => ShflWatch { whom: 0, kind: 1 },
         Watch::Mark { whom } => ShflWatch { whom, kind: 2 },
         Watch::Ready { whom } => ShflWatch { whom, kind: 3 },
+    }
+}
+
+/// What came of a step as C reads it: 0 there was none to make, 1 the pass went on, 2 it looked in vain, 3 it looked in vain at the
+/// queue's head and found stealing enabled, 4 it ended a round that moved nobody into the batch.
+pub fn outcome_told(outcome: Outcome) -> u8
+    ensures { result ≡ outcome_told outcome }
+{
+    match outcome {
+        Outcome::Resting => 0,
+        Outcome::Advanced => 1,
+        Outcome::InVain => 2,
+        Outcome::InVainOpen => 3,
+        Outcome::GroupedNobody => 4,
     }
 }
 

@@ -77,6 +77,10 @@ impl<'a, 'p> Chooser for UsingChooser<'a, 'p> {
 
     ghost told = { λ _. None };
 
+    fn may_move_waiters(&self) -> bool {
+        true
+    }
+
     fn begin<Rt: Wait>(&mut self, rt: &Rt)
         ensures registry { self.new.registry ≡ self.old.registry }
         ensures pass { (self.new.name ≡ self.old.name) × (self.new.pass.user ≡ self.old.pass.user) }

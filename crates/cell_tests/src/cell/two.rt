@@ -36,6 +36,10 @@ impl Chooser for Recorder {
 
     ghost told = { λ s. if s.lost then None else Some s.answers.items };
 
+    fn may_move_waiters(&self) -> bool {
+        true
+    }
+
     fn begin<Rt: Wait>(&mut self, _rt: &Rt) {
         self.asking = true;
     }

@@ -90,6 +90,10 @@ impl Chooser for Alternating {
 
     ghost told = { λ _. None };
 
+    fn may_move_waiters(&self) -> bool {
+        true
+    }
+
     fn begin<Rt: Wait>(&mut self, _rt: &Rt) {}
 
     fn skip(&mut self, _anchor: &Attr, _batch: u16) -> bool {

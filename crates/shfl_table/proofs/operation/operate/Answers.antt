@@ -8,7 +8,7 @@ use Rattle.shfl_core.specs.declared.phase.PassState.{PassState}
 use Rattle.shfl_core.specs.Take.{take}
 use Rattle.shfl_core.specs.Lawful.{Terms}
 use Rattle.shfl_table.specs.ValueMoves.{MayFree, MovesValues}
-use Rattle.shfl_table.specs.Views.{step_decisions}
+use Rattle.shfl_table.specs.Views.{step_deeds}
 use Rattle.shfl_laws.specs.Moves.{told_terms}
 use Rattle.shfl_table.specs.Histories.{initial_state_of}
 use Rattle.shfl_table.proofs.Permits.{permits}
@@ -21,5 +21,5 @@ perform-requires-clause-permits g c = let a = c.args in let k = a.shared.now.key
 
 pub returns-clause-played : goal.returns-clause-played
 returns-clause-played g c = let a = c.args in
-    subst (λ (z : Rules × ℕ × PassState × Bool × ℕ). MovesValues g.V.Kept.initial_state g.V.Kept.history (λ i. take z.0 z.1 z.2 i z.3) (step_decisions z.0 z.2 z.3) z.4 a.seat.now.me c.perform.result c.perform.new.seat.me)
+    subst (λ (z : Rules × ℕ × PassState × Bool × ℕ). MovesValues g.V.Kept.initial_state g.V.Kept.history (λ i. take z.0 z.1 z.2 i z.3) (step_deeds z.0 z.2 z.3) z.4 a.seat.now.me c.perform.result c.perform.new.seat.me)
     (λ j. ((ap (λ (t : Terms). t.rules) c.requires.made.0 ∙ c.requires.table.1) j, c.requires.seat.1 j, c.requires.made.1 j, c.requires.made.2 j, sym (ap (λ (z : TableId). z.slots) c.requires.table.0) j)) c.perform.ensures.play.1

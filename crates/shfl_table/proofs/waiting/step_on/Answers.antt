@@ -15,7 +15,7 @@ returns-clause-home g c = c.close_round.ensures.home ∙ c.answer-choice.ensures
 
 pub returns-clause-in_round : goal.returns-clause-in_round
 returns-clause-in_round g c still = let p = c.args.pass.now in let rules = p.board.rules in let choice = c.answer-choice.result in
-    let row = c.step.ensures.row (c.step.ensures.moving ∙ c.requires.moving) in
+    let row = (c.advance-outcome.ensures.row c.requires.moving).0 in
     let last : c.ends_round.result ≡ is_last_of_round p.own.phase p.own.nap = c.ends_round.ensures ∙ (λ j. is_last_of_round (c.phase-before.ensures j) (c.nap-nap.ensures j)) in
     let kept : opens_round (ask rules p.own) ≡ false → g.C.Chooser.in_round c.answer-choice.new.chooser ≡ g.C.Chooser.in_round c.args.chooser.now = λ e. c.answer-choice.ensures.in_round (ap opens_round c.ask-ask.ensures ∙ e) in
     subst (λ (q : PassState). IsOpenInRounds (g.C.Chooser.in_round c.close_round.new.chooser) q) (sym (ap (λ (z : PassModel _). z.own) row.row))
@@ -25,11 +25,11 @@ returns-clause-in_round g c still = let p = c.args.pass.now in let rules = p.boa
 pub returns-clause-row : goal.returns-clause-row
 returns-clause-row g c = let a = c.answer-choice.ensures in let p = c.args.pass.now in let choice = c.answer-choice.result in let told = g.C.Chooser.told in (
   choice,
-  c.step.ensures.row (c.step.ensures.moving ∙ c.requires.moving),
+  (c.advance-outcome.ensures.row c.requires.moving).0,
   subst (λ (z : Option (List Answer)). Tells (told c.args.chooser.now) z (answers_of c.args.anchor.now (step_decisions p.board.rules p.own choice))) (sym c.close_round.ensures.told)
       (subst (λ (l : List Answer). Tells (told c.args.chooser.now) (told c.answer-choice.new.chooser) l)
       (ap (λ (k : Ask). answer_of c.args.anchor.now k choice) c.ask-ask.ensures ∙ sym (answers-entry c.args.anchor.now choice (ask p.board.rules p.own))) a.told),
 )
 
 pub park_or_wake-requires : goal.park_or_wake-requires
-park_or_wake-requires g c = record { board = ap (λ (z : PassModel _). z.board) (c.step.ensures.row (c.step.ensures.moving ∙ c.requires.moving)).row ∙ c.requires.board }
+park_or_wake-requires g c = record { board = ap (λ (z : PassModel _). z.board) ((c.advance-outcome.ensures.row c.requires.moving).0).row ∙ c.requires.board }

@@ -1,0 +1,61 @@
+use Rattle.std.proofs.Common.{◌≡◌, true, false, sym, ap, ◌∙◌, subst, refl, List}
+use Rattle.shfl_table.specs.declared.view.Decision.{Decision}
+use Rattle.shfl_table.specs.PassModel.{PassModel}
+use Rattle.shfl_table.specs.Views.{step_decisions}
+use Rattle.shfl_table.specs.Queueing.{attempts_before}
+use Rattle.shfl_table.specs.Waits.{AsksAll, IsOpenInRounds, TriedInVain, WaitsFor}
+use Rattle.shfl_table.proofs.WaitSteps.{waits-after, waits-beside, waits-first, waits-in, waits-more, rests-now, asks-more, asks-none}
+use Rattle.shfl_table.proofs.OpenRounds.{rests-closed}
+use Rattle.shfl_table.proofs.waiting.wait_by.Goals as goal
+
+pub loop-init : goal.loop-init
+loop-init g c = let p = c.args.pass.now in let r = c.acquire.ensures.after in let told = g.C.Chooser.told c.args.chooser.now in let q = c.try_first.new.pass in let v = c.try_first.ensures.lost c.if-try_first.false in
+    let bound = c.attempts_before-attempts.ensures ∙ ap (attempts_before c.args.queueing) c.may_move_waiters.ensures in (
+      tt,
+      search,
+      subst (λ (z : PassModel _). WaitsFor g.V.Kept.initial_state g.V.Kept.history (attempts_before c.args.queueing (g.C.Chooser.moves_waiters c.args.chooser.now)) c.args.mode p z) (sym r)
+          (waits-after g.V.Kept.initial_state g.V.Kept.history (attempts_before c.args.queueing (g.C.Chooser.moves_waiters c.args.chooser.now)) c.args.mode p q _ (subst (λ n. TriedInVain n p q) bound v) (waits-first g.V.Kept.initial_state g.V.Kept.history 0 c.args.mode q v.rests (v.out ∙ c.requires.idle.1))),
+      subst (λ (z : PassModel _). AsksAll c.args.anchor.now p.decisions z.decisions told told) (sym r)
+          (subst (λ (l : List Decision). AsksAll c.args.anchor.now p.decisions l told told) (sym c.try_first.ensures.asked) (asks-none c.args.anchor.now p.decisions told)),
+      refl,
+      λ closed is. absurd (let x : true ≡ false = sym is ∙ closed in cc),
+    )
+
+pub loop-preserved : goal.loop-preserved
+loop-preserved g c = let i = c.loop.invariant in let s = c.step_on-outcome.ensures in let p = c.args.pass.now in let row = s.row.1 in let now = c.loop.pass in let d = c.keep_disabled.ensures.disabled in let told = g.C.Chooser.told in let attempts = attempts_before c.args.queueing (g.C.Chooser.moves_waiters c.args.chooser.now) in (
+  search,
+  search,
+  subst (λ (z : PassModel _). WaitsFor g.V.Kept.initial_state g.V.Kept.history attempts c.args.mode p z) (sym d.1)
+      (waits-beside g.V.Kept.initial_state g.V.Kept.history attempts c.args.mode p c.step_on-outcome.new.pass d.0 (waits-more g.V.Kept.initial_state g.V.Kept.history attempts c.args.mode p now c.step_on-outcome.new.pass s.row.0 i.2 row)),
+  subst (λ (z : PassModel _). AsksAll c.args.anchor.now p.decisions z.decisions (told c.args.chooser.now) (told c.step_on-outcome.new.chooser)) (sym d.1)
+      (asks-more c.args.anchor.now p.decisions now.decisions c.step_on-outcome.new.pass.decisions _ _ _ (step_decisions now.board.rules now.own s.row.0) i.3 (ap (λ (z : PassModel _). z.decisions) row.row) s.row.2),
+  s.home ∙ i.4,
+  λ closed. subst (λ (z : PassModel _). IsOpenInRounds (g.C.Chooser.in_round c.step_on-outcome.new.chooser) z.own) (sym d.1) (s.in_round (i.5 closed)),
+)
+
+pub step_on-outcome-requires-clause-board : goal.step_on-outcome-requires-clause-board
+step_on-outcome-requires-clause-board g c = c.loop.invariant.2.board ∙ c.requires.board
+
+pub keep_disabled-requires : goal.keep_disabled-requires
+keep_disabled-requires g c = record { board = ap (λ (z : PassModel _). z.board) c.step_on-outcome.ensures.row.1.row ∙ (c.loop.invariant.2.board ∙ c.requires.board) }
+
+pub returns-then-not-moving-clause-home : goal.returns-then-not-moving-clause-home
+returns-then-not-moving-clause-home g c = c.loop.invariant.4
+
+pub returns-then-not-moving-clause-holds : goal.returns-then-not-moving-clause-holds
+returns-then-not-moving-clause-holds g c = rests-now c.loop.pass.own c.loop.invariant.2.goes_on (sym c.moving.ensures ∙ c.if-not-moving.true)
+
+pub returns-then-not-moving-clause-waited : goal.returns-then-not-moving-clause-waited
+returns-then-not-moving-clause-waited g c = c.loop.invariant.2
+
+pub returns-then-not-moving-clause-asked : goal.returns-then-not-moving-clause-asked
+returns-then-not-moving-clause-asked g c = c.loop.invariant.3
+
+pub returns-then-not-moving-clause-in_round : goal.returns-then-not-moving-clause-in_round
+returns-then-not-moving-clause-in_round g c closed = rests-closed (g.C.Chooser.in_round c.loop.chooser) c.loop.pass.own (rests-now c.loop.pass.own c.loop.invariant.2.goes_on (sym c.moving.ensures ∙ c.if-not-moving.true)) (c.loop.invariant.5 closed)
+
+pub returns-then-not-moving-clause-within : goal.returns-then-not-moving-clause-within
+returns-then-not-moving-clause-within g c = (waits-in g.V.Kept.initial_state g.V.Kept.history (attempts_before c.args.queueing (g.C.Chooser.moves_waiters c.args.chooser.now)) c.args.mode c.args.pass.now c.loop.pass c.loop.invariant.2 (rests-now c.loop.pass.own c.loop.invariant.2.goes_on (sym c.moving.ensures ∙ c.if-not-moving.true))).0
+
+pub returns-then-not-moving-clause-places : goal.returns-then-not-moving-clause-places
+returns-then-not-moving-clause-places g c = (waits-in g.V.Kept.initial_state g.V.Kept.history (attempts_before c.args.queueing (g.C.Chooser.moves_waiters c.args.chooser.now)) c.args.mode c.args.pass.now c.loop.pass c.loop.invariant.2 (rests-now c.loop.pass.own c.loop.invariant.2.goes_on (sym c.moving.ensures ∙ c.if-not-moving.true))).1
