@@ -65,7 +65,8 @@ impl Pauses {
         }
     }
 
-    // Sleeps, unless a wake came since it was announced; where it wasn't, that comes first, and the waiter looks once more before.
+    // Sleeps, unless a wake came since it was announced; where it wasn't, that comes first, and the waiter looks once more before. Who was
+    // woken stays awake for a while.
     fn sleep<V: Kept + Drop, Rt: Wait>(&mut self, rt: &Rt, board: &SharedBoard<V>, pass: &Pass<V>) {
         let Some(sleeper) = board.sleepers.get(pass.number() as usize) else {
             thread::yield_now();
@@ -86,8 +87,10 @@ impl Pauses {
             } else {
                 longer
             };
-            sleeper.sleep_at_most(rt, micros);
             self.sleeps = self.sleeps.saturating_add(1);
+            if sleeper.sleep_at_most(rt, micros) {
+                self.looks = 0;
+            }
         }
         self.announced = sleeper.announce();
     }

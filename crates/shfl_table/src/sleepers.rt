@@ -80,11 +80,12 @@ impl Sleeper {
         true
     }
 
-    /// Sleeps for so many microseconds at most, or not at all where a wake came since the announcement. The announcement stands no more.
-    pub fn sleep_at_most<R: Wait>(&self, rt: &R, micros: u32) {
+    /// Sleeps for so many microseconds at most, or not at all where a wake came since the announcement: whether one came. The
+    /// announcement stands no more.
+    pub fn sleep_at_most<R: Wait>(&self, rt: &R, micros: u32) -> bool {
         let state: &AtomicU64 = &self.state;
         state.park_timeout(rt, PARKED as u32, Duration::from_micros(u64::from(micros)));
-        self.rise();
+        state.swap(EMPTY, Ordering::SeqCst) == NOTIFIED
     }
 
     /// Takes the announcement back, and forgets a wake.

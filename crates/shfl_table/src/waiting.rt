@@ -88,7 +88,8 @@ fn park_or_wake<V: Kept + Drop, Rt: Wait>(
     }
 }
 
-// Wakes the pass that the step has made ready, or has given the shuffler's flag, where it sleeps.
+// Wakes the pass that the step has made ready, or has given the shuffler's flag, where it sleeps, and the head, which a reader's count
+// that was taken back may have kept out.
 fn rouse_other<V: Kept + Drop>(board: &SharedBoard<V>, before: Phase, nap: Nap, pass: &Pass<V>) {
     if !matches!(nap, Nap::Awake) {
         return;
@@ -96,6 +97,7 @@ fn rouse_other<V: Kept + Drop>(board: &SharedBoard<V>, before: Phase, nap: Nap, 
     match before {
         Phase::Ready => board.rouse(pass.own.reg.heir as usize),
         Phase::Give => board.rouse(pass.own.reg.last as usize),
+        Phase::Uncount => board.rouse_head(),
         _ => {}
     }
 }

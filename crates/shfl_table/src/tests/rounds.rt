@@ -124,11 +124,7 @@ fn hold<R: Wait>(rt: &R, board: &SharedBoard<()>, pass: &mut Pass<()>, signs: &S
 }
 
 /// How many rounds four threads begin while one of them holds the lock.
-fn rounds_of<R: Threads + Wait + Sync>(
-    rt: &R,
-    alloc: Global,
-    form: Form,
-) -> Result<u64, NoMemory> {
+fn rounds_of<R: Threads + Wait + Sync>(rt: &R, alloc: Global, form: Form) -> Result<u64, NoMemory> {
     let attrs = [PLAIN, PLAIN, PLAIN, PLAIN];
     let (board, mut passes) = open::<()>(alloc, &attrs, form, 1024, Vec::new(alloc))?;
     let signs = Signs {
