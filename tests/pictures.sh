@@ -1,5 +1,5 @@
 #!/usr/bin/env bash
-# The pictures in docs/ are what bin/draw makes of the examples' reports, and the text pictures have a line for each change.
+# The pictures in docs/ are what bin/draw makes of the examples' reports, the text pictures have a line for each change, and a page has its report.
 set -u
 cd "$(dirname "$0")/.." || exit 1
 failed=0
@@ -16,6 +16,25 @@ lines="$(bin/draw --text <examples/half-done-relink.line.out | wc -l)"
 for report in examples/*.line.out; do
     bin/draw --text --all <"$report" >/dev/null || { echo "FAILED $report is refused"; failed=1; }
 done
+# A page is the same fixed texts round each report, the report as it is in one element (none of its bytes has to be escaped), and nothing
+# from outside.
+page="$(mktemp -d)"
+trap 'rm -rf "$page"' EXIT
+for report in examples/*.line.out; do
+    bin/draw --html <"$report" >"$page/page" || { echo "FAILED no page of $report"; failed=1; }
+    sed -n '/^<pre id="report">$/,/^<\/pre>$/p' "$page/page" | sed '1d;$d' | cmp -s - "$report" || { echo "FAILED the page of $report has another report"; failed=1; }
+    sed '/^<pre id="report">$/,/^<\/pre>$/d' "$page/page" >"$page/around"
+    [ -e "$page/first" ] || cp "$page/around" "$page/first"
+    cmp -s "$page/around" "$page/first" || { echo "FAILED the page of $report has other texts round the report"; failed=1; }
+done
+for tag in html head style body header main script table; do
+    [ "$(grep -c "^<$tag[ >]\|^<$tag>" "$page/around")" = "$(grep -o "</$tag>" "$page/around" | wc -l)" ] || { echo "FAILED the element $tag of a page isn't ended"; failed=1; }
+done
+grep -n 'src=\|href=\|https\?:\|@import\|url(' "$page/around" && { echo "FAILED a page loads something from outside"; failed=1; }
+printf 'x\n' | bin/draw --html >"$page/page" 2>"$page/told"
+[ "$?" -eq 1 ] && [ ! -s "$page/page" ] && [ "$(cat "$page/told")" = "syncord: line 1: fault 2" ] || { echo "FAILED a page of no report"; failed=1; }
+bin/draw --html --all </dev/null >"$page/page" 2>"$page/told"
+[ "$?" -eq 2 ] && [ ! -s "$page/page" ] && [ "$(cat "$page/told")" = "syncord: words" ] || { echo "FAILED --html beside another word"; failed=1; }
 # the program's own name isn't looked at
 (exec -a $'\xff' crates/syncord_draw/out/syncord_draw --text <examples/half-done-relink.line.out) | cmp -s - <(bin/draw --text <examples/half-done-relink.line.out) ||
     { echo "FAILED a name of the program that is no text"; failed=1; }

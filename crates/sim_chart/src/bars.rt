@@ -3,7 +3,8 @@ ghost use Rattle.std.specs.Prelude.{◌≡◌, ◌≤◌, ◌+◌, ◌++◌, len
 ghost use Rattle.sim_model.specs.Clock.{later};
 ghost use Rattle.sim_chart.specs.Bars as charts;
 
-use crate::shapes::{push_escaped, push_rect, push_text_at, push_text_end};
+use crate::shapes::{push_rect, push_text_at, push_text_end};
+use markup_text::push_escaped;
 use sim_report::push_figure;
 use std::alloc::AllocError;
 use std::marker::Model;

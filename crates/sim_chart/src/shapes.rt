@@ -5,30 +5,6 @@ ghost use Rattle.sim_chart.specs.Shapes as shapes;
 use sim_report::push_figure;
 use std::alloc::AllocError;
 
-fn push_escaped_byte(out: &mut Vec<u8>, byte: u8) -> Result<(), AllocError>
-    ensures { OnOk result (out.new.items ≡ out.old.items ++ shapes.escaped_byte byte) }
-{
-    if byte == b'&' {
-        out.extend_from_slice(b"&amp;")
-    } else if byte == b'<' {
-        out.extend_from_slice(b"&lt;")
-    } else if byte == b'>' {
-        out.extend_from_slice(b"&gt;")
-    } else {
-        out.extend_from_slice(&[byte])
-    }
-}
-
-/// Text as it may stand in an element.
-pub fn push_escaped(out: &mut Vec<u8>, text: &[u8]) -> Result<(), AllocError>
-    ensures { OnOk result (out.new.items ≡ out.old.items ++ shapes.escaped text.now) }
-{
-    for byte in text {
-        push_escaped_byte(out, *byte)?;
-    }
-    Ok(())
-}
-
 /// The beginning of a text that stands there.
 #[tactic(auto, unfolding(crate::specs::Shapes::text_at))]
 pub fn push_text_at(out: &mut Vec<u8>, x: u64, y: u64) -> Result<(), AllocError>

@@ -1,23 +1,28 @@
 //! From bytes to the picture of the report that they are, or to the first bad line.
-ghost use Rattle.std.specs.Prelude.{◌≡◌, ◌≤◌, length, IfOk, IfErr, true};
+ghost use Rattle.std.specs.Prelude.{◌≡◌, ◌≤◌, length, IfOk, IfErr};
 ghost use Rattle.syncord_endings.specs.Endings.{Due, most_bytes};
 ghost use Rattle.line_picture.specs.Reports.{report_said};
-ghost use Rattle.line_picture.specs.TextPictures.{text_picture};
-ghost use Rattle.syncord_draw.specs.Pictures.{Draws, Refuses};
+ghost use Rattle.syncord_draw.specs.Pictures.{Shows, Draws, Refuses};
 
 use crate::commands::Command;
+use line_page::page_of;
 use line_picture::{Report, ReportError, read_report, svg_picture, text_picture};
 use std::alloc::{AllocError, Global};
 use syncord_endings::Refusal;
 
-fn picture_of(alloc: Global, command: Command, report: &Report<'_>) -> Result<Vec<u8>, AllocError>
-    ensures { IfOk result (λ picture. command.text ≡ true →
-        picture.items ≡ text_picture command.all (report_said report.now)) }
+fn picture_of(
+    alloc: Global,
+    command: Command,
+    bytes: &[u8],
+    report: &Report<'_>,
+) -> Result<Vec<u8>, AllocError>
+    ensures { IfOk result (λ picture.
+        Shows command bytes.now (report_said report.now) picture.items) }
 {
-    if command.text {
-        text_picture(alloc, report, command.all)
-    } else {
-        svg_picture(alloc, report, command.all)
+    match command {
+        Command::Svg { all } => svg_picture(alloc, report, all),
+        Command::Text { all } => text_picture(alloc, report, all),
+        Command::Page => page_of(alloc, bytes),
     }
 }
 
@@ -32,7 +37,7 @@ pub fn drawn(alloc: Global, command: Command, bytes: &[u8]) -> Result<Vec<u8>, R
         Err(ReportError::Format { line, what }) => return Err(Refusal::Line { line, what }),
         Err(ReportError::NoMemory) => return Err(Refusal::NoMemory),
     };
-    match picture_of(alloc, command, &report) {
+    match picture_of(alloc, command, bytes, &report) {
         Ok(picture) => Ok(picture),
         Err(AllocError) => Err(Refusal::NoMemory),
     }

@@ -1,6 +1,6 @@
 use Rattle.std.proofs.Common.{◌≡◌, ◌++◌, drop}
-use Rattle.sim_chart.specs.Shapes.{escaped}
-use Rattle.sim_chart.proofs.shapes.push_escaped.Given as goal
+use Rattle.markup_text.specs.Escaping.{escaped}
+use Rattle.markup_text.proofs.escaping.push_escaped.Given as goal
 
 abbrev pub invariant-loop-byte : goal.invariant-loop-byte
 invariant-loop-byte l = l.out.items ++ escaped (drop l.byte-index l.text) ≡ l.fn.out.items ++ escaped l.text
