@@ -17,7 +17,7 @@ use std::test::Fail;
 use trial::{Policy, Trial};
 
 /// How many events a schedule has. Each form has six schedules.
-const EVENTS: u32 = 5_000;
+const EVENTS: u32 = 20_000;
 
 const PLAIN: Attr = Attr {
     socket: 0,
