@@ -35,8 +35,9 @@ struct shfl_parking {
     uint32_t promoted; /* 1 from then until that one knows */
     uint32_t apart; /* the next one is, in nanoseconds */
     uint32_t wakeups; /* changes with each wakeup outside */
+    uint32_t queued; /* how many queue */
     uint32_t open; /* how many passes are */
-    uint32_t unused[4];
+    uint32_t unused[3];
 };
 
 static inline struct shfl_place *shfl_place_of(struct shfl_parking *parking, uint32_t whom) {

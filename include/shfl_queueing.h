@@ -128,11 +128,9 @@ static inline void shfl_drive_by(struct shfl_pass *pass, bool yields) {
     if (!yields && shfl_load(own)) shfl_store(own, 0);
 }
 
-/* Queues, and waits there. */
-static inline void shfl_wait_in_queue(struct shfl_waiter *waiter, bool yields) {
-    struct shfl_pass *pass = waiter->pass;
-    shfl_go_inside(waiter);
-    if (!waiter->shared) {
+/* Queues, and steps until the pass holds the lock. */
+static inline void shfl_queue(struct shfl_pass *pass, bool shared, bool yields) {
+    if (!shared) {
         if (shfl_enter(pass)) return;
     } else {
         shfl_acquire_shared(pass);
@@ -140,6 +138,14 @@ static inline void shfl_wait_in_queue(struct shfl_waiter *waiter, bool yields) {
         if (shfl_step(pass, false) && shfl_step(pass, false)) shfl_ring(&pass->parking->head_asleep);
     }
     shfl_drive_by(pass, yields);
+}
+
+static inline void shfl_wait_in_queue(struct shfl_waiter *waiter, bool yields) {
+    uint32_t *queued = &waiter->pass->parking->queued;
+    shfl_go_inside(waiter);
+    __atomic_fetch_add(queued, 1, __ATOMIC_SEQ_CST);
+    shfl_queue(waiter->pass, waiter->shared, yields);
+    __atomic_fetch_sub(queued, 1, __ATOMIC_SEQ_CST);
 }
 
 #ifdef __cplusplus

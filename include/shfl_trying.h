@@ -4,7 +4,8 @@
  *
  * It is fair by two bounds. After SHFL_PASSED holds that passed those outside, but no sooner than SHFL_PASSED_NS after the last time,
  * the one that has slept longest is woken to queue, and from then on nobody steals; who woke it steps aside, and sleeps outside before
- * it waits again. And who is woken otherwise, and finds that it was passed four times as often as threads wait, queues too.
+ * it waits again. And who is woken otherwise, and finds that it was passed four times as often as threads wait, queues too. Neither
+ * queues behind another, so that whoever is in the queue is awake, and no hold waits for a sleeper.
  */
 #ifndef SHFL_TRYING_H
 #define SHFL_TRYING_H
@@ -31,7 +32,7 @@ extern "C" {
 #define SHFL_PASSED 2
 #endif
 #ifndef SHFL_PASSED_NS
-#define SHFL_PASSED_NS 25000
+#define SHFL_PASSED_NS 50000
 #endif
 /* The most that SHFL_PASSED_NS grows to where a sleeper takes long to come. */
 #ifndef SHFL_PASSED_MOST_NS
@@ -106,7 +107,8 @@ static inline enum shfl_wakes shfl_wakes_outside(struct shfl_parking *parking) {
     bool alone = shfl_load(&parking->inside) == 0;
     if (holds % SHFL_PASSED != 0) return alone ? SHFL_WAKES_ONE : SHFL_WAKES_NOBODY;
     uint64_t now = shfl_clock();
-    if (now - __atomic_load_n(&parking->promoted_at, __ATOMIC_RELAXED) >= shfl_load(&parking->apart)) {
+    bool due = now - __atomic_load_n(&parking->promoted_at, __ATOMIC_RELAXED) >= shfl_load(&parking->apart);
+    if (due && shfl_load(&parking->queued) == 0) {
         __atomic_store_n(&parking->promoted_at, now, __ATOMIC_RELAXED);
         return SHFL_WAKES_TO_QUEUE;
     }
@@ -160,11 +162,12 @@ static inline bool shfl_sleep_outside(struct shfl_waiter *waiter, uint8_t aside)
     return won;
 }
 
-/* Whether it has been passed so often that it queues. */
+/* Whether it has been passed so often that it queues. It doesn't where another does: the queue would hand the lock on to a sleeper. */
 static inline bool shfl_is_passed(struct shfl_waiter *waiter) {
     struct shfl_parking *parking = waiter->pass->parking;
     uint32_t waiting = shfl_load(&parking->outside) + shfl_load(&parking->inside);
-    return waiting > 0 && shfl_load(&parking->holds) - waiter->holds >= 4 * waiting;
+    bool passed = waiting > 0 && shfl_load(&parking->holds) - waiter->holds >= 4 * waiting;
+    return passed && shfl_load(&parking->queued) == 0;
 }
 
 /* True: it holds the lock. False: it is to queue. */
