@@ -92,7 +92,7 @@ details ul { margin: .3rem 0 0; padding-left: 1.2rem; }
 #events { overflow: auto; height: 20rem; border: 1px solid var(--edge); margin: .5rem 0 1rem; }
 table { border-collapse: collapse; width: 100%; table-layout: fixed; font-size: .85rem; }
 thead th { position: sticky; top: 0; background: var(--soft); text-align: left; padding: .2rem .4rem; }
-th:nth-child(1) { width: 3.8rem; }
+th:nth-child(1) { width: 3.8rem; text-align: right; }
 th:nth-child(2) { width: 5rem; }
 tbody tr.event { height: 1.75rem; cursor: pointer; }
 tbody tr.event td {
