@@ -30,7 +30,7 @@ fn advanced(ticket: &mut Ticket, count: u32) -> u8 {
 
 /// The first pass queues behind the other, and leaves the queue last: its tail word is 0 before the second one joins, and stealing is
 /// enabled after that one has disabled it.
-fn passed(alloc: Global, form: Form) -> Result<Passed, Fail> {
+fn opened_behind(alloc: Global, form: Form) -> Result<Passed, Fail> {
     let mut tickets = open(alloc, &[0; 3], form, 1024)?;
     let mut other = tickets.pop().ok_or("no ticket")?;
     let mut head = tickets.pop().ok_or("no ticket")?;
@@ -63,7 +63,7 @@ fn leave(ticket: &mut Ticket) -> bool {
 #[test]
 fn a_head_finds_stealing_enabled_and_is_passed(rt: HostRuntime) -> Result<(), Fail> {
     for form in FORMS {
-        let mut passes = passed(rt.alloc(), form)?;
+        let mut passes = opened_behind(rt.alloc(), form)?;
         let found = advanced(&mut passes.head, 1);
         let left = leave(&mut passes.holder);
         let stolen = passes.other.attempt(Mode::Write);
@@ -75,7 +75,7 @@ fn a_head_finds_stealing_enabled_and_is_passed(rt: HostRuntime) -> Result<(), Fa
 #[test]
 fn a_head_that_disables_stealing_again_is_not_passed(rt: HostRuntime) -> Result<(), Fail> {
     for form in FORMS {
-        let mut passes = passed(rt.alloc(), form)?;
+        let mut passes = opened_behind(rt.alloc(), form)?;
         let disabled = passes.head.disable_stealing().is_some();
         let found = advanced(&mut passes.head, 1);
         let left = leave(&mut passes.holder);
@@ -97,7 +97,7 @@ fn a_head_that_disables_stealing_again_is_not_passed(rt: HostRuntime) -> Result<
 
 #[test]
 fn a_pass_that_is_not_the_head_disables_nothing(rt: HostRuntime) -> Result<(), Fail> {
-    let mut passes = passed(rt.alloc(), Form::Rw)?;
+    let mut passes = opened_behind(rt.alloc(), Form::Rw)?;
     let by_holder = passes.holder.disable_stealing().is_none();
     let by_other = passes.other.disable_stealing().is_none();
     assert!(rt; by_holder && by_other);
@@ -107,7 +107,7 @@ fn a_pass_that_is_not_the_head_disables_nothing(rt: HostRuntime) -> Result<(), F
 #[test]
 fn an_attempt_of_a_holder_is_refused_and_forgets_nothing(rt: HostRuntime) -> Result<(), Fail> {
     for form in FORMS {
-        let mut passes = passed(rt.alloc(), form)?;
+        let mut passes = opened_behind(rt.alloc(), form)?;
         let again = passes.holder.attempt(Mode::Write);
         let held = passes.holder.resting();
         let left = leave(&mut passes.holder);

@@ -10,12 +10,10 @@ use std::sync::atomic::AtomicU64;
 use std::time::Duration;
 use std::{hint, thread};
 
-// How often a waiter looks again at once, in the queue and at its head; then it gives its processor to others a few times, and sleeps.
+// How often a waiter looks again at once, in the queue and at its head; then it sleeps.
 const SPINS: u32 = 100;
 
 const SPINS_AT_HEAD: u32 = 1000;
-
-const YIELDS: u32 = 4;
 
 // After so many rounds that moved nobody a shuffler sleeps until the next; before, it spins so long, and each time twice as long.
 const BRIEF_ROUNDS: u32 = 3;
@@ -110,7 +108,7 @@ impl Pauses {
         };
         if looks < spins {
             hint::spin_loop();
-        } else if looks < spins + YIELDS || matches!(pass.phase(), Phase::Late) {
+        } else if matches!(pass.phase(), Phase::Late) {
             thread::yield_now();
         } else {
             self.sleep(rt, board, pass);

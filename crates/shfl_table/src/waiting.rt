@@ -148,7 +148,7 @@ fn keep_disabled<V: Kept + Drop>(board: &SharedBoard<V>, pass: &mut Pass<V>, out
 /// queue; while it tries it asks nothing. The chooser answers what the steps ask: it is opened before a round's first question, and
 /// closed after the round's last step. `anchor` has the attributes of the pass. The gate is told when the pass has joined the queue,
 /// and after each round. A step that looked in vain is followed by a pause, and no other but the last of a round that moved nobody: the
-/// pass spins, gives its processor to others, and then sleeps until it is made ready, or finds the lock freed, or for a while.
+/// pass spins, and then sleeps until it is made ready, or finds the lock freed, or for a while.
 pub fn wait_by<V: Kept + Drop, C: Chooser, G: Gate, Rt: Wait>(
     rt: &Rt,
     board: &SharedBoard<V>,

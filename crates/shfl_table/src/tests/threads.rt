@@ -19,9 +19,9 @@ use std::thread;
 use std::thread::Threads;
 
 /// How often each of the sixteen threads holds the lock. One of them lingers in every so many holds, so that others queue.
-const HOLDS: u32 = 200;
+const HOLDS: u32 = 50;
 
-const LINGERS: u32 = 100;
+const LINGERS: u32 = 25;
 
 /// What a holder does inside: how often writers held the lock, where it writes.
 fn stay(board: &SharedBoard<Tally>, crowd: &Crowd, pass: &mut Pass<Tally>, mode: Mode) -> u64

@@ -22,6 +22,7 @@ returns c = let d = (goal.at.returns c).After-put_value in let i = in-again d in
       own = as_idle (i j).own;
       steps_taken = (i j).steps_taken + 1;
       decisions = (i j).decisions;
+      attempts = (i j).attempts;
       initial_state = (i j).initial_state;
       history = sym c.requires.out.unseen j;
       values = [];

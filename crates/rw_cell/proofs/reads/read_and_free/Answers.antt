@@ -55,4 +55,4 @@ returns-clause-place g c = let d = (goal.at.returns-clause-place g c).After-visi
 pub returns-clause-pass : goal.returns-clause-pass
 returns-clause-pass g c = let d = (goal.at.returns-clause-pass g c).After-visit-reply in let p = still g d in
     c.free.ensures (left g d ∷ []) (ap (λ (p : PassModel BookModel). p.values) p)
-    ∙ (λ i. record { board = (p i).board; own = as_idle (p i).own; steps_taken = (p i).steps_taken + 1; decisions = (p i).decisions; initial_state = (p i).initial_state; history = history-left g d i; values = [] })
+    ∙ (λ i. record { board = (p i).board; own = as_idle (p i).own; steps_taken = (p i).steps_taken + 1; decisions = (p i).decisions; attempts = (p i).attempts; initial_state = (p i).initial_state; history = history-left g d i; values = [] })

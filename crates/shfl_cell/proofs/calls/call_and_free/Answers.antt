@@ -62,7 +62,7 @@ returns-clause-place g c = let d = (goal.at.returns-clause-place g c).After-visi
 pub returns-clause-pass : goal.returns-clause-pass
 returns-clause-pass g c = let d = (goal.at.returns-clause-pass g c).After-visit-reply in let i = in-place g d in
     c.free.ensures (left g d ∷ []) (ap (λ (p : PassModel BookModel). p.values) i)
-    ∙ (λ j. record { board = (i j).board; own = as_idle (i j).own; steps_taken = (i j).steps_taken + 1; decisions = (i j).decisions; initial_state = (i j).initial_state; history = history-left g d j; values = [] })
+    ∙ (λ j. record { board = (i j).board; own = as_idle (i j).own; steps_taken = (i j).steps_taken + 1; decisions = (i j).decisions; attempts = (i j).attempts; initial_state = (i j).initial_state; history = history-left g d j; values = [] })
 
 pub returns-clause-legal : goal.returns-clause-legal
 returns-clause-legal g c = let d = (goal.at.returns-clause-legal g c).After-visit-reply in let i = in-place g d in let old = c.args.pass.now in let O = g.O.Object in let w = c.requires.within in
