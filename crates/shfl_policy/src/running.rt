@@ -51,7 +51,7 @@ const NOBODY: Attr = Attr {
 };
 
 impl<'a> Chooser for Running<'a> {
-    ghost use Rattle.std.specs.Prelude.{[], None, false};
+    ghost use Rattle.std.specs.Prelude.{[], None, false, is_some};
 
     ghost home = { λ _. [] };
 
@@ -59,8 +59,10 @@ impl<'a> Chooser for Running<'a> {
 
     ghost told = { λ _. None };
 
+    ghost moves_waiters = { λ r. is_some r.should };
+
     fn may_move_waiters(&self) -> bool {
-        true
+        self.policy.should_program().is_some()
     }
 
     fn begin<Rt: Wait>(&mut self, _rt: &Rt)
