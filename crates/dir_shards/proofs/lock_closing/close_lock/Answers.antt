@@ -43,3 +43,8 @@ finish-values-requires c = let v = c.loop-k.invariant in let test = c.loop-k-tes
 pub returns-clause-passes : goal.returns-clause-passes
 returns-clause-passes c = let v = c.loop-k.invariant in let test = c.loop-k-test.false in let long = v.passes.long in
     all_shorter c.loop-k.k c.args.passes.now c.loop-k.passes (omega arith) v.passes
+
+pub new-closing-requires-clause-board : goal.new-closing-requires-clause-board
+new-closing-requires-clause-board c = let before = c.args.passes.now in let d = c.index-passes-0.result in
+    let ends = c.requires.last 0 d c.requires.some in let lock = c.take_last-first.ensures.lock in
+    (snoc_same lock.0 ends.0 c.take_last-first.result.board c.args.board.id (sym lock.1 ∙ ends.1)).1
