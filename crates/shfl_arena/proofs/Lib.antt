@@ -26,3 +26,4 @@ pub mod Attempts
 pub mod Splits
 pub mod FirstState
 pub mod WaitSteps
+pub mod Mutexes

@@ -14,3 +14,4 @@ pub mod Operations
 pub mod SeatModels
 pub mod SeatSteps
 pub mod Waits
+pub mod Mutexes

@@ -3,6 +3,7 @@
 
 mod arena;
 pub mod laws;
+mod mutex;
 mod opening;
 mod operation;
 mod performing;
