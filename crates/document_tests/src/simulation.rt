@@ -179,7 +179,7 @@ fn attrs_of(alloc: Global, sockets: &[u16]) -> Result<Vec<Attr>, Fail> {
 
 fn played(alloc: Global, row: &Row) -> Result<Run, Fail> {
     let attrs = attrs_of(alloc, row.1)?;
-    if attrs.is_empty() || attrs.len() > 64 || row.2.lines > 64 {
+    if attrs.is_empty() || attrs.len() > 1024 || row.2.lines > 64 {
         return Err("not a setup".into());
     }
     let setup = Setup {
@@ -218,5 +218,42 @@ fn runs_give_the_figures_of_another_program(rt: HostRuntime) -> Result<(), Fail>
         assert!(rt; run.bench.order.hash == row.7, "run {at}");
         assert!(rt; run.waits.len() as u64 == figures[0], "run {at}");
     }
+    Ok(())
+}
+
+// Passes that call at one time and are moved by no policy are served by their numbers, however many they are.
+#[test]
+fn a_thousand_passes_are_served_in_turn(rt: HostRuntime) -> Result<(), Fail> {
+    let alloc = rt.alloc();
+    let mut attrs = Vec::new(alloc);
+    for pass in 0..1024u16 {
+        attrs.push(Attr {
+            socket: pass / 16,
+            prio: 0,
+            class: 0,
+            kind: 0,
+        })?;
+    }
+    if attrs.is_empty() || attrs.len() > 1024 {
+        return Err("not a setup".into());
+    }
+    let setup = Setup {
+        rules: Rules {
+            limit: 1024,
+            form: Form::Spin,
+        },
+        layout: Layout::Padded,
+        costs: USUAL,
+        work: BUSY,
+        until: 1_000_000,
+        seed: 1,
+        passes: attrs.len() as u32,
+        cores: cores_of(&attrs),
+    };
+    let Ok(run) = simulate(alloc, &setup, &attrs, &BuiltIn::Never, 1_000_000) else {
+        return Err("memory".into());
+    };
+    let first = [0, 1, 2, 3, 4, 5, 6, 7, 8, 9, 10, 11, 12, 13, 14, 15];
+    assert!(rt; run.bench.order.first == first, "{:?}", run.bench.order.first);
     Ok(())
 }
