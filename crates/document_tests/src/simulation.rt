@@ -179,7 +179,7 @@ fn attrs_of(alloc: Global, sockets: &[u16]) -> Result<Vec<Attr>, Fail> {
 
 fn played(alloc: Global, row: &Row) -> Result<Run, Fail> {
     let attrs = attrs_of(alloc, row.1)?;
-    if attrs.is_empty() || attrs.len() > 64 || row.2.lines > 64 {
+    if attrs.is_empty() || attrs.len() > 1024 || row.2.lines > 64 {
         return Err("not a setup".into());
     }
     let setup = Setup {

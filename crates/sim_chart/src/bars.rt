@@ -66,7 +66,7 @@ fn push_bar(
     y: u64,
     bar: &Bar,
 ) -> Result<(), AllocError>
-    requires { y ≤ 100000 }
+    requires { y ≤ 500000 }
     ensures { OnOk result (out.new.items
         ≡ out.old.items ++ charts.bar_text kind.now largest y bar.now) }
 {
@@ -89,7 +89,7 @@ fn push_bars(
     bars: &[Bar],
 ) -> Result<(), AllocError>
     requires first { first ≤ 50000 }
-    requires few { length bars.now ≤ 2000 }
+    requires few { length bars.now ≤ 20000 }
     ensures { OnOk result (out.new.items
         ≡ out.old.items ++ charts.bars_text kind.now largest first bars.now) }
 {
@@ -111,7 +111,7 @@ pub fn push_chart(
     bars: &[Bar],
 ) -> Result<(), AllocError>
     requires first { y ≤ 40000 }
-    requires few { length bars.now ≤ 2000 }
+    requires few { length bars.now ≤ 20000 }
     ensures { OnOk result (out.new.items
         ≡ out.old.items ++ charts.chart_text kind.now title.now y bars.now) }
 {

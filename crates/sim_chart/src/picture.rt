@@ -75,7 +75,7 @@ fn push_waits(
     ensures bars { OnOk result (waits.new.items ≡ waits.old.items
         ++ map (pictures.wait_bar setup.now name.now end.now.time end.now.bench)
         (values_of Socket setup.now.passes)) }
-    ensures few { OnOk result (length waits.new.items ≤ length waits.old.items + 64) }
+    ensures few { OnOk result (length waits.new.items ≤ length waits.old.items + 1024) }
 {
     let sockets = values_of(alloc, Key::Socket, setup.passes.as_slice())?;
     for socket in &sockets {
@@ -114,7 +114,7 @@ fn bars_of(alloc: Global, setup: &SimSetup) -> Result<Charts, NoMemory>
     ensures waits { IfOk result
         (λ c. c.waits.items ≡ flat_map (pictures.waits_bars setup.now) setup.now.policies) }
     ensures few { IfOk result (λ c. length c.gains.items ≤ 16) }
-    ensures short { IfOk result (λ c. length c.waits.items ≤ 1024) }
+    ensures short { IfOk result (λ c. length c.waits.items ≤ 16384) }
 {
     let mut gains = Vec::new(alloc);
     let mut waits = Vec::new(alloc);
@@ -192,7 +192,7 @@ fn second_of(gains: &[Bar]) -> u64
 #[tactic(auto, unfolding(crate::specs::Pictures::height_of))]
 fn height_of(gains: &[Bar], waits: &[Bar]) -> u64
     requires few { length gains.now ≤ 16 }
-    requires short { length waits.now ≤ 1024 }
+    requires short { length waits.now ≤ 16384 }
     ensures { result ≡ pictures.height_of gains.now waits.now }
 {
     20 * gains.len() as u64 + 20 * waits.len() as u64 + 130
@@ -209,7 +209,7 @@ fn push_gains_chart(out: &mut Vec<u8>, gains: &[Bar]) -> Result<(), AllocError>
 #[tactic(auto, unfolding(crate::specs::Pictures::waits_text))]
 fn push_waits_chart(out: &mut Vec<u8>, y: u64, waits: &[Bar]) -> Result<(), AllocError>
     requires first { y ≤ 40000 }
-    requires short { length waits.now ≤ 1024 }
+    requires short { length waits.now ≤ 16384 }
     ensures { OnOk result (out.new.items ≡ out.old.items ++ pictures.waits_text y waits.now) }
 {
     push_chart(out, b"waits", b"longest wait by socket, in ticks", y, waits)
@@ -219,7 +219,7 @@ fn push_waits_chart(out: &mut Vec<u8>, y: u64, waits: &[Bar]) -> Result<(), Allo
 #[tactic(auto, unfolding(crate::specs::Pictures::charts_text))]
 fn drawn(alloc: Global, gains: &[Bar], waits: &[Bar]) -> Result<Vec<u8>, AllocError>
     requires few { length gains.now ≤ 16 }
-    requires short { length waits.now ≤ 1024 }
+    requires short { length waits.now ≤ 16384 }
     ensures { IfOk result (λ text. text.items ≡ pictures.charts_text gains.now waits.now) }
 {
     let height = height_of(gains, waits);

@@ -141,7 +141,8 @@ fn push_passes(out: &mut Vec<u8>, attrs: &[Attr]) -> Result<(), NoMemory>
 // The first events of the run of a rule.
 #[tactic(auto, unfolding(crate::specs::ScheduleTexts::run_events))]
 fn run_events(alloc: Global, setup: &SimSetup, rule: &Rule) -> Result<Vec<Event>, NoMemory>
-    requires { IsWithin setup.now }
+    requires within { IsWithin setup.now }
+    requires few { length setup.now.passes ≤ 64 }
     ensures { IfOk result (λ v. v.items ≡ texts.run_events setup.now rule.now) }
 {
     let lock = run_setup(setup, setup.load.seeds.first);
@@ -153,14 +154,15 @@ fn run_events(alloc: Global, setup: &SimSetup, rule: &Rule) -> Result<Vec<Event>
     }
 }
 
-/// The lock of the setup with this policy, its passes, and the first events of its run, as a schedule.
+/// The lock of the setup with this policy, its passes, and the first events of its run, as a schedule. One has at most 64 passes.
 #[tactic(auto, unfolding(crate::specs::ScheduleTexts::schedule_text))]
 pub fn schedule_of(
     alloc: Global,
     setup: &SimSetup,
     candidate: &Candidate,
 ) -> Result<Vec<u8>, NoMemory>
-    requires { IsWithin setup.now }
+    requires within { IsWithin setup.now }
+    requires few { length setup.now.passes ≤ 64 }
     ensures { IfOk result (λ text. text.items ≡ schedule_text setup.now candidate.now) }
 {
     let events = run_events(alloc, setup, &candidate.rule)?;

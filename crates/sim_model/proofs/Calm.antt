@@ -2,7 +2,6 @@
 use Rattle.std.proofs.Common.{◌≡◌, ◌≢◌, inl, inr, ℕ, zero, suc, ◌<◌, ◌≤◌, Bool, true, false, cond, List, length, set, refl, sym, ap, subst, ◌∙◌, Option, Some, None, arith, length-set, slice_index}
 use Rattle.std.proofs.lemmas.Bool.{cases_eq}
 use Rattle.std.proofs.lemmas.List.{get_or-set_same, get_or-set_other, set-get_or}
-use Rattle.std.proofs.Math.ListN.{get_or-map}
 use Rattle.shfl_line.specs.declared.events.Mode.{Mode}
 use Rattle.shfl_line.specs.declared.words.Attr.{Attr}
 use Rattle.shfl_core.specs.declared.phase.PassState.{PassState}
@@ -28,37 +27,39 @@ use Rattle.sim_model.specs.Runs.{Answers, State, with_call, with_gain, data_of, 
 use Rattle.sim_model.specs.Steps.{advice_at, made_by, rest_of, ended, touched_by, with_touch, with_ring, stand_after, with_stand, settled}
 use Rattle.sim_model.specs.Turns.{stand_at, woken, all_woken, soonest}
 use Rattle.sim_model.proofs.Kept.{Stands}
+use Rattle.sim_model.proofs.Mapped.{mapped-below}
 use Rattle.sim_model.proofs.Quiet.{Quiet, bell-case}
 use Rattle.sim_model.proofs.Settled.{Kept, known-same, known-other, admitted-step, ring-long, touch-long}
 use Rattle.sim_model.proofs.Still.{QuietAt, QuietOrRung, after_words, load-quiet, store-quiet, ring-quiet, own-quiet}
 use Rattle.sim_model.proofs.Turned.{found, in-time-some, kept-from, turn-kept, opening-kept, acquired-moves, released-moves, stands-at}
 
 -- how another pass stands after the access of a step
-touch-quiet : (s : Setup) (words : List ℕ) (b : Bench) (p at k : ℕ) (m : Made) (q : PassState) → (site m.access ≡ Bell k → rung m.access ≡ Some k)
+touch-quiet : (s : Setup) (words : List ℕ) (b : Bench) (p at k : ℕ) (m : Made) (q : PassState) → k < s.passes → k < length b.stands
+    → (site m.access ≡ Bell k → rung m.access ≡ Some k)
     → QuietAt s words k q (stand_at b.stands k) → QuietOrRung s (after_words words m.access) m.access k q (stand_at (with_touch s b p m at).stands k)
 unfolding with_touch
-touch-quiet s words b p at k m q bell h =
+touch-quiet s words b p at k m q below inside bell h =
     let line = line_of s.layout (site m.access) in
     let ends = (touched_by s b p m at).ends in
-    let by : (test : Bool) → is_load m.access ≡ test → QuietOrRung s (after_words words m.access) m.access k q (stand_at (cond test b.stands (all_woken line ends b.stands)) k) =
-    λ test. elim test as (λ x. is_load m.access ≡ x → QuietOrRung s (after_words words m.access) m.access k q (stand_at (cond x b.stands (all_woken line ends b.stands)) k)) [
+    let by : (test : Bool) → is_load m.access ≡ test → QuietOrRung s (after_words words m.access) m.access k q (stand_at (cond test b.stands (all_woken s.passes line ends b.stands)) k) =
+    λ test. elim test as (λ x. is_load m.access ≡ x → QuietOrRung s (after_words words m.access) m.access k q (stand_at (cond x b.stands (all_woken s.passes line ends b.stands)) k)) [
       | true ↦ λ e. load-quiet s words m.access k q line ends refl bell (stand_at b.stands k) e h
-      | false ↦ λ e. subst (QuietOrRung s (after_words words m.access) m.access k q) (sym (get_or-map (woken line ends) b.stands k (Sleeps 0)))
+      | false ↦ λ e. subst (QuietOrRung s (after_words words m.access) m.access k q) (sym (mapped-below (woken line ends) b.stands s.passes k (Sleeps 0) below inside))
           (store-quiet s words m.access k q line ends refl bell (stand_at b.stands k) h)
     ] in
     by (is_load m.access) refl
 
 -- how it stands after the whole step
-other-quiet : (s : Setup) (words : List ℕ) (b : Bench) (p at k : ℕ) (m : Made) (q : PassState) → at ≤ 18446744073709551615 → k ≢ p → k < length b.stands
+other-quiet : (s : Setup) (words : List ℕ) (b : Bench) (p at k : ℕ) (m : Made) (q : PassState) → at ≤ 18446744073709551615 → k ≢ p → k < s.passes → k < length b.stands
     → (site m.access ≡ Bell k → rung m.access ≡ Some k) → QuietAt s words k q (stand_at b.stands k)
     → QuietAt s (after_words words m.access) k q (stand_at (settled s b p m at).stands k)
 unfolding with_stand
-other-quiet s words b p at k m q top differ inside bell h =
+other-quiet s words b p at k m q top differ below inside bell h =
     let ends = ended s.costs m (touched_by s b p m at).ends in
     let standing = (with_touch s b p m at).stands in
     let here : k < length standing = let e = touch-long s b p at m top in omega arith in
     subst (QuietAt s (after_words words m.access) k q) (sym (get_or-set_other (with_ring s.costs standing (rung m.access) ends) p k _ (Sleeps 0) differ))
-    (ring-quiet s (after_words words m.access) m.access k ends q standing (rung m.access) refl here (touch-quiet s words b p at k m q bell h))
+    (ring-quiet s (after_words words m.access) m.access k ends q standing (rung m.access) refl here (touch-quiet s words b p at k m q below inside bell h))
 
 -- how the pass itself stands after it
 pass-quiet : (s : Setup) (words : List ℕ) (b : Bench) (p at : ℕ) (m : Made) (q : PassState) → at ≤ 18446744073709551615 → p < length b.stands
@@ -105,7 +106,7 @@ step-calm s answers w b p at top lt long seats calm h =
           let seat : k < length b.stands = omega arith in
           let bell : site a ≡ Bell k → rung a ≡ Some k = λ f. elim (bell-case s.rules p q k f) as (λ _. rung a ≡ Some k) [ inl same ↦ absurd (differ (sym same)) | inr rings ↦ rings ] in
           subst (λ (x : PassState). QuietAt s (after_words w.words a) k x (stand_at (settled s b p m at).stands k)) (sym (known-other w.passes p k r differ))
-          (other-quiet s w.words b p at k m (known w.passes k) top differ seat bell (calm k below differ))
+          (other-quiet s w.words b p at k m (known w.passes k) top differ below seat bell (calm k below differ))
     ])
 
 -- a first move leaves the words, and where the others stand

@@ -1,10 +1,9 @@
 -- The sums agree: each step is one access, each gain one wait and one of its pass.
 use Rattle.std.proofs.Common.{◌≡◌, ℕ, zero, suc, ◌+◌, ◌<◌, ◌≤◌, Bool, true, false, cond, List, [], ◌∷◌, ◌++◌, map, length, get_or, set, refl, sym, ap, subst, ◌∙◌, Option, Some, None, arith, length-append, length-set}
 use Rattle.std.specs.Prelude.{sum_by, nat_lt, ◌&&◌}
-use Rattle.std.proofs.lemmas.List.{length-map, length-replicate}
+use Rattle.std.proofs.lemmas.List.{length-replicate}
 use Rattle.std.proofs.lemmas.List.Sums.{sum_by-cons}
 use Rattle.std.proofs.lemmas.List.Folds.{sum_by-replicate}
-use Rattle.std.proofs.Math.ListN.{get_or-map}
 use Rattle.shfl_line.specs.declared.events.Mode.{Mode}
 use Rattle.shfl_core.specs.declared.words.Word.{Word}
 use Rattle.shfl_core.specs.declared.words.Word.TheVariants.{Lock, Tail, Next, State as StateOf, Attr, Bell}
@@ -20,6 +19,8 @@ use Rattle.sim_model.specs.declared.steps.Made.{Made}
 use Rattle.sim_model.specs.declared.turns.Entry.{Entry}
 use Rattle.sim_model.specs.declared.turns.Turn.{Turn}
 use Rattle.sim_model.specs.declared.turns.Turn.TheVariants.{Call, Step, Gain, Free}
+use Rattle.sim_model.specs.Firsts.{mapped}
+use Rattle.sim_model.specs.Openings.{opening_served}
 use Rattle.sim_model.specs.Calls.{nobody_served, served_at, called, gained, overtaken, all_overtaken, in_order, passed_once}
 use Rattle.sim_model.specs.Clock.{plus}
 use Rattle.sim_model.specs.Counts.{reached, with_access, with_step}
@@ -27,6 +28,7 @@ use Rattle.sim_model.specs.Sums.{reaches_of, accesses_of, gains_of, SumsAgree}
 use Rattle.sim_model.specs.Runs.{Answers, State, with_call, with_gain, listed, turn_bench, turn_wait, after_turn, next_turn, turning, ran, opening_state}
 use Rattle.sim_model.specs.Steps.{settled, with_touch, with_stand}
 use Rattle.sim_model.specs.Turns.{soonest}
+use Rattle.sim_model.proofs.Mapped.{mapped-either, mapped-long}
 use Rattle.sim_model.proofs.Turned.{found, in-time-some}
 use Rattle.shfl_line.specs.declared.words.Attr.{Attr as Attributes}
 
@@ -96,9 +98,12 @@ sum-set f (y ∷ ys) (suc p) x d lt =
     let ih : sum_by f (set ys p x) + f (get_or ys p d) ≡ sum_by f ys + f x = sum-set f ys p x d (omega arith) in
     let a = sum_by-cons f y (set ys p x) in let b = sum_by-cons f y ys in omega arith
 
-sum-same : {A : Type 0} → (f : A → ℕ) (g : A → A) (xs : List A) → ((x : A) → f (g x) ≡ f x) → sum_by f (map g xs) ≡ sum_by f xs
-sum-same f g [] same = refl
-sum-same f g (x ∷ xs) same = let a = sum_by-cons f (g x) (map g xs) in let b = sum_by-cons f x xs in let ih = sum-same f g xs same in let e = same x in omega arith
+sum-same : {A : Type 0} → (f : A → ℕ) (g : A → A) (xs : List A) (n : ℕ) → ((x : A) → f (g x) ≡ f x) → sum_by f (mapped g n xs) ≡ sum_by f xs
+sum-same f g [] zero same = refl
+sum-same f g [] (suc n) same = refl
+sum-same f g (x ∷ xs) zero same = refl
+sum-same f g (x ∷ xs) (suc n) same =
+    let a = sum_by-cons f (g x) (mapped g n xs) in let b = sum_by-cons f x xs in let ih = sum-same f g xs n same in let e = same x in omega arith
 
 chosen-gained : (b : Bool) (x : Served) → (cond b (passed_once x) x).gained ≡ x.gained
 chosen-gained true x = refl
@@ -117,39 +122,41 @@ record Gained (k : ℕ) (b : Bench) (waits : List ℕ) : Type 0 where
   served : gains_of b.served ≡ b.order.gained
   ended : length waits ≡ b.order.gained
   few : b.order.gained ≤ k
-  seats : length b.served ≡ 64
+  seats : length b.served ≡ 1024
 
 -- one pass has gained once more
-one-gained : (served : List Served) (p call n : ℕ) (next : Served) → length served ≡ 64 → p < 64 → gains_of served ≡ n → n < 18446744073709551615
-    → next.gained ≡ plus (served_at served p).gained 1 → gains_of (set (all_overtaken call served) p next) ≡ n + 1
-one-gained served p call n next long below sum lt is =
+one-gained : (served : List Served) (p call n m : ℕ) (next : Served) → length served ≡ 1024 → p < 1024 → gains_of served ≡ n → n < 18446744073709551615
+    → next.gained ≡ plus (served_at served p).gained 1 → gains_of (set (all_overtaken m call served) p next) ≡ n + 1
+one-gained served p call n m next long below sum lt is =
     let f : Served → ℕ = λ (x : Served). x.gained in
-    let others = all_overtaken call served in
+    let others = all_overtaken m call served in
     let inside : p < length served = omega arith in
-    let inside' : p < length others = let e = length-map served (overtaken call) in omega arith in
+    let inside' : p < length others = let e = mapped-long (overtaken call) served m in omega arith in
     let a : sum_by f (set others p next) + f (get_or others p nobody_served) ≡ sum_by f others + f next = sum-set f others p next nobody_served inside' in
-    let same : sum_by f others ≡ sum_by f served = sum-same f (overtaken call) served (overtaken-gained call) in
-    let before : f (get_or others p nobody_served) ≡ (served_at served p).gained = ap f (get_or-map (overtaken call) served p nobody_served) ∙ overtaken-gained call (served_at served p) in
+    let same : sum_by f others ≡ sum_by f served = sum-same f (overtaken call) served m (overtaken-gained call) in
+    let before : f (get_or others p nobody_served) ≡ (served_at served p).gained =
+    mapped-either (λ (y : Served). f y ≡ (served_at served p).gained) (overtaken call) served m p nobody_served refl (overtaken-gained call (served_at served p)) in
     let at-most : (served_at served p).gained ≤ sum_by f served = sum-at f served p nobody_served inside in
     let total : sum_by f served ≡ n = sum in
     let more : f next ≡ (served_at served p).gained + 1 = is ∙ plus-one (served_at served p).gained (omega arith) in
     let goal : sum_by f (set others p next) ≡ n + 1 = omega arith in goal
 
-gain-gained : (k : ℕ) (s : Setup) (b : Bench) (waits : List ℕ) (p at : ℕ) (m : Mode) (stolen : Bool) (wait : ℕ) → k < 18446744073709551615 → p < 64 → Gained k b waits
+gain-gained : (k : ℕ) (s : Setup) (b : Bench) (waits : List ℕ) (p at : ℕ) (m : Mode) (stolen : Bool) (wait : ℕ) → k < 18446744073709551615 → p < 1024 → Gained k b waits
     → Gained (suc k) (with_gain s b p m stolen at) (waits ++ wait ∷ [])
 unfolding with_gain gained in_order
 gain-gained k s b waits p at m stolen wait lt below h =
     let few = h.few in
     let more : plus b.order.gained 1 ≡ b.order.gained + 1 = plus-one b.order.gained (omega arith) in
     record {
-      served = one-gained b.served p (served_at b.served p).called b.order.gained _ h.seats below h.served (omega arith) refl ∙ sym more;
+      served = one-gained b.served p (served_at b.served p).called b.order.gained s.passes _ h.seats below h.served (omega arith) refl ∙ sym more;
       ended = length-append waits (wait ∷ []) ∙ ap (λ x. x + 1) h.ended ∙ sym more;
       few = omega arith;
-      seats = length-set (all_overtaken (served_at b.served p).called b.served) p _ ∙ length-map b.served _ ∙ h.seats;
+      seats = length-set (all_overtaken s.passes (served_at b.served p).called b.served) p _
+          ∙ mapped-long (overtaken (served_at b.served p).called) b.served s.passes ∙ h.seats;
     }
 
 -- a call, and any step, leave the gains
-called-gained : (k : ℕ) (s : Setup) (b : Bench) (waits : List ℕ) (p at : ℕ) → p < 64 → Gained k b waits → Gained k (with_call s b p at) waits
+called-gained : (k : ℕ) (s : Setup) (b : Bench) (waits : List ℕ) (p at : ℕ) → p < 1024 → Gained k b waits → Gained k (with_call s b p at) waits
 called-gained k s b waits p at below h =
     let f : Served → ℕ = λ (x : Served). x.gained in
     let own = called (served_at b.served p) at in
@@ -163,14 +170,14 @@ unfolding with_stand with_touch
 settled-gained k s b waits p at m h = let few = h.few in
     record { served = h.served; ended = length-append waits [] ∙ (let e : length waits + 0 ≡ length waits = omega arith in e) ∙ h.ended; few = omega arith; seats = h.seats }
 
-turn-gained : (k : ℕ) (s : Setup) (answers : Answers) (w : World) (b : Bench) (waits : List ℕ) (p at : ℕ) (turn : Turn) → k < 18446744073709551615 → p < 64 → Gained k b waits
+turn-gained : (k : ℕ) (s : Setup) (answers : Answers) (w : World) (b : Bench) (waits : List ℕ) (p at : ℕ) (turn : Turn) → k < 18446744073709551615 → p < 1024 → Gained k b waits
     → Gained (suc k) (turn_bench s answers w b p at turn) (waits ++ listed (turn_wait b p at turn))
 turn-gained k s answers w b waits p at Call lt below h = settled-gained k s (with_call s b p at) waits p at _ (called-gained k s b waits p at below h)
 turn-gained k s answers w b waits p at Step lt below h = settled-gained k s b waits p at _ h
 turn-gained k s answers w b waits p at Free lt below h = settled-gained k s b waits p at _ h
 turn-gained k s answers w b waits p at (Gain stolen) lt below h = gain-gained k s b waits p at _ stolen _ lt below h
 
-module _ (s : Setup) (answers : Answers) (few : s.passes ≤ 64) where
+module _ (s : Setup) (answers : Answers) (few : s.passes ≤ 1024) where
   abbrev Sound : ℕ → State → Type 0
   Sound k st = Counted k st.bench.counts × Gained k st.bench st.waits
 
@@ -185,7 +192,7 @@ module _ (s : Setup) (answers : Answers) (few : s.passes ≤ 64) where
   sound-on k n st (Some e) is fits h ih =
       let lt : k < 18446744073709551615 = omega arith in
       let sn = in-time-some st.bench.stands s.passes s.until (soonest st.bench.stands s.passes) e (found st.bench.stands s.passes) is in
-      let below : e.pass < 64 = let b = sn.0.below in omega arith in
+      let below : e.pass < 1024 = let b = sn.0.below in omega arith in
       let more : suc k + n ≡ k + suc n = omega arith in
       subst (λ x. Sound x (ran s answers n (after_turn s answers st e))) more (ih (after_turn s answers st e) (omega arith)
       (turn-counted k s answers st.world st.bench e.pass e.at e.turn lt h.0, turn-gained k s answers st.world st.bench st.waits e.pass e.at e.turn lt below h.1))
@@ -195,9 +202,10 @@ module _ (s : Setup) (answers : Answers) (few : s.passes ≤ 64) where
   sound (suc n) k st fits h = sound-on k n st (next_turn s st.bench) refl fits h (λ next. sound n (suc k) next)
 
 opening-sound : (s : Setup) (attrs : List Attributes) → (Counted 0 (opening_state s attrs).bench.counts) × Gained 0 (opening_state s attrs).bench []
+unfolding opening_served
 opening-sound s attrs = (
   record { steps = refl; few = omega arith },
-  record { served = sum_by-replicate (λ (x : Served). x.gained) 64 nobody_served; ended = refl; few = omega arith; seats = length-replicate 64 nobody_served },
+  record { served = sum_by-replicate (λ (x : Served). x.gained) 1024 nobody_served; ended = refl; few = omega arith; seats = length-replicate 1024 nobody_served },
 )
 
 pub sums-agree : SumsAgree

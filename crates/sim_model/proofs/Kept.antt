@@ -3,7 +3,6 @@ use Rattle.std.proofs.Common.{◌≡◌, inl, inr, ℕ, ◌<◌, ◌≤◌, ◌=
 use Rattle.std.proofs.lemmas.List.{get_or-set_same, get_or-set_other}
 use Rattle.std.proofs.lemmas.Bool.{cases_eq}
 use Rattle.std.proofs.lemmas.Bool.Decides.{nat_tests}
-use Rattle.std.proofs.Math.ListN.{get_or-map}
 use Rattle.shfl_core.specs.declared.phase.Phase.{Phase}
 use Rattle.shfl_core.specs.declared.phase.Phase.TheVariants as phases
 use Rattle.shfl_core.specs.declared.phase.Nap.{Nap}
@@ -25,6 +24,7 @@ use Rattle.sim_model.specs.Draws.{thought}
 use Rattle.sim_model.specs.Laws.{IsFit, IsNotBefore}
 use Rattle.sim_model.specs.Steps.{at_look, at_peek, at_head_look, at_late, is_same_look, is_awake, is_first, rest_of, stand_after, raised, with_ring, rung_ends, waking_ends}
 use Rattle.sim_model.specs.Turns.{stand_at, woken, all_woken}
+use Rattle.sim_model.proofs.Mapped.{mapped-either}
 
 -- times
 
@@ -59,9 +59,9 @@ woken-stands t line ends q (Spins own since) le ok =
       | false ↦ ok
     ]
 
-pub all-woken-stands : (t line ends p : ℕ) (q : PassState) (standing : List Stand) → t ≤ ends → Stands t q (stand_at standing p) → Stands t q (stand_at (all_woken line ends standing) p)
-all-woken-stands t line ends p q standing le ok =
-    subst (Stands t q) (sym (get_or-map (woken line ends) standing p (Sleeps 0))) (woken-stands t line ends q (stand_at standing p) le ok)
+pub all-woken-stands : (t n line ends p : ℕ) (q : PassState) (standing : List Stand) → t ≤ ends → Stands t q (stand_at standing p) → Stands t q (stand_at (all_woken n line ends standing) p)
+all-woken-stands t n line ends p q standing le ok =
+    mapped-either (Stands t q) (woken line ends) standing n p (Sleeps 0) ok (woken-stands t line ends q (stand_at standing p) le ok)
 
 -- whoever is woken from its sleep gets up later
 pub raised-stands : (costs : Costs) (t ends p whom : ℕ) (q : PassState) (standing : List Stand) (x : Stand) → x ≡ stand_at standing whom

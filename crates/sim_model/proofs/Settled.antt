@@ -1,7 +1,7 @@
 -- A step keeps how the passes stand.
 use Rattle.std.proofs.Common.{◌≡◌, ◌≢◌, inl, inr, ℕ, ◌<◌, ◌≤◌, Bool, true, false, cond, List, length, set, refl, sym, ap, subst, ◌∙◌, Option, Some, None, arith, length-set}
 use Rattle.std.proofs.lemmas.Bool.{cases_eq}
-use Rattle.std.proofs.lemmas.List.{get_or-set_same, get_or-set_other, length-map}
+use Rattle.std.proofs.lemmas.List.{get_or-set_same, get_or-set_other}
 use Rattle.shfl_core.specs.declared.phase.PassState.{PassState}
 use Rattle.shfl_core.specs.declared.phase.Rules.{Rules}
 use Rattle.shfl_core.specs.Plan.{moving, plan}
@@ -24,7 +24,8 @@ use Rattle.sim_model.specs.Lines.{touched, touched_at, reach_of, cost_of}
 use Rattle.sim_model.specs.Places.{is_load, line_of, rung, core_at, line_at}
 use Rattle.sim_model.specs.Runs.{Answers}
 use Rattle.sim_model.specs.Steps.{advice_at, made_by, rest_of, ended, touched_by, with_touch, raised, with_ring, stand_after, with_stand, settled}
-use Rattle.sim_model.specs.Turns.{stand_at, all_woken}
+use Rattle.sim_model.specs.Turns.{stand_at, woken, all_woken}
+use Rattle.sim_model.proofs.Mapped.{mapped-long}
 use Rattle.sim_model.proofs.Kept.{Stands, plus-after, later-after, all-woken-stands, ring-stands, rung-after, own-stands}
 
 reach-after : (costs : Costs) (core : Core) (load : Bool) (t at : ℕ) (line : Line) (reach : Reach) → t ≤ at → t ≤ 18446744073709551615 → t ≤ (touched_at costs core load at line reach).ends
@@ -59,17 +60,17 @@ module _ (s : Setup) (b : Bench) (p at : ℕ) (m : Made) (top : at ≤ 184467440
   touch-stands : (q : PassState) (k : ℕ) → Stands at q (stand_at b.stands k) → Stands at q (stand_at (with_touch s b p m at).stands k)
   unfolding with_touch
   touch-stands q k ok = let line = line_of s.layout (site m.access) in let ends = (touched_by s b p m at).ends in
-      elim (is_load m.access) as (λ l. Stands at q (stand_at (cond l b.stands (all_woken line ends b.stands)) k)) [
+      elim (is_load m.access) as (λ l. Stands at q (stand_at (cond l b.stands (all_woken s.passes line ends b.stands)) k)) [
         | true ↦ ok
-        | false ↦ all-woken-stands at line ends k q b.stands access-after ok
+        | false ↦ all-woken-stands at s.passes line ends k q b.stands access-after ok
       ]
 
   pub touch-long : length (with_touch s b p m at).stands ≡ length b.stands
   unfolding with_touch
   touch-long = let line = line_of s.layout (site m.access) in let ends = (touched_by s b p m at).ends in
-      elim (is_load m.access) as (λ l. length (cond l b.stands (all_woken line ends b.stands)) ≡ length b.stands) [
+      elim (is_load m.access) as (λ l. length (cond l b.stands (all_woken s.passes line ends b.stands)) ≡ length b.stands) [
         | true ↦ refl
-        | false ↦ length-map b.stands _
+        | false ↦ mapped-long (woken line ends) b.stands s.passes
       ]
 
   -- another pass stands as before, or has been woken
@@ -107,14 +108,14 @@ known-other passes p q r apart = get_or-set_other passes p q r (idle q) apart
 -- between the moves of a turn all other passes stand as they should, no turn of theirs before this time
 pub record Between (s : Setup) (t p : ℕ) (w : World) (b : Bench) : Type 0 where
   pub passes : length w.passes ≡ s.passes
-  pub few : s.passes ≤ 64
-  pub seats : length b.stands ≡ 64
+  pub few : s.passes ≤ 1024
+  pub seats : length b.stands ≡ 1024
   pub others : (q : ℕ) → q < s.passes → q ≢ p → Stands t (known w.passes q) (stand_at b.stands q)
 
 pub record Kept (s : Setup) (t : ℕ) (w : World) (b : Bench) : Type 0 where
   pub passes : length w.passes ≡ s.passes
-  pub few : s.passes ≤ 64
-  pub seats : length b.stands ≡ 64
+  pub few : s.passes ≤ 1024
+  pub seats : length b.stands ≡ 1024
   pub stands : (q : ℕ) → q < s.passes → Stands t (known w.passes q) (stand_at b.stands q)
 
 pub admitted-step : (t : Rules) (w : World) (p : ℕ) (c : Bool) → moving (known w.passes p) ≡ true → after_move t w (Step p c) ≡ stepped t w p (known w.passes p) c

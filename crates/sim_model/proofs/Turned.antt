@@ -146,7 +146,7 @@ data-after : (costs : Costs) (core : Core) (load : Bool) (t at : ℕ) (lines : L
     → t ≤ (data_touched costs core load at lines reaches n).ends
 data-after costs core load t at lines reaches zero le top = le
 data-after costs core load t at lines reaches (suc n) le top = let d = data_touched costs core load at lines reaches n in
-    touch-after costs core load t d.ends (line_at d.lines (66 + n)) (data-after costs core load t at lines reaches n le top) top
+    touch-after costs core load t d.ends (line_at d.lines (1026 + n)) (data-after costs core load t at lines reaches n le top) top
 
 gain-kept : (s : Setup) (w : World) (b : Bench) (p at : ℕ) (m : Mode) (stolen : Bool) → at ≤ 18446744073709551615 → p < s.passes → Kept s at w b
     → is_resting (known w.passes p) ≡ true → Kept s at w (with_gain s b p m stolen at)
@@ -224,11 +224,11 @@ module _ (s : Setup) (answers : Answers) (until : s.until ≤ 184467440737095516
 
 -- the opening
 
-stands-long : (s : Setup) (n : ℕ) → length (stands_below s n) ≡ 64
-stands-long s zero = length-replicate 64 (Sleeps 0)
+stands-long : (s : Setup) (n : ℕ) → length (stands_below s n) ≡ 1024
+stands-long s zero = length-replicate 1024 (Sleeps 0)
 stands-long s (suc n) = length-set (stands_below s n) n _ ∙ stands-long s n
 
-pub stands-at : (s : Setup) (n p : ℕ) → p < n → n ≤ 64 → stand_at (stands_below s n) p ≡ Due (thought s.work.think (seeded s.seed p)) Call
+pub stands-at : (s : Setup) (n p : ℕ) → p < n → n ≤ 1024 → stand_at (stands_below s n) p ≡ Due (thought s.work.think (seeded s.seed p)) Call
 stands-at s zero p lt few = absurd (omega arith)
 stands-at s (suc n) p lt few =
     let up : ℕ → Stand = λ k. Due (thought s.work.think (seeded s.seed k)) Call in

@@ -1,5 +1,5 @@
 -- A call of a pass: when it begins, and when it gains the lock.
-use Rattle.std.specs.Prelude.{ℕ, zero, suc, ◌+◌, ◌*◌, ◌%◌, ◌^◌, ◌==◌, ◌&&◌, List, map, Bool, true, false, cond, nat_lt, bit_xor, Option, Some, None, slice_index_or, slice_set}
+use Rattle.std.specs.Prelude.{ℕ, zero, suc, ◌+◌, ◌*◌, ◌%◌, ◌^◌, ◌==◌, ◌&&◌, List, Bool, true, false, cond, nat_lt, bit_xor, Option, Some, None, slice_index_or, slice_set}
 use Rattle.shfl_line.specs.declared.events.Form.{Form}
 use Rattle.shfl_line.specs.declared.events.Mode.{Mode}
 use Rattle.shfl_line.specs.declared.events.Mode.TheVariants.{Write, Read}
@@ -14,6 +14,7 @@ use Rattle.sim_model.specs.declared.setup.Setup.{Setup}
 use Rattle.sim_model.specs.Clock.{plus, later}
 use Rattle.sim_model.specs.Counts.{reached, plus_if}
 use Rattle.sim_model.specs.Draws.{reads, after_draw}
+use Rattle.sim_model.specs.Firsts.{mapped}
 use Rattle.sim_model.specs.Lines.{touched}
 use Rattle.sim_model.specs.Places.{line_at}
 
@@ -45,8 +46,9 @@ passed_once served = record served { passed = plus served.passed 1; overtaken = 
 abbrev pub overtaken : ℕ → Served → Served
 overtaken call served = cond (served.waits && nat_lt served.called call) (passed_once served) served
 
-abbrev pub all_overtaken : ℕ → List Served → List Served
-all_overtaken call served = map (overtaken call) served
+-- it passes those of the first n passes
+abbrev pub all_overtaken : ℕ → ℕ → List Served → List Served
+all_overtaken n call served = mapped (overtaken call) n served
 
 -- the pass has gained, after a wait
 unfoldable pub gained : Served → ℕ → Bool → Bool → Served
@@ -81,8 +83,8 @@ pub record DataTouched : Type 0 where
 
 -- one line of data more
 abbrev pub touched_next : Costs → Core → Bool → DataTouched → ℕ → DataTouched
-touched_next costs core load d datum = let t = touched costs core load d.ends (line_at d.lines (66 + datum)) in record {
-  lines = slice_set d.lines (66 + datum) t.line;
+touched_next costs core load d datum = let t = touched costs core load d.ends (line_at d.lines (1026 + datum)) in record {
+  lines = slice_set d.lines (1026 + datum) t.line;
   reaches = reached d.reaches t.reach;
   ends = t.ends;
 }

@@ -41,10 +41,10 @@ abbrev pub IsEachAdmitted : Rules → World → List Move → Type 0
 IsEachAdmitted t w [] = Unit {0}
 IsEachAdmitted t w (m ∷ rest) = (admitted w m ≡ true) × IsEachAdmitted t (after_move t w m) rest
 
--- a run of passes with these attributes: 1 to 64, and the end in 64 bits
+-- a run of passes with these attributes: 1 to 1,024, and the end in 64 bits
 pub record IsSetUp (s : Setup) (attrs : List Attr) : Type 0 where
   pub passes : length attrs ≡ s.passes
-  pub few : s.passes ≤ 64
+  pub few : s.passes ≤ 1024
   pub until : s.until ≤ 18446744073709551615
 
 -- of a run from the opening on, each move is admitted

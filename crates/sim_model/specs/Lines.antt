@@ -1,5 +1,5 @@
 -- Cache lines: from how far one comes, and what an access to it costs.
-use Rattle.std.specs.Prelude.{ℕ, ◌==◌, ◌&&◌, ◌||◌, not, Bool, true, false, cond, bit_and, bit_or}
+use Rattle.std.specs.Prelude.{ℕ, ◌&&◌, ◌||◌, Bool, true, false, cond}
 use Rattle.sim_model.specs.declared.setup.Core.{Core}
 use Rattle.sim_model.specs.declared.setup.Costs.{Costs}
 use Rattle.sim_model.specs.declared.lines.Line.{Line}
@@ -7,19 +7,16 @@ use Rattle.sim_model.specs.declared.lines.Reach.{Reach}
 use Rattle.sim_model.specs.declared.lines.Reach.TheVariants.{Hit, Near, Far}
 use Rattle.sim_model.specs.declared.lines.Touched.{Touched}
 use Rattle.sim_model.specs.Clock.{plus, later}
+use Rattle.sim_model.specs.Sets.{meets, is_within, joined}
 
--- two sets of cores have one in common
-abbrev pub meets : ℕ → ℕ → Bool
-meets a b = not (bit_and a b == 0)
-
--- the core needn't ask for the line: it has it alone, or has it and only reads
+-- the core needn't ask for the line: nobody else has it, or the core has it and only reads
 abbrev pub is_hit : Core → Line → Bool → Bool
-is_hit core line load = (line.has == core.own) || (load && meets line.has core.own)
+is_hit core line load = is_within line.has core.own || (load && meets line.has core.own)
 
 -- the line comes from the core's own socket: to be read, from a core of it; to be changed, from cores of it alone
 abbrev pub is_near : Core → Line → Bool → Bool
-is_near core line true = meets line.has core.peers
-is_near core line false = bit_and line.has core.strangers == 0
+is_near core line true = meets line.has core.mates
+is_near core line false = is_within line.has core.mates
 
 abbrev pub reach_of : Core → Line → Bool → Reach
 reach_of core line load = cond (is_hit core line load) Hit (cond (is_near core line load) Near Far)
@@ -34,7 +31,7 @@ cost_of costs reach load = plus (way_of costs reach) (cond load 0 costs.atomic)
 
 -- a line that was lent at a time: to be read beside others, or to be changed, by this core alone
 abbrev pub lent : Costs → Core → Bool → ℕ → ℕ → Line → Line
-lent costs core true begins ends line = record { has = bit_or line.has core.own; free = plus begins costs.port }
+lent costs core true begins ends line = record { has = joined line.has core.own; free = plus begins costs.port }
 lent costs core false begins ends line = record { has = core.own; free = ends }
 
 -- an access that begins at a time: a line that the core has is there at once, another once it is free

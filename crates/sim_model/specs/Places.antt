@@ -9,6 +9,7 @@ use Rattle.sim_model.specs.declared.setup.Layout.{Layout}
 use Rattle.sim_model.specs.declared.setup.Layout.TheVariants.{Padded, Joined, Packed}
 use Rattle.sim_model.specs.declared.setup.Core.{Core}
 use Rattle.sim_model.specs.declared.lines.Line.{Line}
+use Rattle.sim_model.specs.Sets.{no_cores}
 
 -- the place of a word where they stand close: lock and tail, and then four for each pass
 abbrev pub close_place : Word → ℕ
@@ -48,7 +49,7 @@ rung (Store w v) = rung_word w
 rung _ = None
 
 abbrev pub line_at : List Line → ℕ → Line
-line_at lines at = slice_index_or lines at (record { has = 0; free = 0 })
+line_at lines at = slice_index_or lines at (record { has = no_cores; free = 0 })
 
 abbrev pub core_at : List Core → ℕ → Core
-core_at cores p = slice_index_or cores p (record { attr = record { socket = 0; prio = 0; class = 0; kind = 0 }; own = 0; peers = 0; strangers = 0 })
+core_at cores p = slice_index_or cores p (record { attr = record { socket = 0; prio = 0; class = 0; kind = 0 }; own = no_cores; mates = no_cores })

@@ -46,7 +46,7 @@ data_of s b p m at = data_touched s.costs (core_at s.cores p) (is_read m) at b.l
 -- the pass gains, at a time: it gives the lock back after its work
 unfoldable pub with_gain : Setup → Bench → ℕ → Mode → Bool → ℕ → Bench
 with_gain s b p m stolen at = let d = data_of s b p m at in record b {
-  served = slice_set (all_overtaken (served_at b.served p).called b.served) p (gained (served_at b.served p) (wait_of b p at) (is_read m) stolen);
+  served = slice_set (all_overtaken s.passes (served_at b.served p).called b.served) p (gained (served_at b.served p) (wait_of b p at) (is_read m) stolen);
   order = in_order b.order p (core_at s.cores p).attr.socket;
   lines = d.lines;
   counts = record b.counts { «data» = d.reaches };

@@ -99,7 +99,7 @@ unfoldable pub with_touch : Setup → Bench → ℕ → Made → ℕ → Bench
 with_touch s b p m at = let t = touched_by s b p m at in record b {
   lines = slice_set b.lines (line_of s.layout (site m.access)) t.line;
   counts = with_step (with_access b.counts (site m.access) t.reach) m;
-  stands = cond (is_load m.access) b.stands (all_woken (line_of s.layout (site m.access)) t.ends b.stands);
+  stands = cond (is_load m.access) b.stands (all_woken s.passes (line_of s.layout (site m.access)) t.ends b.stands);
 }
 
 -- a pass that sleeps is woken: when the step has ended that does it

@@ -1,10 +1,11 @@
 -- When each pass has its next turn, and whose turn it is.
-use Rattle.std.specs.Prelude.{ℕ, zero, suc, ◌==◌, List, map, cond, nat_le, Option, Some, None, slice_index_or}
+use Rattle.std.specs.Prelude.{ℕ, zero, suc, ◌==◌, List, cond, nat_le, Option, Some, None, slice_index_or}
 use Rattle.sim_model.specs.declared.turns.Turn.TheVariants.{Step}
 use Rattle.sim_model.specs.declared.turns.Stand.{Stand}
 use Rattle.sim_model.specs.declared.turns.Stand.TheVariants.{Due, Spins, Sleeps}
 use Rattle.sim_model.specs.declared.turns.Entry.{Entry}
 use Rattle.sim_model.specs.Clock.{later}
+use Rattle.sim_model.specs.Firsts.{mapped}
 
 abbrev pub stand_at : List Stand → ℕ → Stand
 stand_at stands p = slice_index_or stands p (Sleeps 0)
@@ -28,5 +29,6 @@ abbrev pub woken : ℕ → ℕ → Stand → Stand
 woken line ends (Spins own since) = cond (own == line) (Due (later ends since) Step) (Spins own since)
 woken line ends stand = stand
 
-abbrev pub all_woken : ℕ → ℕ → List Stand → List Stand
-all_woken line ends stands = map (woken line ends) stands
+-- so do those of the first n passes that spin on it
+abbrev pub all_woken : ℕ → ℕ → ℕ → List Stand → List Stand
+all_woken n line ends stands = mapped (woken line ends) n stands

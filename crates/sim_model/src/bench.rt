@@ -2,11 +2,12 @@
 ghost use Rattle.std.specs.Prelude.{◌≡◌, ◌≤◌};
 ghost use Rattle.sim_model.specs.Openings as openings;
 
-use crate::counts::{Counts, Order, Reaches, Served};
+use crate::counts::{Counts, Order, Reaches, Served, UNSERVED};
 use crate::draws::{seeded, think};
 use crate::lines::Line;
 use crate::places::LINES;
-use crate::setup::{Layout, PASSES, Setup, core_bit};
+use crate::sets::core_set;
+use crate::setup::{Layout, PASSES, Setup};
 use crate::turns::{Stand, Turn};
 
 /// What a run has besides the lock.
@@ -42,18 +43,6 @@ const NOTHING: Counts = Counts {
     data: NONE,
 };
 
-const UNSERVED: Served = Served {
-    gained: 0,
-    reads: 0,
-    stolen: 0,
-    waited: 0,
-    longest: 0,
-    overtaken: 0,
-    waits: false,
-    called: 0,
-    passed: 0,
-};
-
 const NO_ORDER: Order = Order {
     gained: 0,
     same: 0,
@@ -64,16 +53,21 @@ const NO_ORDER: Order = Order {
 
 // The first core has every line; then each has those of its own words, unless several share a line.
 #[tactic(auto, unfolding(crate::specs::Openings::opening_lines))]
-fn opening_lines(layout: Layout) -> [Line; LINES]
-    ensures { result ≡ openings.opening_lines layout }
+fn opening_lines(layout: Layout, passes: u32) -> [Line; LINES]
+    requires { passes ≤ 1024 }
+    ensures { result ≡ openings.opening_lines layout passes }
 {
-    let mut lines = [Line { has: 1, free: 0 }; LINES];
+    let first = Line {
+        has: core_set(0),
+        free: 0,
+    };
+    let mut lines = [first; LINES];
     if matches!(layout, Layout::Packed) {
         return lines;
     }
-    for pass in 0..PASSES {
-        lines[pass + 2] = Line {
-            has: core_bit(pass),
+    for pass in 0..passes {
+        lines[pass as usize + 2] = Line {
+            has: core_set(pass as usize),
             free: 0,
         };
     }
@@ -82,7 +76,7 @@ fn opening_lines(layout: Layout) -> [Line; LINES]
 
 // Each pass thinks before its first call.
 fn opening_stands(setup: &Setup) -> [Stand; PASSES]
-    requires { setup.now.passes ≤ 64 }
+    requires { setup.now.passes ≤ 1024 }
     ensures { result ≡ openings.stands_below setup.now setup.now.passes }
 {
     let mut stands = [Stand::Sleeps { from: 0 }; PASSES];
@@ -97,7 +91,7 @@ fn opening_stands(setup: &Setup) -> [Stand; PASSES]
 }
 
 fn opening_draws(setup: &Setup) -> [u64; PASSES]
-    requires { setup.now.passes ≤ 64 }
+    requires { setup.now.passes ≤ 1024 }
     ensures { result ≡ openings.draws_below setup.now setup.now.passes }
 {
     let mut draws = [0; PASSES];
@@ -109,17 +103,24 @@ fn opening_draws(setup: &Setup) -> [u64; PASSES]
     draws
 }
 
+#[tactic(auto, unfolding(crate::specs::Openings::opening_served))]
+fn opening_served() -> [Served; PASSES]
+    ensures { result ≡ openings.opening_served }
+{
+    [UNSERVED; PASSES]
+}
+
 /// The opening of a run.
 pub fn opening(setup: &Setup) -> Bench
-    requires { setup.now.passes ≤ 64 }
+    requires { setup.now.passes ≤ 1024 }
     ensures { result ≡ openings.opening_bench setup.now }
 {
     Bench {
         stands: opening_stands(setup),
-        lines: opening_lines(setup.layout),
+        lines: opening_lines(setup.layout, setup.passes),
         draws: opening_draws(setup),
         counts: NOTHING,
-        served: [UNSERVED; PASSES],
+        served: opening_served(),
         order: NO_ORDER,
     }
 }

@@ -1,22 +1,35 @@
 //! A call of a pass: when it begins, and when it gains the lock.
-ghost use Rattle.std.specs.Prelude.{◌≡◌, ◌<◌, ◌≤◌, List};
+ghost use Rattle.std.specs.Prelude.{◌≡◌, ◌<◌, ◌≤◌, List, slice_set};
 ghost use Rattle.sim_model.specs.Calls as calls;
 
 use crate::clock::{later, plus};
-use crate::counts::{Order, Reaches, Served, reached};
+use crate::counts::{Order, Reaches, Served, UNSERVED, reached};
 use crate::draws::reads;
 use crate::lines::{Line, touch};
 use crate::places::{LINES, WORD_LINES, line_at};
 use crate::setup::{Core, Costs, PASSES, Setup};
 use shfl_line::{Form, Mode};
 
-/// What is counted of the pass.
+/// What is counted of the pass; of one that isn't there nothing.
 #[inline(always)]
 pub fn served_at(served: &[Served; PASSES], pass: u32) -> Served
-    requires { pass < 64 }
     ensures { result ≡ calls.served_at served.now pass }
 {
-    served[pass as usize]
+    if pass < 1024 {
+        served[pass as usize]
+    } else {
+        UNSERVED
+    }
+}
+
+/// Puts that down for the pass, where it is there.
+#[inline(always)]
+pub fn put_served(served: &mut [Served; PASSES], pass: u32, one: Served)
+    ensures { served.new ≡ slice_set served.old pass one }
+{
+    if pass < 1024 {
+        served[pass as usize] = one;
+    }
 }
 
 fn shares(form: Form) -> bool
@@ -64,12 +77,13 @@ fn overtaken(served: Served, call: u64) -> Served
     next
 }
 
-/// Each that waits for longer than a call that began then sees it gain.
-pub fn overtake(served: &mut [Served; PASSES], call: u64)
-    ensures { served.new ≡ calls.all_overtaken call served.old }
+/// Each of the first so many passes that waits for longer than a call that began then sees it gain.
+pub fn overtake(served: &mut [Served; PASSES], passes: u32, call: u64)
+    ensures { served.new ≡ calls.all_overtaken passes call served.old }
 {
-    for one in served.iter_mut() {
-        *one = overtaken(*one, call);
+    for pass in 0..passes {
+        let one = overtaken(served_at(served, pass), call);
+        put_served(served, pass, one);
     }
 }
 

@@ -55,6 +55,19 @@ pub struct Served {
     pub passed: u64,
 }
 
+/// Nothing is counted yet.
+pub const UNSERVED: Served = Served {
+    gained: 0,
+    reads: 0,
+    stolen: 0,
+    waited: 0,
+    longest: 0,
+    overtaken: 0,
+    waits: false,
+    called: 0,
+    passed: 0,
+};
+
 /// The order in which passes gained.
 #[derive(Clone, Copy, Drop)]
 pub struct Order {

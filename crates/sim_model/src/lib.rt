@@ -13,6 +13,7 @@ mod lines;
 mod locks;
 mod places;
 mod run;
+mod sets;
 mod setup;
 mod steps;
 mod turns;
@@ -27,6 +28,6 @@ pub use laws::{polls_change_nothing, runs_are_schedules, sums_agree, times_never
 pub use lines::{Line, Reach};
 pub use locks::open_lock;
 pub use run::{Run, is_cut, next_entry, simulate, take_turn, time_reached};
-pub use setup::{Core, Costs, Layout, Setup, Work, cores_of};
+pub use setup::{Core, Costs, Layout, PASSES, Setup, Work, cores_of};
 pub use turns::{Entry, Stand, Turn};
 pub use waiter::AnyWaiter;

@@ -3,13 +3,14 @@ ghost use Rattle.std.specs.Prelude.{◌≡◌};
 ghost use Rattle.sim_model.specs.Lines as lines;
 
 use crate::clock::{later, plus};
+use crate::sets::{SET_WORDS, is_within, joined, meets};
 use crate::setup::{Core, Costs};
 
 /// A cache line.
 #[derive(Clone, Copy, Drop)]
 pub struct Line {
     /// The set of the cores that have it.
-    pub has: u64,
+    pub has: [u64; SET_WORDS],
     /// From when on it can be lent.
     pub free: u64,
 }
@@ -35,19 +36,19 @@ pub struct Touched {
 pub fn reach_of(core: &Core, line: Line, load: bool) -> Reach
     ensures { result ≡ lines.reach_of core.now line load }
 {
-    if line.has == core.own {
+    if is_within(&line.has, &core.own) {
         return Reach::Hit;
     }
     if load {
-        if line.has & core.own != 0 {
+        if meets(&line.has, &core.own) {
             return Reach::Hit;
         }
-        if line.has & core.peers != 0 {
+        if meets(&line.has, &core.mates) {
             return Reach::Near;
         }
         return Reach::Far;
     }
-    if line.has & core.strangers == 0 {
+    if is_within(&line.has, &core.mates) {
         Reach::Near
     } else {
         Reach::Far
@@ -86,7 +87,7 @@ pub fn touch(costs: &Costs, core: &Core, load: bool, at: u64, line: Line) -> Tou
     let ends = plus(begins, cost);
     let line = if load {
         Line {
-            has: line.has | core.own,
+            has: joined(&line.has, &core.own),
             free: plus(begins, u64::from(costs.port)),
         }
     } else {

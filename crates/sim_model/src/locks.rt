@@ -10,7 +10,7 @@ use std::alloc::Global;
 
 fn open_spin(alloc: Global, attrs: &[Attr], limit: u16) -> Result<PlainWorld<AnyWaiter>, NoMemory>
     requires some { 0 < length attrs.now }
-    requires few { length attrs.now ≤ 64 }
+    requires few { length attrs.now ≤ 1024 }
     ensures { IfOk result
         (λ lock. lock ≡ runner.opened (record { limit = limit; form = Spin }) attrs.now) }
 {
@@ -19,7 +19,7 @@ fn open_spin(alloc: Global, attrs: &[Attr], limit: u16) -> Result<PlainWorld<Any
 
 fn open_rw(alloc: Global, attrs: &[Attr], limit: u16) -> Result<PlainWorld<AnyWaiter>, NoMemory>
     requires some { 0 < length attrs.now }
-    requires few { length attrs.now ≤ 64 }
+    requires few { length attrs.now ≤ 1024 }
     ensures { IfOk result
         (λ lock. lock ≡ runner.opened (record { limit = limit; form = Rw }) attrs.now) }
 {
@@ -28,7 +28,7 @@ fn open_rw(alloc: Global, attrs: &[Attr], limit: u16) -> Result<PlainWorld<AnyWa
 
 fn open_park(alloc: Global, attrs: &[Attr], limit: u16) -> Result<PlainWorld<AnyWaiter>, NoMemory>
     requires some { 0 < length attrs.now }
-    requires few { length attrs.now ≤ 64 }
+    requires few { length attrs.now ≤ 1024 }
     ensures { IfOk result
         (λ lock. lock ≡ runner.opened (record { limit = limit; form = Park }) attrs.now) }
 {
@@ -41,7 +41,7 @@ fn open_rw_park(
     limit: u16,
 ) -> Result<PlainWorld<AnyWaiter>, NoMemory>
     requires some { 0 < length attrs.now }
-    requires few { length attrs.now ≤ 64 }
+    requires few { length attrs.now ≤ 1024 }
     ensures { IfOk result
         (λ lock. lock ≡ runner.opened (record { limit = limit; form = RwPark }) attrs.now) }
 {
@@ -55,7 +55,7 @@ pub fn open_lock(
     rules: Rules,
 ) -> Result<PlainWorld<AnyWaiter>, NoMemory>
     requires some { 0 < length attrs.now }
-    requires few { length attrs.now ≤ 64 }
+    requires few { length attrs.now ≤ 1024 }
     ensures { IfOk result (λ lock. lock ≡ runner.opened rules attrs.now) }
 {
     match rules.form {

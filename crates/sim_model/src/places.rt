@@ -4,12 +4,13 @@ ghost use Rattle.shfl_core.specs.Words as words;
 ghost use Rattle.sim_model.specs.Places as places;
 
 use crate::lines::Line;
+use crate::sets::NO_CORES;
 use crate::setup::{Core, Layout, PASSES};
 use shfl_core::words::{LINE_WORDS, index};
 use shfl_core::{Access, Word};
 
-/// The lines before the data: of the lock word, of the tail word, and of the words of 64 passes.
-pub const WORD_LINES: usize = 66;
+/// The lines before the data: of the lock word, of the tail word, and of the words of 1,024 passes.
+pub const WORD_LINES: usize = 1026;
 
 /// The most lines of data.
 pub const DATA_LINES: usize = 64;
@@ -76,7 +77,10 @@ pub fn line_at(lines: &[Line; LINES], at: usize) -> Line
     if at < LINES {
         lines[at]
     } else {
-        Line { has: 0, free: 0 }
+        Line {
+            has: NO_CORES,
+            free: 0,
+        }
     }
 }
 
@@ -93,7 +97,7 @@ pub fn put_line(lines: &mut [Line; LINES], at: usize, line: Line)
 /// The core of a pass.
 #[inline(always)]
 pub fn core_at(cores: &[Core; PASSES], pass: u32) -> &Core
-    requires { pass < 64 }
+    requires { pass < 1024 }
     ensures { result.now ≡ places.core_at cores.now pass }
 {
     &cores[pass as usize]

@@ -35,7 +35,7 @@ fn step<A: Adviser>(
     at: u64,
 )
     requires declared { pass < length lock.old.world.passes }
-    requires few { length lock.old.world.passes ≤ 64 }
+    requires few { length lock.old.world.passes ≤ 1024 }
     requires rules { lock.old.rules ≡ setup.now.rules }
     ensures lock { lock.new ≡ runner.moved lock.old
         (runs.step_move setup.now (A.answers adviser.now) lock.old.world pass) }
@@ -49,7 +49,7 @@ fn step<A: Adviser>(
 // The pass asks for the lock.
 fn call(setup: &Setup, lock: &mut PlainWorld<AnyWaiter>, bench: &mut Bench, pass: u32, at: u64)
     requires declared { pass < length lock.old.world.passes }
-    requires few { length lock.old.world.passes ≤ 64 }
+    requires few { length lock.old.world.passes ≤ 1024 }
     requires rules { lock.old.rules ≡ setup.now.rules }
     ensures lock { lock.new ≡ runner.moved lock.old (runs.call_move setup.now bench.old pass) }
     ensures bench { bench.new ≡ runs.with_call setup.now bench.old pass at }
@@ -64,7 +64,7 @@ fn call(setup: &Setup, lock: &mut PlainWorld<AnyWaiter>, bench: &mut Bench, pass
 // The pass has the lock, in this mode: how long it has waited.
 #[tactic(auto, unfolding(crate::specs::Runs::with_gain))]
 fn gain(setup: &Setup, bench: &mut Bench, pass: u32, mode: Mode, stolen: bool, at: u64) -> u64
-    requires declared { pass < 64 }
+    requires declared { pass < 1024 }
     requires few { setup.now.work.lines ≤ 64 }
     ensures wait { result ≡ runs.wait_of bench.old pass at }
     ensures bench { bench.new ≡ runs.with_gain setup.now bench.old pass mode stolen at }
@@ -73,7 +73,7 @@ fn gain(setup: &Setup, bench: &mut Bench, pass: u32, mode: Mode, stolen: bool, a
     let own = served_at(&bench.served, pass);
     let wait = at.saturating_sub(own.called);
     let read = matches!(mode, Mode::Read);
-    overtake(&mut bench.served, own.called);
+    overtake(&mut bench.served, setup.passes, own.called);
     bench.served[pass as usize] = gained(own, wait, read, stolen);
     in_order(&mut bench.order, pass, core.attr.socket);
     let ends = touch_data(
@@ -101,7 +101,7 @@ pub fn take_turn<A: Adviser>(
     entry: Entry,
 ) -> Option<u64>
     requires declared { entry.pass < length lock.old.world.passes }
-    requires few { length lock.old.world.passes ≤ 64 }
+    requires few { length lock.old.world.passes ≤ 1024 }
     requires rules { lock.old.rules ≡ setup.now.rules }
     requires lines { setup.now.work.lines ≤ 64 }
     ensures lock { lock.new ≡ runs.after_moves lock.old (runs.turn_moves setup.now
@@ -128,7 +128,7 @@ pub fn take_turn<A: Adviser>(
 
 /// The turn that comes next, unless it comes after the end.
 pub fn next_entry(setup: &Setup, bench: &Bench) -> Option<Entry>
-    requires { setup.now.passes ≤ 64 }
+    requires { setup.now.passes ≤ 1024 }
     ensures next { result ≡ runs.next_turn setup.now bench.now }
     ensures declared { IfSome result (λ e. e.pass < setup.now.passes) }
 {
@@ -140,7 +140,7 @@ pub fn next_entry(setup: &Setup, bench: &Bench) -> Option<Entry>
 
 /// Whether a run that stands so has turns left before its end.
 pub fn is_cut(setup: &Setup, bench: &Bench) -> bool
-    requires { setup.now.passes ≤ 64 }
+    requires { setup.now.passes ≤ 1024 }
     ensures { result ≡ runs.is_cut setup.now bench.now }
 {
     next_entry(setup, bench).is_some()
@@ -148,7 +148,7 @@ pub fn is_cut(setup: &Setup, bench: &Bench) -> bool
 
 /// Up to when a run that stands so has come: its end, or where it is cut the time of the turn that would come next.
 pub fn time_reached(setup: &Setup, bench: &Bench) -> u64
-    requires { setup.now.passes ≤ 64 }
+    requires { setup.now.passes ≤ 1024 }
     ensures { result ≡ runs.time_reached setup.now bench.now }
 {
     match next_entry(setup, bench) {
@@ -180,7 +180,7 @@ fn run_turns<A: Adviser>(
     most: u32,
 ) -> Result<(), NoMemory>
     requires passes { length lock.old.world.passes ≡ setup.now.passes }
-    requires few { setup.now.passes ≤ 64 }
+    requires few { setup.now.passes ≤ 1024 }
     requires rules { lock.old.rules ≡ setup.now.rules }
     requires lines { setup.now.work.lines ≤ 64 }
     ensures run { IsOk result → runs.state_of lock.new bench.new waits.new.items
@@ -205,7 +205,7 @@ pub fn simulate<A: Adviser>(
     adviser: &A,
     most: u32,
 ) -> Result<Run, NoMemory>
-    requires passes { (0 < length attrs.now) × (length attrs.now ≤ 64) }
+    requires passes { (0 < length attrs.now) × (length attrs.now ≤ 1024) }
     requires limited { (0 < setup.now.rules.limit) × (setup.now.rules.limit ≤ 1024) }
     requires lines { setup.now.work.lines ≤ 64 }
     requires cores { setup.now.passes ≡ length attrs.now }

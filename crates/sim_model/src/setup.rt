@@ -1,12 +1,13 @@
 //! What a run is set up with: what an access costs, what the passes do, and on which cores they run.
-ghost use Rattle.std.specs.Prelude.{◌≡◌, ◌<◌, ◌≤◌, ◌^◌, length};
+ghost use Rattle.std.specs.Prelude.{◌≡◌, ◌<◌, ◌≤◌, length};
 ghost use Rattle.sim_model.specs.Openings as openings;
 
+use crate::sets::{NO_CORES, SET_WORDS, add_core, core_set};
 use shfl_core::Rules;
 use shfl_line::Attr;
 
 /// The most passes that a lock has.
-pub const PASSES: usize = 64;
+pub const PASSES: usize = 1024;
 
 /// What each part of a step costs, in ticks; by convention a tick is a nanosecond.
 #[derive(Clone, Copy, Drop)]
@@ -59,17 +60,15 @@ pub enum Layout {
     Packed,
 }
 
-/// The core on which a pass runs. A set of cores is a number with a bit for each.
+/// The core on which a pass runs.
 #[derive(Clone, Copy, Drop)]
 pub struct Core {
     /// The attributes of its pass; the socket is one of them.
     pub attr: Attr,
     /// The set of this core.
-    pub own: u64,
-    /// The other cores of its socket.
-    pub peers: u64,
-    /// The cores of other sockets.
-    pub strangers: u64,
+    pub own: [u64; SET_WORDS],
+    /// The cores of its socket, this one among them.
+    pub mates: [u64; SET_WORDS],
 }
 
 /// What a run is set up with.
@@ -82,7 +81,7 @@ pub struct Setup {
     /// The last tick of the run.
     pub until: u64,
     pub seed: u64,
-    /// How many passes there are, 1 to 64.
+    /// How many passes there are, 1 to 1,024.
     pub passes: u32,
     pub cores: [Core; PASSES],
 }
@@ -94,18 +93,9 @@ const NO_CORE: Core = Core {
         class: 0,
         kind: 0,
     },
-    own: 0,
-    peers: 0,
-    strangers: 0,
+    own: NO_CORES,
+    mates: NO_CORES,
 };
-
-/// The set of one core.
-pub fn core_bit(core: usize) -> u64
-    requires { core < 64 }
-    ensures { result ≡ 2 ^ core }
-{
-    1 << core
-}
 
 fn attr_at(attrs: &[Attr], pass: usize) -> Attr
     requires { pass < length attrs.now }
@@ -114,32 +104,25 @@ fn attr_at(attrs: &[Attr], pass: usize) -> Attr
     attrs[pass]
 }
 
-fn is_wanted(same: bool, alike: bool) -> bool
-    ensures { result ≡ openings.is_wanted same alike }
-{
-    if same { alike } else { !alike }
-}
-
-// Whether it is another core, and its socket the pass's or isn't.
-fn is_beside(attrs: &[Attr], pass: usize, same: bool, other: usize) -> bool
+// Whether two passes run on one socket.
+fn is_mate(attrs: &[Attr], pass: usize, other: usize) -> bool
     requires pass { pass < length attrs.now }
     requires other { other < length attrs.now }
-    ensures { result ≡ openings.is_beside attrs.now pass same other }
+    ensures { result ≡ openings.is_mate attrs.now pass other }
 {
-    let alike = attr_at(attrs, other).socket == attr_at(attrs, pass).socket;
-    other != pass && is_wanted(same, alike)
+    attr_at(attrs, other).socket == attr_at(attrs, pass).socket
 }
 
-// The set of the other cores whose socket is that of the pass, or isn't.
-fn others(attrs: &[Attr], pass: usize, same: bool) -> u64
+// The set of the cores on the socket of the pass.
+fn mates(attrs: &[Attr], pass: usize) -> [u64; SET_WORDS]
     requires pass { pass < length attrs.now }
-    requires few { length attrs.now ≤ 64 }
-    ensures { result ≡ openings.others attrs.now pass same (length attrs.now) }
+    requires few { length attrs.now ≤ 1024 }
+    ensures { result ≡ openings.mates attrs.now pass (length attrs.now) }
 {
-    let mut set = 0u64;
+    let mut set = NO_CORES;
     for other in 0..attrs.len() {
-        if is_beside(attrs, pass, same, other) {
-            set |= core_bit(other);
+        if is_mate(attrs, pass, other) {
+            add_core(&mut set, other);
         }
     }
     set
@@ -147,20 +130,19 @@ fn others(attrs: &[Attr], pass: usize, same: bool) -> u64
 
 fn core_of(attrs: &[Attr], pass: usize) -> Core
     requires pass { pass < length attrs.now }
-    requires few { length attrs.now ≤ 64 }
+    requires few { length attrs.now ≤ 1024 }
     ensures { result ≡ openings.core_of attrs.now pass }
 {
     Core {
         attr: attr_at(attrs, pass),
-        own: core_bit(pass),
-        peers: others(attrs, pass, true),
-        strangers: others(attrs, pass, false),
+        own: core_set(pass),
+        mates: mates(attrs, pass),
     }
 }
 
 /// The cores of passes with these attributes.
 pub fn cores_of(attrs: &[Attr]) -> [Core; PASSES]
-    requires few { length attrs.now ≤ 64 }
+    requires few { length attrs.now ≤ 1024 }
     ensures { result ≡ openings.cores_below attrs.now (length attrs.now) }
 {
     let mut cores = [NO_CORE; PASSES];

@@ -53,7 +53,7 @@ pub fn step_lock<A: Adviser>(
     pass: u32,
 ) -> Made
     requires declared { pass < length lock.old.world.passes }
-    requires few { length lock.old.world.passes ≤ 64 }
+    requires few { length lock.old.world.passes ≤ 1024 }
     requires rules { lock.old.rules ≡ setup.now.rules }
     ensures made { result ≡ steps.made_by setup.now (A.answers adviser.now) lock.old.world pass }
     ensures lock { lock.new ≡ runner.moved lock.old (Advance pass result.advice.yes) }
@@ -153,7 +153,7 @@ fn ended(costs: &Costs, made: &Made, ends: u64) -> u64
 #[inline(always)]
 #[tactic(auto, unfolding(crate::specs::Steps::touched_by, crate::specs::Steps::with_touch))]
 fn touch_word(setup: &Setup, bench: &mut Bench, pass: u32, made: &Made, at: u64) -> u64
-    requires { pass < 64 }
+    requires { pass < 1024 }
     ensures ends { result ≡ (steps.touched_by setup.now bench.old pass made.now at).ends }
     ensures bench { bench.new ≡ steps.with_touch setup.now bench.old pass made.now at }
 {
@@ -166,7 +166,7 @@ fn touch_word(setup: &Setup, bench: &mut Bench, pass: u32, made: &Made, at: u64)
     count_access(&mut bench.counts, word, touched.reach);
     count_step(&mut bench.counts, made);
     if !load {
-        wake_line(&mut bench.stands, line, touched.ends);
+        wake_line(&mut bench.stands, setup.passes, line, touched.ends);
     }
     touched.ends
 }
@@ -223,7 +223,7 @@ fn stand_after(setup: &Setup, rest: Rest, line: usize, ends: u64, draw: &mut u64
 // The wakeup of a step that has ended then but for it, and how its pass stands after it.
 #[tactic(auto, unfolding(crate::specs::Steps::with_stand))]
 fn stand(setup: &Setup, bench: &mut Bench, pass: u32, made: &Made, ends: u64)
-    requires { pass < 64 }
+    requires { pass < 1024 }
     ensures { bench.new ≡ steps.with_stand setup.now bench.old pass made.now ends }
 {
     let ends = ring(&setup.costs, &mut bench.stands, made.access, ends);
@@ -237,7 +237,7 @@ fn stand(setup: &Setup, bench: &mut Bench, pass: u32, made: &Made, ends: u64)
 
 /// What a step that was made comes to, whose access begins at this time.
 pub fn settle(setup: &Setup, bench: &mut Bench, pass: u32, made: &Made, at: u64)
-    requires { pass < 64 }
+    requires { pass < 1024 }
     ensures { bench.new ≡ steps.settled setup.now bench.old pass made.now at }
 {
     let touched = touch_word(setup, bench, pass, made, at);

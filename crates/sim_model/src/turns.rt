@@ -42,7 +42,7 @@ pub struct Entry {
 pub fn stand_at(stands: &[Stand; PASSES], pass: u32) -> Stand
     ensures { result ≡ turns.stand_at stands.now pass }
 {
-    if pass < 64 {
+    if pass < 1024 {
         stands[pass as usize]
     } else {
         Stand::Sleeps { from: 0 }
@@ -54,7 +54,7 @@ pub fn stand_at(stands: &[Stand; PASSES], pass: u32) -> Stand
 pub fn put_stand(stands: &mut [Stand; PASSES], pass: u32, stand: Stand)
     ensures { stands.new ≡ slice_set stands.old pass stand }
 {
-    if pass < 64 {
+    if pass < 1024 {
         stands[pass as usize] = stand;
     }
 }
@@ -75,7 +75,7 @@ fn sooner(found: Option<Entry>, pass: u32, stand: Stand) -> Option<Entry>
 
 /// The soonest turn of the first so many passes; of two at one time that of the lower pass.
 pub fn soonest(stands: &[Stand; PASSES], passes: u32) -> Option<Entry>
-    requires { passes ≤ 64 }
+    requires { passes ≤ 1024 }
     ensures soonest { result ≡ turns.soonest stands.now passes }
     ensures declared { IfSome result (λ e. e.pass < passes) }
 {
@@ -100,11 +100,12 @@ fn woken(line: usize, ends: u64, stand: Stand) -> Stand
     }
 }
 
-/// Whoever spins on the line looks again, once the access and its own last look have ended.
-pub fn wake_line(stands: &mut [Stand; PASSES], line: usize, ends: u64)
-    ensures { stands.new ≡ turns.all_woken line ends stands.old }
+/// Whoever of the first so many passes spins on the line looks again, once the access and its own last look have ended.
+pub fn wake_line(stands: &mut [Stand; PASSES], passes: u32, line: usize, ends: u64)
+    ensures { stands.new ≡ turns.all_woken passes line ends stands.old }
 {
-    for stand in stands.iter_mut() {
-        *stand = woken(line, ends, *stand);
+    for pass in 0..passes {
+        let stand = woken(line, ends, stand_at(stands, pass));
+        put_stand(stands, pass, stand);
     }
 }

@@ -7,7 +7,7 @@ use crate::report::{Ended, run_of};
 use crate::report_parts::{half_of, most_of};
 use crate::tallies::{Key, Tally, tally_of, values_of};
 use shfl_line::{Attr, NoMemory};
-use sim_model::{Counts, Order, Reaches, Served};
+use sim_model::{Counts, Order, PASSES, Reaches, Served};
 use sim_text::{Rule, SimSetup};
 use std::alloc::{AllocError, Global};
 
@@ -81,9 +81,9 @@ fn push_values(
     key: Key,
     until: u64,
     attrs: &[Attr],
-    served: &[Served; 64],
+    served: &[Served; PASSES],
 ) -> Result<(), AllocError>
-    requires { length attrs.now ≤ 64 }
+    requires { length attrs.now ≤ 1024 }
     ensures { OnOk result (out.new.items
         ≡ out.old.items ++ figures.values_figures key until attrs.now served.now) }
 {
@@ -102,7 +102,7 @@ fn push_ended(
     attrs: &[Attr],
     ended: &Ended,
 ) -> Result<(), AllocError>
-    requires { length attrs.now ≤ 64 }
+    requires { length attrs.now ≤ 1024 }
     ensures { OnOk result (out.new.items ≡ out.old.items ++ figures.bench_figures ended.now.time
         attrs.now ended.now.bench ended.now.waits.items ended.now.cut) }
 {

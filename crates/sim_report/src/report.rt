@@ -12,13 +12,13 @@ use crate::tallies::{Key, tally_of, values_of};
 use lock_words::form_name;
 use shfl_core::Rules;
 use shfl_line::{Attr, Form, NoMemory};
-use sim_model::{Bench, Served, Setup, cores_of, is_cut, simulate, time_reached};
+use sim_model::{Bench, PASSES, Served, Setup, cores_of, is_cut, simulate, time_reached};
 use sim_text::{Candidate, Rule, SimSetup};
 use std::alloc::{AllocError, Global};
 
 /// What a run with this seed is set up with.
 pub fn run_setup(setup: &SimSetup, seed: u64) -> Setup
-    requires { length setup.now.passes ≤ 64 }
+    requires { length setup.now.passes ≤ 1024 }
     ensures { result ≡ run_setup setup.now seed }
 {
     Setup {
@@ -89,9 +89,9 @@ fn push_values(
     key: Key,
     until: u64,
     attrs: &[Attr],
-    served: &[Served; 64],
+    served: &[Served; PASSES],
 ) -> Result<(), AllocError>
-    requires { length attrs.now ≤ 64 }
+    requires { length attrs.now ≤ 1024 }
     ensures { OnOk result (out.new.items
         ≡ out.old.items ++ texts.values_text key until attrs.now served.now) }
 {
@@ -117,7 +117,7 @@ fn push_bench(
     bench: &Bench,
     waits: &[u64],
 ) -> Result<(), AllocError>
-    requires { length attrs.now ≤ 64 }
+    requires { length attrs.now ≤ 1024 }
     ensures { OnOk result (out.new.items
         ≡ out.old.items ++ texts.bench_text time attrs.now bench.now waits.now) }
 {
@@ -185,7 +185,7 @@ fn push_run(
     name: &[u8],
     ended: &Ended,
 ) -> Result<(), AllocError>
-    requires { length setup.now.passes ≤ 64 }
+    requires { length setup.now.passes ≤ 1024 }
     ensures { OnOk result (out.new.items ≡ out.old.items ++ texts.run_text setup.now name.now
         ended.now.cut ended.now.time ended.now.bench ended.now.waits.items) }
 {

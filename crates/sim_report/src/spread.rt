@@ -22,7 +22,7 @@ fn push_runs(
     attrs: &[Attr],
     runs: &[Vec<u64>],
 ) -> Result<(), NoMemory>
-    requires { length attrs.now ≤ 64 }
+    requires { length attrs.now ≤ 1024 }
     ensures { OnOk result (out.new.items ≡ out.old.items
         ++ spreads.runs_text name.now attrs.now (map (λ r. r.items) runs.now)) }
 {

@@ -105,7 +105,7 @@ fn push_reaches(
     runs: &[Vec<u64>],
     at: usize,
 ) -> Result<(), NoMemory>
-    requires { at ≤ 1000 }
+    requires { at ≤ 20000 }
     ensures { OnOk result (out.new.items
         ≡ out.old.items ++ spreads.reaches_spread label.now (map (λ r. r.items) runs.now) at) }
 {
@@ -149,7 +149,7 @@ fn push_tally(
     runs: &[Vec<u64>],
     at: usize,
 ) -> Result<(), NoMemory>
-    requires { at ≤ 1000 }
+    requires { at ≤ 20000 }
     ensures { OnOk result (out.new.items
         ≡ out.old.items ++ spreads.tally_spread key value (map (λ r. r.items) runs.now) at) }
 {
@@ -171,8 +171,8 @@ fn push_values(
     first: usize,
     values: &[u32],
 ) -> Result<(), NoMemory>
-    requires first { first ≤ 700 }
-    requires few { length values.now ≤ 64 }
+    requires first { first ≤ 10000 }
+    requires few { length values.now ≤ 1024 }
     ensures { OnOk result (out.new.items ≡ out.old.items
         ++ spreads.values_spread key (map (λ r. r.items) runs.now) first values.now) }
 {
@@ -192,7 +192,7 @@ pub fn push_keys(
     attrs: &[Attr],
     runs: &[Vec<u64>],
 ) -> Result<(), NoMemory>
-    requires { length attrs.now ≤ 64 }
+    requires { length attrs.now ≤ 1024 }
     ensures { OnOk result (out.new.items ≡ out.old.items
         ++ spreads.keys_spread attrs.now (map (λ r. r.items) runs.now)) }
 {

@@ -4,7 +4,7 @@ ghost use Rattle.sim_model.specs.Clock as clock;
 ghost use Rattle.sim_report.specs.Tallies as tallies;
 
 use shfl_line::Attr;
-use sim_model::Served;
+use sim_model::{PASSES, Served};
 use std::alloc::{AllocError, Global};
 
 /// By what passes are told together: all of them, or those of one socket, priority or class.
@@ -86,8 +86,14 @@ fn joined(until: u64, tally: Tally, served: &Served) -> Tally
 }
 
 /// What is counted of the passes that have this value, where a run ends then.
-pub fn tally_of(key: Key, value: u32, until: u64, attrs: &[Attr], served: &[Served; 64]) -> Tally
-    requires { length attrs.now ≤ 64 }
+pub fn tally_of(
+    key: Key,
+    value: u32,
+    until: u64,
+    attrs: &[Attr],
+    served: &[Served; PASSES],
+) -> Tally
+    requires { length attrs.now ≤ 1024 }
     ensures { result ≡ tallies.tally_in key value until attrs.now served.now }
 {
     let mut tally = NOBODY;

@@ -66,11 +66,11 @@ ReadsPolicies profile before line (p ∷ ps) read =
 
 -- ---- the passes
 
--- Each line up to `end` is a pass line, or bad by fault 14; so is `end` without a pass before it, and a 65th pass.
+-- Each line up to `end` is a pass line, or bad by fault 14; so is `end` without a pass before it, and a 1,025th pass.
 unfoldable pub pass_says : List Attr → ℕ → List ℕ → Result (Option Attr) Fault
 pass_says before line text =
     if same text (codes "end") then (if length before == 0 then fault line 14 else Ok None)
-    else or_fault line 14 (attr_in (codes "pass") (words text)) >>= λ attr. if nat_le 64 (length before) then fault line 14 else Ok (Some attr)
+    else or_fault line 14 (attr_in (codes "pass") (words text)) >>= λ attr. if nat_le 1024 (length before) then fault line 14 else Ok (Some attr)
 
 unfoldable pub passes_in : ℕ → List (List ℕ) → Result (List Attr × List (List ℕ)) Fault
 passes_in line ps = section_from pass_says (λ _. 14) [] line ps

@@ -23,4 +23,4 @@ pub record IsWithin (s : SetupModel) : Type 0 where
   pub lines : s.load.work.lines ≤ 64
   pub seeds : (0 < s.load.seeds.count) × (s.load.seeds.first + s.load.seeds.count ≤ 18446744073709551616)
   pub policies : (0 < length s.policies) × (length s.policies ≤ 16)
-  pub passes : (0 < length s.passes) × (length s.passes ≤ 64)
+  pub passes : (0 < length s.passes) × (length s.passes ≤ 1024)

@@ -14,7 +14,7 @@ use std::alloc::Global;
 #[tactic(auto, unfolding(crate::specs::Grammar::pass_says))]
 fn pass_says(before: &[Attr], line: u32, text: &[u8]) -> Result<Option<Attr>, Fault>
     ensures exact { result ≡ pass_says before.now line text.now }
-    ensures room { IfOk result (λ o. OnSome o (length before.now < 64)) }
+    ensures room { IfOk result (λ o. OnSome o (length before.now < 1024)) }
     ensures some { IfOk result (λ o. IfNone o (0 < length before.now)) }
 {
     if is_same(text, b"end") {
@@ -27,7 +27,7 @@ fn pass_says(before: &[Attr], line: u32, text: &[u8]) -> Result<Option<Attr>, Fa
     let Some(attr) = attr_of(b"pass", text) else {
         return Err(Fault { line, what: 14 });
     };
-    if before.len() >= 64 {
+    if before.len() >= 1024 {
         return Err(Fault { line, what: 14 });
     }
     Ok(Some(attr))
@@ -38,7 +38,7 @@ fn passes_of(alloc: Global, bytes: &[u8], first: u32) -> Result<(Vec<Attr>, &[u8
     requires { first < 100 }
     ensures exact { GivesOrWants fault_of (λ x. (x.0.items, pieces x.1.now)) result
         (passes_in first (pieces bytes.now)) }
-    ensures few { IfOk result (λ x. length x.0.items ≤ 64) }
+    ensures few { IfOk result (λ x. length x.0.items ≤ 1024) }
     ensures some { IfOk result (λ x. 0 < length x.0.items) }
 {
     let mut passes = Vec::new(alloc);
@@ -77,7 +77,7 @@ fn over_at(bytes: &[u8], line: u32) -> Result<(), Fault>
 pub fn body_of(alloc: Global, bytes: &[u8], first: u32) -> Result<Vec<Attr>, SetupError>
     requires { first < 100 }
     ensures exact { GivesOrWants fault_of (λ v. v.items) result (body_in first (pieces bytes.now)) }
-    ensures few { IfOk result (λ v. length v.items ≤ 64) }
+    ensures few { IfOk result (λ v. length v.items ≤ 1024) }
     ensures some { IfOk result (λ v. 0 < length v.items) }
 {
     let (passes, rest) = passes_of(alloc, bytes, first)?;

@@ -22,7 +22,7 @@ fn behind_front(
 ) -> Result<SimSetup, SetupError>
     ensures exact { Allows (λ s. s) result (ReadsBehind machine load (pieces bytes.now)) }
     ensures policies { IfOk result (λ s. (0 < length s.policies) × (length s.policies ≤ 16)) }
-    ensures passes { IfOk result (λ s. (0 < length s.passes) × (length s.passes ≤ 64)) }
+    ensures passes { IfOk result (λ s. (0 < length s.passes) × (length s.passes ≤ 1024)) }
     ensures front { IfOk result (λ s. (s.machine ≡ machine) × (s.load ≡ load)) }
 {
     let (policies, rest) = policies_of(alloc, machine.profile, bytes)?;

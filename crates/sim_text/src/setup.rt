@@ -58,7 +58,7 @@ impl Model for Candidate {
     ghost view = { λ c. record { name = c.name.items; rule = c.rule } };
 }
 
-/// A setup: 1 to 16 policies, and 1 to 64 passes with these attributes.
+/// A setup: 1 to 16 policies, and 1 to 1,024 passes with these attributes.
 #[derive(Drop)]
 pub struct SimSetup {
     pub machine: Machine,

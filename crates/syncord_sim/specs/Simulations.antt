@@ -1,5 +1,5 @@
 -- What the program says of bytes.
-use Rattle.std.specs.Prelude.{◌≡◌, ◌⊎◌, ℕ, ◌+◌, List, length, Some, None, Ok, Err}
+use Rattle.std.specs.Prelude.{◌≡◌, ◌<◌, ◌≤◌, ◌⊎◌, ℕ, ◌+◌, List, length, Some, None, Ok, Err}
 use Rattle.doc_text.specs.declared.fault.Fault.{Fault}
 use Rattle.sim_text.specs.Grammar.{ReadsSetup}
 use Rattle.sim_chart.specs.Pictures.{picture_text}
@@ -15,7 +15,7 @@ use Rattle.syncord_sim.specs.Commands.{Wanted, Report, Picture, Schedule}
 abbrev pub Tells : Wanted → SetupModel → List ℕ → Type 0
 Tells Report setup text = text ≡ report_text setup
 Tells Picture setup text = text ≡ picture_text setup
-Tells (Schedule name) setup text = (c : CandidateModel) × (named name setup.policies ≡ Some c) × (text ≡ schedule_text setup c)
+Tells (Schedule name) setup text = (c : CandidateModel) × (named name setup.policies ≡ Some c) × (length setup.passes ≤ 64) × (text ≡ schedule_text setup c)
 
 -- the bytes are a setup, and the text tells of it what is wanted
 pub record Writes (wanted : Wanted) (bytes text : List ℕ) : Type 0 where
@@ -37,7 +37,16 @@ pub record HasNoPolicy (name bytes : List ℕ) (refusal : Refusal) : Type 0 wher
   pub missing : named name setup.policies ≡ None
   pub told : refusal ≡ Line (10 + length setup.policies) 16
 
+-- the bytes are a setup that has one, and more passes than a schedule: fault 17 of the line of the 65th
+pub record HasTooManyPasses (name bytes : List ℕ) (refusal : Refusal) : Type 0 where
+  pub setup : SetupModel
+  pub read : ReadsSetup bytes (Ok setup)
+  pub policy : CandidateModel
+  pub found : named name setup.policies ≡ Some policy
+  pub many : 64 < length setup.passes
+  pub told : refusal ≡ Line (74 + length setup.policies) 17
+
 abbrev pub Refuses : Wanted → List ℕ → Refusal → Type 0
 Refuses Report bytes refusal = IsNoSetup bytes refusal
 Refuses Picture bytes refusal = IsNoSetup bytes refusal
-Refuses (Schedule name) bytes refusal = IsNoSetup bytes refusal ⊎ HasNoPolicy name bytes refusal
+Refuses (Schedule name) bytes refusal = IsNoSetup bytes refusal ⊎ (HasNoPolicy name bytes refusal ⊎ HasTooManyPasses name bytes refusal)

@@ -15,6 +15,9 @@ use sim_text::{SetupError, SimSetup, read_setup};
 use std::alloc::Global;
 use syncord_endings::Refusal;
 
+/// The most passes of a schedule.
+const MOST_PASSES: usize = 64;
+
 fn setup_of(alloc: Global, bytes: &[u8]) -> Result<SimSetup, Refusal>
     ensures read { IfOk result (λ s. ReadsSetup bytes.now (Ok s) × IsWithin s) }
     ensures refusal { IfErr result (Due (IsNoSetup bytes.now)) }
@@ -59,6 +62,17 @@ fn missing(setup: &SimSetup) -> Refusal
     }
 }
 
+// One with more passes than a schedule is refused at the line of the first too many.
+fn crowded(setup: &SimSetup) -> Refusal
+    requires { length setup.now.policies ≤ 16 }
+    ensures { result ≡ Line (74 + length setup.now.policies) 17 }
+{
+    Refusal::Line {
+        line: 74 + setup.policies.len() as u32,
+        what: 17,
+    }
+}
+
 fn scheduled(alloc: Global, name: &[u8], bytes: &[u8]) -> Result<Vec<u8>, Refusal>
     ensures text { IfOk result (λ text. Writes (Schedule name.now) bytes.now text.items) }
     ensures refusal { IfErr result (Due (Refuses (Schedule name.now) bytes.now)) }
@@ -67,6 +81,9 @@ fn scheduled(alloc: Global, name: &[u8], bytes: &[u8]) -> Result<Vec<u8>, Refusa
     let Some(candidate) = candidate_named(&setup, name) else {
         return Err(missing(&setup));
     };
+    if setup.passes.len() > MOST_PASSES {
+        return Err(crowded(&setup));
+    }
     match schedule_of(alloc, &setup, candidate) {
         Ok(text) => Ok(text),
         Err(_) => Err(Refusal::NoMemory),

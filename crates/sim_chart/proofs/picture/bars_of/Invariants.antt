@@ -8,5 +8,5 @@ invariant-loop-candidate l = record {
   gains : l.gains.items ++ map (gains_bar l.setup) (drop l.candidate-index l.setup.policies) ≡ map (gains_bar l.setup) l.setup.policies;
   waits : l.waits.items ++ flat_map (waits_bars l.setup) (drop l.candidate-index l.setup.policies) ≡ flat_map (waits_bars l.setup) l.setup.policies;
   few : vec_len l.gains ≡ l.candidate-index;
-  short : vec_len l.waits ≤ 64 * l.candidate-index;
+  short : vec_len l.waits ≤ 1024 * l.candidate-index;
 }

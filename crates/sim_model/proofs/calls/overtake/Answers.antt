@@ -1,11 +1,9 @@
-use Rattle.std.proofs.Common.{◌∙◌, arith}
-use Rattle.sim_model.specs.Calls.{overtaken}
-use Rattle.sim_model.proofs.Mapped.{mapped-next, mapped-all}
+use Rattle.std.proofs.Common.{ap, ◌∙◌}
+use Rattle.sim_model.specs.Calls.{nobody_served, overtaken}
+use Rattle.sim_model.proofs.Mapped.{mapped-next}
 use Rattle.sim_model.proofs.calls.overtake.Goals as goal
 
-pub loop-one-preserved : goal.loop-one-preserved
-loop-one-preserved c = let i = c.loop-one.one-index in let xs = c.args.served.now in
-    mapped-next (overtaken c.args.call) xs c.loop-one.served i _ c.overtaken.result (omega arith) c.loop-one.invariant c.overtaken.ensures
-
-pub returns : goal.returns
-returns c = c.loop-one.invariant ∙ mapped-all (overtaken c.args.call) c.args.served.now c.loop-one.one-index (omega arith)
+pub loop-pass-preserved : goal.loop-pass-preserved
+loop-pass-preserved c = let f = overtaken c.args.call in
+    c.put_served.ensures ∙ mapped-next f c.args.served.now c.loop-pass.served c.loop-pass.pass nobody_served c.overtaken-one.result c.loop-pass.invariant
+    (c.overtaken-one.ensures ∙ ap f c.served_at.ensures)

@@ -1,7 +1,8 @@
-use Rattle.std.proofs.Common.{◌≡◌, ◌++◌, map, take, drop}
+use Rattle.std.proofs.Common.{◌≡◌}
 use Rattle.sim_model.specs.Calls.{overtaken}
+use Rattle.sim_model.specs.Firsts.{mapped}
 use Rattle.sim_model.proofs.calls.overtake.Given as goal
 
--- those so far have seen the gain, and the others are as they were
-abbrev pub invariant-loop-one : goal.invariant-loop-one
-invariant-loop-one l = l.served ≡ map (overtaken l.call) (take l.one-index l.initial.served) ++ drop l.one-index l.initial.served
+-- those so far are passed, and the others are as they were
+abbrev pub invariant-loop-pass : goal.invariant-loop-pass
+invariant-loop-pass l = l.served ≡ mapped (overtaken l.call) l.pass l.initial.served

@@ -1,11 +1,10 @@
-use Rattle.std.proofs.Common.{◌∙◌, arith}
+use Rattle.std.proofs.Common.{ap, ◌∙◌}
+use Rattle.sim_model.specs.declared.turns.Stand.TheVariants.{Sleeps}
 use Rattle.sim_model.specs.Turns.{woken}
-use Rattle.sim_model.proofs.Mapped.{mapped-next, mapped-all}
+use Rattle.sim_model.proofs.Mapped.{mapped-next}
 use Rattle.sim_model.proofs.turns.wake_line.Goals as goal
 
-pub loop-stand-preserved : goal.loop-stand-preserved
-loop-stand-preserved c = let i = c.loop-stand.stand-index in let xs = c.args.stands.now in
-    mapped-next (woken c.args.line c.args.ends) xs c.loop-stand.stands i _ c.woken.result (omega arith) c.loop-stand.invariant c.woken.ensures
-
-pub returns : goal.returns
-returns c = c.loop-stand.invariant ∙ mapped-all (woken c.args.line c.args.ends) c.args.stands.now c.loop-stand.stand-index (omega arith)
+pub loop-pass-preserved : goal.loop-pass-preserved
+loop-pass-preserved c = let f = woken c.args.line c.args.ends in
+    c.put_stand.ensures ∙ mapped-next f c.args.stands.now c.loop-pass.stands c.loop-pass.pass (Sleeps 0) c.woken-stand.result c.loop-pass.invariant
+    (c.woken-stand.ensures ∙ ap f c.stand_at.ensures)

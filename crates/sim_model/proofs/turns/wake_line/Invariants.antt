@@ -1,7 +1,8 @@
-use Rattle.std.proofs.Common.{◌≡◌, ◌++◌, map, take, drop}
+use Rattle.std.proofs.Common.{◌≡◌}
 use Rattle.sim_model.specs.Turns.{woken}
+use Rattle.sim_model.specs.Firsts.{mapped}
 use Rattle.sim_model.proofs.turns.wake_line.Given as goal
 
 -- those so far are woken, and the others are as they were
-abbrev pub invariant-loop-stand : goal.invariant-loop-stand
-invariant-loop-stand l = l.stands ≡ map (woken l.line l.ends) (take l.stand-index l.initial.stands) ++ drop l.stand-index l.initial.stands
+abbrev pub invariant-loop-pass : goal.invariant-loop-pass
+invariant-loop-pass l = l.stands ≡ mapped (woken l.line l.ends) l.pass l.initial.stands

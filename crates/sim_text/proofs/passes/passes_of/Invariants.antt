@@ -8,7 +8,7 @@ abbrev pub invariant-loop-rest : goal.invariant-loop-rest
 invariant-loop-rest l = record {
   read : section_from pass_says (λ _. 14) l.passes.items l.line (pieces l.rest) ≡ section_from pass_says (λ _. 14) [] l.first (pieces l.bytes);
   line : l.line ≡ l.first + vec_len l.passes;
-  few : vec_len l.passes ≤ 64;
+  few : vec_len l.passes ≤ 1024;
 }
 
 abbrev pub decreases-loop-rest : goal.decreases-loop-rest
