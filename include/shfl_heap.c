@@ -17,19 +17,17 @@ static struct shfl_tried tried(void *at) {
     return told;
 }
 
-/* A block is followed by as many bytes as a line of the caches has, which nobody uses: what two threads have in their passes is in two
- * blocks, each written at each step. No bytes still have a place. */
-enum { LINE = 64 };
-
+/* Each block has lines of the caches to itself: what two threads have in their passes is in two blocks, written at each step. No bytes
+ * still have a place. */
 struct shfl_tried rattle_alloc(size_t size, size_t align) {
+    const size_t line = 64;
     (void)align;
-    return tried(malloc(size + LINE));
+    return tried(aligned_alloc(line, size ? (size + line - 1) / line * line : line));
 }
 
 struct shfl_tried rattle_realloc(void *at, size_t kept, size_t size, size_t align) {
     (void)kept;
-    (void)align;
-    return tried(realloc(at, size + LINE));
+    return tried(realloc(at, size ? size : align));
 }
 
 void rattle_dealloc(void *at) { free(at); }
