@@ -4,8 +4,8 @@
  *
  * It is fair by two bounds. After SHFL_PASSED holds that passed those outside, but no sooner than SHFL_PASSED_NS after the last time,
  * the one that has slept longest is woken to queue, and from then on nobody steals; who woke it steps aside, and sleeps outside before
- * it waits again. And who is woken otherwise, and finds that it was passed four times as often as threads wait, queues too. Neither
- * queues behind another, so that whoever is in the queue is awake, and no hold waits for a sleeper.
+ * it waits again. And who is woken otherwise, and finds that it was passed four times as often as threads wait, and that nobody
+ * queues, queues too. So the queue is short, and those in it are awake: no hold waits for a sleeper.
  */
 #ifndef SHFL_TRYING_H
 #define SHFL_TRYING_H
@@ -36,7 +36,7 @@ extern "C" {
 #endif
 /* The most that SHFL_PASSED_NS grows to where a sleeper takes long to come. */
 #ifndef SHFL_PASSED_MOST_NS
-#define SHFL_PASSED_MOST_NS 200000
+#define SHFL_PASSED_MOST_NS 100000
 #endif
 /* Who was woken, and has not come after this long, has no processor. */
 #ifndef SHFL_WAKING_NS
@@ -108,7 +108,7 @@ static inline enum shfl_wakes shfl_wakes_outside(struct shfl_parking *parking) {
     if (holds % SHFL_PASSED != 0) return alone ? SHFL_WAKES_ONE : SHFL_WAKES_NOBODY;
     uint64_t now = shfl_clock();
     bool due = now - __atomic_load_n(&parking->promoted_at, __ATOMIC_RELAXED) >= shfl_load(&parking->apart);
-    if (due && shfl_load(&parking->queued) == 0) {
+    if (due) {
         __atomic_store_n(&parking->promoted_at, now, __ATOMIC_RELAXED);
         return SHFL_WAKES_TO_QUEUE;
     }
