@@ -51,7 +51,7 @@ fn follow<R: Abort + Wait>(
 {
     let here = Attr::unpack(1);
     let there = Attr::unpack(2);
-    let mut chooser = UsingChooser::new(registry, pass);
+    let mut chooser = UsingChooser::new(registry, pass, true);
     assert_eq!(rt; chooser.should(&here, &here, 1), false);
     chooser.begin(rt);
     let instance = registry.instance(alloc, 1).expect(rt, "memory");

@@ -6,12 +6,13 @@ use Rattle.atomic_table.specs.Seated.{TableId}
 use Rattle.policy_versions.specs.Places.{RegistryId}
 use Rattle.policy_versions.specs.Models.{PassModel, UsingModel}
 
--- the registry, the name of the lent pass and what it is now, and the use that a round has
+-- the registry, the name of the lent pass and what it is now, the use that a round has, and whether passes queue at once for it
 pub record ChooserModel : Type 0 where
   pub registry : RegistryId
   pub name : ℕ
   pub pass : PassModel
   pub held : Option UsingModel
+  pub moves : Bool
 
 abbrev pub is_open : Option UsingModel → Bool
 is_open None = false

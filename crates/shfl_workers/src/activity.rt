@@ -51,11 +51,12 @@ pub fn join<P: Drop>(
     Ok(activities)
 }
 
-/// All workers work, each in a thread of its own. Where a thread can't be had, the caller does its work.
+/// All workers work, each in a thread of its own. Where a thread can't be had, the caller does its work. `moves` is the choosers'.
 pub fn run_all<D: SharedDir + Sync, G: Gate + Sync, R: Threads + Wait + Sync>(
     rt: &R,
     dir: &D,
     registry: &Registry,
+    moves: bool,
     gate: &G,
     calls: &[TraceCall],
     activities: &mut [Activity<D::Pass>],
@@ -85,7 +86,7 @@ pub fn run_all<D: SharedDir + Sync, G: Gate + Sync, R: Threads + Wait + Sync>(
             user,
             attaching,
         } = activity;
-        work(rt, dir, registry, gate, pass, user, attaching, calls);
+        work(rt, dir, registry, moves, gate, pass, user, attaching, calls);
     };
     thread::for_each_mut(rt, activities, 16, &job);
 }

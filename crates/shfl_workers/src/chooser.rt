@@ -15,6 +15,7 @@ pub struct UsingChooser<'a, 'p> {
     registry: &'a Registry,
     pass: &'p mut VersionPass,
     held: Option<Using<'a>>,
+    moves: bool,
 }
 
 impl<'a, 'p> Model for UsingChooser<'a, 'p> {
@@ -28,6 +29,7 @@ impl<'a, 'p> Model for UsingChooser<'a, 'p> {
       name = c.pass.ghost_name;
       pass = c.pass.now;
       held = c.held;
+      moves = c.moves;
     } };
 
     ghost invariant = { λ c. (c.pass.now.registry.table ≡ c.registry.now.table)
@@ -35,17 +37,24 @@ impl<'a, 'p> Model for UsingChooser<'a, 'p> {
 }
 
 impl<'a, 'p> UsingChooser<'a, 'p> {
-    /// No round is open yet.
-    pub fn new(registry: &'a Registry, pass: &'p mut VersionPass) -> UsingChooser<'a, 'p>
+    /// No round is open yet. `moves` says whether waiters are to be there for its policies: where not, a pass tries for the lock for a
+    /// while before it queues. No answer rests on it.
+    pub fn new(
+        registry: &'a Registry,
+        pass: &'p mut VersionPass,
+        moves: bool,
+    ) -> UsingChooser<'a, 'p>
         requires { IsClosed registry.now pass.old }
         ensures registry { result.registry ≡ registry.now }
         ensures pass { (result.name ≡ pass.entry.ghost_name) × (result.pass ≡ pass.entry.now) }
         ensures closed { result.held ≡ None }
+        ensures moves { result.moves ≡ moves }
     {
         UsingChooser {
             registry,
             pass,
             held: None,
+            moves,
         }
     }
 
@@ -61,6 +70,7 @@ impl<'a, 'p> UsingChooser<'a, 'p> {
             registry: _,
             pass,
             held,
+            moves: _,
         } = chooser;
         let None = held else { unreachable!() };
         pass
@@ -73,17 +83,20 @@ impl<'a, 'p> Chooser for UsingChooser<'a, 'p> {
 
     ghost home = { λ c. home_of c };
 
+    ghost moves_waiters = { λ c. c.moves };
+
     ghost in_round = { λ c. is_open c.held };
 
     ghost told = { λ _. None };
 
     fn may_move_waiters(&self) -> bool {
-        true
+        self.moves
     }
 
     fn begin<Rt: Wait>(&mut self, rt: &Rt)
         ensures registry { self.new.registry ≡ self.old.registry }
         ensures pass { (self.new.name ≡ self.old.name) × (self.new.pass.user ≡ self.old.pass.user) }
+        ensures moves { self.new.moves ≡ self.old.moves }
         ensures open { IsSome self.new.held }
     {
         if self.held.is_some() {

@@ -26,6 +26,10 @@ use std::thread::Threads;
 use syn_outer::Gate;
 use trace_text::{NoMemory, Trace};
 
+// Whether the workers queue at once, so that the policies reach them. They try before: the calls of a trace are so brief that a hand-over in
+// the queue costs many times as much.
+const QUEUES_AT_ONCE: bool = false;
+
 /// What a run leaves.
 #[derive(Drop)]
 pub struct Outcome {
@@ -85,7 +89,7 @@ pub fn run_on<D: SharedDir + Sync, G: Gate + Sync, R: Threads + Wait + Sync>(
     let mut users = Vec::with_capacity(alloc, trace.workers.len())?;
     let calls = trace.calls.as_slice();
     let lent = activities.as_mut_slice();
-    run_all(rt, &shared, &registry, gate, calls, lent);
+    run_all(rt, &shared, &registry, QUEUES_AT_ONCE, gate, calls, lent);
     let publisher = take_apart(activities, &mut passes, &mut users);
     let (_policies, versions) = registry.close(publisher, users);
     let (history, dir) = shared.close(alloc, trace, passes)?;

@@ -81,11 +81,12 @@ fn take_turns<D: SharedDir, C: Chooser, G: Gate, R: Wait>(
 }
 
 /// Makes all calls of the trace that are this worker's, in order, and publishes the policies that it attaches between them. Each round
-/// at the lock is answered by the version that is current as it begins. Takes no memory.
+/// at the lock is answered by the version that is current as it begins; `moves` is the chooser's. Takes no memory.
 pub fn work<D: SharedDir, G: Gate, R: Wait>(
     rt: &R,
     dir: &D,
     registry: &Registry,
+    moves: bool,
     gate: &G,
     pass: &mut D::Pass,
     user: &mut VersionPass,
@@ -104,7 +105,7 @@ pub fn work<D: SharedDir, G: Gate, R: Wait>(
     ensures progress { Progress D.made D.left registry.now (D.worker pass.old) calls.now []
         pass.new attaching.new }
 {
-    let mut chooser = UsingChooser::new(registry, user);
+    let mut chooser = UsingChooser::new(registry, user, moves);
     take_turns(
         rt,
         dir,
