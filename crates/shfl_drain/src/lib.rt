@@ -1,0 +1,6 @@
+//! That a lock without newcomers drains: laws of every lawful lock, whatever its policies answer.
+#![tactic(auto)]
+
+pub mod progress;
+
+pub use progress::{each_waiting_pass_waits_for_another, no_lawful_world_is_stuck};
