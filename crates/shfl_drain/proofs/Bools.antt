@@ -1,6 +1,6 @@
 -- What tests say, and a search below a number.
-use Rattle.std.proofs.Common.{◌≡◌, ℕ, zero, suc, ◌+◌, ◌<◌, ◌⊎◌, Bool, true, false, refl, sym, inl, inr, subst, ⊎_elim, ap, arith}
-use Rattle.std.specs.Prelude.{◌&&◌, ◌||◌, not, Option, None, cond, ◌==◌}
+use Rattle.std.proofs.Common.{◌≡◌, ℕ, zero, suc, ◌<◌, ◌⊎◌, Bool, true, false, refl, sym, inl, inr, subst, ⊎_elim, ap, arith}
+use Rattle.std.specs.Prelude.{◌&&◌, not, Option, None, cond, ◌==◌}
 use Rattle.std.proofs.lemmas.Bool.Decides.{nat_tests}
 use Rattle.shfl_line.specs.Words.{link_word}
 use Rattle.shfl_core.specs.Holding.{total}

@@ -1,15 +1,15 @@
 -- In every lawful world all passes are idle, or somebody acts; and where all are idle, the lock is free and empty.
-use Rattle.std.proofs.Common.{◌≡◌, ℕ, ◌<◌, ◌≤◌, ◌⊎◌, Bool, true, false, length, refl, sym, ap, ◌∙◌, inl, inr, ⊎_elim, arith}
-use Rattle.std.specs.Prelude.{◌&&◌, ◌||◌, not}
+use Rattle.std.proofs.Common.{◌≡◌, ℕ, ◌<◌, false, length, ap, inl, inr, ⊎_elim, arith}
+use Rattle.std.specs.Prelude.{◌&&◌, not}
 use Rattle.shfl_core.specs.declared.phase.Phase.TheVariants.{Idle}
 use Rattle.shfl_core.specs.declared.phase.PassState.{PassState}
-use Rattle.shfl_core.specs.Plan.{is_idle, is_resting, moving}
+use Rattle.shfl_core.specs.Plan.{is_idle, is_resting}
 use Rattle.shfl_core.specs.Waiting.{idle}
 use Rattle.shfl_core.specs.Worlds.{World, known}
-use Rattle.shfl_core.specs.Lawful.{Terms, Lawful}
+use Rattle.shfl_core.specs.Lawful.{Terms}
 use Rattle.shfl_core.proofs.Lists.{past, below-or}
-use Rattle.shfl_drain.specs.GoingOn.{waits, goes_on, IsAtRest}
-use Rattle.shfl_drain.specs.Progress.{SomebodyActs, GoesOn, MayFree, NeverStuck, FreeAtRest}
+use Rattle.shfl_drain.specs.GoingOn.{waits, goes_on}
+use Rattle.shfl_drain.specs.Progress.{GoesOn, MayFree, NeverStuck, FreeAtRest}
 use Rattle.shfl_drain.proofs.Bools.{search-below}
 use Rattle.shfl_drain.proofs.Quiet.{at-rest, free-and-empty}
 

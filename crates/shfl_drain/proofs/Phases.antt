@@ -6,11 +6,10 @@ use Rattle.shfl_core.specs.declared.phase.Phase.{Phase}
 use Rattle.shfl_core.specs.declared.phase.Phase.TheVariants as phase
 use Rattle.shfl_core.specs.declared.phase.Nap.{Nap}
 use Rattle.shfl_core.specs.declared.phase.Nap.TheVariants.{Awake, Doze, Hear, Rouse, Ring}
-use Rattle.shfl_core.specs.declared.phase.PassState.{PassState}
 use Rattle.shfl_core.specs.declared.words.Word.TheVariants.{Lock, Next as NextOf, Bell}
 use Rattle.shfl_core.specs.Words.{look, free_for}
-use Rattle.shfl_core.specs.Phases.{is_holding, is_backing, queued_rank, rank, is_linking, is_round, fore_rank}
-use Rattle.shfl_core.specs.Plan.{is_idle, is_held, is_awake, is_resting, moving}
+use Rattle.shfl_core.specs.Phases.{is_holding, is_backing, queued_rank, rank, is_linking, is_round}
+use Rattle.shfl_core.specs.Plan.{is_idle, is_held, is_awake}
 use Rattle.shfl_core.specs.Owed.{fits}
 use Rattle.shfl_core.specs.Worlds.{World}
 use Rattle.shfl_core.specs.View.{view}

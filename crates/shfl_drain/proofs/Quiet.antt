@@ -1,26 +1,24 @@
 -- A lawful world in which nobody goes on and nobody may free the lock: all are idle, and the lock is free and empty.
-use Rattle.std.proofs.Common.{◌≡◌, ◌≢◌, ℕ, zero, suc, ◌+◌, ◌<◌, ◌⊎◌, List, [], ◌∷◌, Bool, true, false, cond, ◌==◌, refl, sym, ap, ◌∙◌, inl, inr, subst, ⊎_elim, arith}
-use Rattle.std.specs.Prelude.{◌&&◌, ◌||◌, not, Option, None, Contains}
+use Rattle.std.proofs.Common.{◌≡◌, ℕ, zero, suc, ◌<◌, ◌⊎◌, List, [], ◌∷◌, Bool, true, false, cond, ◌==◌, refl, sym, ap, ◌∙◌, inl, inr, subst, ⊎_elim, arith}
+use Rattle.std.specs.Prelude.{◌&&◌, ◌||◌, not, None, Contains}
 use Rattle.std.proofs.lemmas.Bool.Decides.{nat_tests}
 use Rattle.shfl_line.specs.declared.events.Mode.{Mode}
-use Rattle.shfl_line.specs.declared.events.Mode.TheVariants.{Write, Read}
 use Rattle.shfl_line.specs.Line.{Line, reader_count, active_shuffler}
 use Rattle.shfl_line.specs.Words.{link_word, held_of, readers_of}
-use Rattle.shfl_line.specs.Passes.{times, first, Chain as IsChain, end}
+use Rattle.shfl_line.specs.Passes.{times, first}
 use Rattle.shfl_core.specs.declared.phase.Phase.{Phase}
 use Rattle.shfl_core.specs.declared.phase.Phase.TheVariants as phase
-use Rattle.shfl_core.specs.declared.phase.Nap.{Nap}
-use Rattle.shfl_core.specs.declared.phase.Nap.TheVariants.{Awake, Hear, Ring}
+use Rattle.shfl_core.specs.declared.phase.Nap.TheVariants.{Hear, Ring}
 use Rattle.shfl_core.specs.declared.phase.PassState.{PassState}
 use Rattle.shfl_core.specs.declared.words.Word.TheVariants.{Lock, Next as NextOf, Bell}
-use Rattle.shfl_core.specs.Words.{look, free_for}
-use Rattle.shfl_core.specs.Phases.{is_holding, is_backing, queued_rank, rank, fore_rank, is_linking, is_queued, is_fore}
+use Rattle.shfl_core.specs.Words.{look}
+use Rattle.shfl_core.specs.Phases.{is_holding, is_backing, queued_rank, rank, fore_rank, is_linking, is_queued}
 use Rattle.shfl_core.specs.Plan.{is_idle, is_resting, moving}
 use Rattle.shfl_core.specs.Owed.{fits, called}
 use Rattle.shfl_core.specs.Worlds.{World, known}
 use Rattle.shfl_core.specs.View.{view}
-use Rattle.shfl_core.specs.Order.{Order as Ordered, Walks, Follows, is_head}
-use Rattle.shfl_core.specs.Holding.{total, backs}
+use Rattle.shfl_core.specs.Order.{Order as Ordered, Walks, is_head}
+use Rattle.shfl_core.specs.Holding.{backs}
 use Rattle.shfl_core.specs.Lawful.{Terms, count, Lawful}
 use Rattle.shfl_laws.proofs.rows.Order
 use Rattle.shfl_laws.proofs.plain.HoldersPlain.{word-has-writer}

@@ -3,7 +3,7 @@ use Rattle.std.specs.Prelude.{◌≡◌, ◌≢◌, ◌⊎◌, ℕ, suc, [], Non
 use Rattle.shfl_line.specs.Line.{Line}
 use Rattle.shfl_line.specs.Words.{held_of, readers_of}
 use Rattle.shfl_line.specs.Passes.{first}
-use Rattle.shfl_core.specs.declared.words.Word.TheVariants.{Lock, Tail, Bell}
+use Rattle.shfl_core.specs.declared.words.Word.TheVariants.{Lock, Tail}
 use Rattle.shfl_core.specs.Words.{look}
 use Rattle.shfl_core.specs.Plan.{moving, is_resting}
 use Rattle.shfl_core.specs.Phases.{is_backing}

@@ -1,6 +1,8 @@
 //! That a lock without newcomers drains: laws of every lawful lock, whatever its policies answer.
 #![tactic(auto)]
 
+pub mod drain;
 pub mod progress;
 
+pub use drain::what_is_left_until_a_lock_has_drained;
 pub use progress::{each_waiting_pass_waits_for_another, no_lawful_world_is_stuck};
