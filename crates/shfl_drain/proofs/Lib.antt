@@ -17,4 +17,5 @@ pub mod LookRow
 pub mod NapRows
 pub mod AllRows
 pub mod DrainNumber
+pub mod FewMoves
 pub mod MarkRow

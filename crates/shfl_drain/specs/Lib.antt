@@ -1,3 +1,4 @@
 pub mod GoingOn
 pub mod Progress
 pub mod Drain
+pub mod Schedules
