@@ -1,14 +1,14 @@
 -- How many moves of a schedule without newcomers lead on: each lowers the number, and none raises it.
-use Rattle.std.proofs.Common.{◌≡◌, ℕ, ◌+◌, ◌<◌, ◌≤◌, List, [], ◌∷◌, Bool, true, false, cond, refl, arith}
+use Rattle.std.proofs.Common.{◌≡◌, ℕ, ◌+◌, ◌<◌, ◌≤◌, List, [], ◌∷◌, Bool, true, false, cond, refl, ap, arith}
 use Rattle.shfl_line.specs.declared.events.Form.{Form}
-use Rattle.shfl_core.specs.Worlds.{World, Move, Acquire, Release, Step, after_move}
-use Rattle.shfl_core.specs.Lawful.{Terms, count, Lawful, Advances}
+use Rattle.shfl_core.specs.Worlds.{World, Move, Acquire, Release, Step, after_move, run}
+use Rattle.shfl_core.specs.Lawful.{Terms, Lawful, Advances}
 use Rattle.shfl_laws.specs.Moves.{MayMove, move_event}
 use Rattle.shfl_laws.proofs.laws.Laws.{laws}
 use Rattle.shfl_laws.proofs.laws.MoveLaws.{move-law}
-use Rattle.shfl_drain.specs.Drain.{is_acquire, most_left}
-use Rattle.shfl_drain.specs.Schedules.{NoNewcomer, leads_on, moves_on, FewMovesOn}
-use Rattle.shfl_drain.proofs.Number.{number, bounded}
+use Rattle.shfl_drain.specs.Drain.{is_acquire}
+use Rattle.shfl_drain.specs.Schedules.{NoNewcomer, leads_on, moves_on, FewMovesOn, DrainsByThem}
+use Rattle.shfl_drain.proofs.Number.{number, bounded, drained}
 use Rattle.shfl_drain.proofs.DrainNumber.{keeps, goes-lowers, release-leaves}
 
 may : (form : Form) (m : Move) → is_acquire m ≡ false → MayMove form m
@@ -26,14 +26,21 @@ lowers t w ok (Acquire p mode) a e = absurd (cc)
 lowers t w ok (Release p) a e = release-leaves t w ok p a e
 lowers t w ok (Step p c) a e = goes-lowers t w ok p c a e
 
-counts : (t : Terms) (moves : List Move) (w : World) (ok : Lawful t w) → NoNewcomer moves → moves_on t.rules w moves ≤ number t w ok
-counts t [] w ok none = omega arith
-counts t (m ∷ rest) w ok none = let a = moved t w ok m none.0 in by (leads_on w m) refl a (counts t rest (after_move t.rules w m) a.lawful none.1)
+-- what is left after a schedule, and what led on in it
+record Counted (t : Terms) (w : World) (ok : Lawful t w) (moves : List Move) : Type 0 where
+  lawful : Lawful t (run t.rules w moves)
+  counts : moves_on t.rules w moves + number t (run t.rules w moves) lawful ≤ number t w ok
+
+counted : (t : Terms) (moves : List Move) (w : World) (ok : Lawful t w) → NoNewcomer moves → Counted t w ok moves
+counted t [] w ok none = record { lawful = ok; counts = omega arith }
+counted t (m ∷ rest) w ok none = let a = moved t w ok m none.0 in by (leads_on w m) refl a (counted t rest (after_move t.rules w m) a.lawful none.1)
   where
-    by : (b : Bool) → leads_on w m ≡ b → (a : Advances t w ok (move_event t.rules w m) (after_move t.rules w m)) → moves_on t.rules (after_move t.rules w m) rest ≤ number t (after_move t.rules w m) a.lawful
-        → cond b 1 0 + moves_on t.rules (after_move t.rules w m) rest ≤ number t w ok
-    by true e a ih = let l = lowers t w ok m a e in omega arith
-    by false e a ih = let k = keeps t w ok m a none.0 in omega arith
+    by : (b : Bool) → leads_on w m ≡ b → (a : Advances t w ok (move_event t.rules w m) (after_move t.rules w m)) → Counted t (after_move t.rules w m) a.lawful rest → Counted t w ok (m ∷ rest)
+    by true e a ih = record { lawful = ih.lawful; counts = (let l = lowers t w ok m a e in let c = ih.counts in let o : ◌≡◌ {A = ℕ} (cond (leads_on w m) 1 0) 1 = ap (λ b. cond b 1 0) e in omega arith) }
+    by false e a ih = record { lawful = ih.lawful; counts = (let k = keeps t w ok m a none.0 in let c = ih.counts in let o : ◌≡◌ {A = ℕ} (cond (leads_on w m) 1 0) 0 = ap (λ b. cond b 1 0) e in omega arith) }
 
 pub few-moves-on : (t : Terms) → FewMovesOn t
-few-moves-on t w ok moves none = let a = counts t moves w ok none in let b = bounded t w ok in omega arith
+few-moves-on t w ok moves none = let a = (counted t moves w ok none).counts in let b = bounded t w ok in omega arith
+
+pub drains-by-them : (t : Terms) → DrainsByThem t
+drains-by-them t w ok moves none h = let c = counted t moves w ok none in drained t (run t.rules w moves) c.lawful (let a = c.counts in let b = bounded t w ok in omega arith)

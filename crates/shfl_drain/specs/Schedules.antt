@@ -1,10 +1,10 @@
 -- Over every schedule without newcomers: how many of its moves lead on, and what is left in the end.
-use Rattle.std.specs.Prelude.{◌≡◌, ◌⊎◌, ℕ, ◌+◌, ◌*◌, ◌≤◌, List, [], ◌∷◌, Bool, true, false, cond}
+use Rattle.std.specs.Prelude.{◌≡◌, ℕ, ◌+◌, ◌≤◌, List, [], ◌∷◌, Bool, false, cond}
 use Rattle.shfl_core.specs.declared.phase.Rules.{Rules}
 use Rattle.shfl_core.specs.Plan.{is_resting}
 use Rattle.shfl_core.specs.Worlds.{World, known, Move, Acquire, Release, Step, after_move, run}
 use Rattle.shfl_core.specs.Lawful.{Terms, count, Lawful}
-use Rattle.shfl_drain.specs.GoingOn.{goes_on}
+use Rattle.shfl_drain.specs.GoingOn.{goes_on, IsAtRest}
 use Rattle.shfl_drain.specs.Drain.{is_acquire, most_left}
 
 -- nobody comes anew
@@ -26,3 +26,7 @@ moves_on t w (m ∷ rest) = cond (leads_on w m) 1 0 + moves_on t (after_move t w
 -- in every schedule without newcomers, whatever the policies answer, so many moves lead on at most
 abbrev pub FewMovesOn : Terms → Type 0
 FewMovesOn t = (w : World) → Lawful t w → (moves : List Move) → NoNewcomer moves → moves_on t.rules w moves ≤ most_left (count t)
+
+-- and after so many all are idle
+abbrev pub DrainsByThem : Terms → Type 0
+DrainsByThem t = (w : World) → Lawful t w → (moves : List Move) → NoNewcomer moves → most_left (count t) ≤ moves_on t.rules w moves → IsAtRest (run t.rules w moves)

@@ -1,7 +1,7 @@
 //! The laws of the drain. The functions do nothing when they run: their contracts are the laws.
 ghost use Rattle.shfl_core.specs.Lawful.{Terms};
 ghost use Rattle.shfl_drain.specs.Drain.{DrainNumber};
-ghost use Rattle.shfl_drain.specs.Schedules.{FewMovesOn};
+ghost use Rattle.shfl_drain.specs.Schedules.{FewMovesOn, DrainsByThem};
 
 /// Of each lawful world there is a number that says how much is left until its lock has drained: 0 where all passes are
 /// idle, and at most a number of the passes alone. Only an acquire raises it, whatever the policies answer; each step of a
@@ -11,7 +11,8 @@ pub fn what_is_left_until_a_lock_has_drained()
 {}
 
 /// In every schedule without newcomers at most so many moves lead on, in any order, whatever the policies answer: steps of
-/// passes that go on, and holders that free the lock.
+/// passes that go on, and holders that free the lock. After so many all passes are idle.
 pub fn a_lock_without_newcomers_drains()
     ensures moves { (t : Terms) → FewMovesOn t }
+    ensures drained { (t : Terms) → DrainsByThem t }
 {}
