@@ -41,7 +41,7 @@ module _ (t : Terms) (w : World) (ok : Lawful t w) where
       + total (count t) (λ z. slack (count t) (known w.passes z) (ready_of (look w.words (StateOf z))) (look w.words Lock) (mark_of s z) (round_measure (count t) s z (known w.passes z)))) e
 
   -- a pass with a step to make is one of the lock's
-  moving-below : (p : ℕ) → moving (known w.passes p) ≡ true → p < length w.passes
+  pub moving-below : (p : ℕ) → moving (known w.passes p) ≡ true → p < length w.passes
   moving-below p m = ⊎_elim (λ h. h) (λ h. absurd (true-not-false (moving (known w.passes p)) m (ap moving (past w.passes p (idle p) h)))) (below-or p (length w.passes))
 
   resting-below : (p : ℕ) → is_resting (known w.passes p) ≡ true → p < length w.passes

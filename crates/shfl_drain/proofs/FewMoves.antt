@@ -6,9 +6,10 @@ use Rattle.shfl_core.specs.Lawful.{Terms, Lawful, Advances}
 use Rattle.shfl_laws.specs.Moves.{MayMove, move_event}
 use Rattle.shfl_laws.proofs.laws.Laws.{laws}
 use Rattle.shfl_laws.proofs.laws.MoveLaws.{move-law}
-use Rattle.shfl_drain.specs.Drain.{is_acquire}
+use Rattle.shfl_drain.specs.Drain.{is_acquire, HasDrained}
 use Rattle.shfl_drain.specs.Schedules.{NoNewcomer, leads_on, moves_on, FewMovesOn, DrainsByThem}
 use Rattle.shfl_drain.proofs.Number.{number, bounded, drained}
+use Rattle.shfl_drain.proofs.NeverStuck.{free-at-rest}
 use Rattle.shfl_drain.proofs.DrainNumber.{keeps, goes-lowers, release-leaves}
 
 may : (form : Form) (m : Move) → is_acquire m ≡ false → MayMove form m
@@ -27,11 +28,11 @@ lowers t w ok (Release p) a e = release-leaves t w ok p a e
 lowers t w ok (Step p c) a e = goes-lowers t w ok p c a e
 
 -- what is left after a schedule, and what led on in it
-record Counted (t : Terms) (w : World) (ok : Lawful t w) (moves : List Move) : Type 0 where
-  lawful : Lawful t (run t.rules w moves)
-  counts : moves_on t.rules w moves + number t (run t.rules w moves) lawful ≤ number t w ok
+pub record Counted (t : Terms) (w : World) (ok : Lawful t w) (moves : List Move) : Type 0 where
+  pub lawful : Lawful t (run t.rules w moves)
+  pub counts : moves_on t.rules w moves + number t (run t.rules w moves) lawful ≤ number t w ok
 
-counted : (t : Terms) (moves : List Move) (w : World) (ok : Lawful t w) → NoNewcomer moves → Counted t w ok moves
+pub counted : (t : Terms) (moves : List Move) (w : World) (ok : Lawful t w) → NoNewcomer moves → Counted t w ok moves
 counted t [] w ok none = record { lawful = ok; counts = omega arith }
 counted t (m ∷ rest) w ok none = let a = moved t w ok m none.0 in by (leads_on w m) refl a (counted t rest (after_move t.rules w m) a.lawful none.1)
   where
@@ -42,5 +43,9 @@ counted t (m ∷ rest) w ok none = let a = moved t w ok m none.0 in by (leads_on
 pub few-moves-on : (t : Terms) → FewMovesOn t
 few-moves-on t w ok moves none = let a = (counted t moves w ok none).counts in let b = bounded t w ok in omega arith
 
+-- where nothing is left
+pub has-drained : (t : Terms) (w : World) (ok : Lawful t w) → number t w ok ≡ 0 → HasDrained t w
+has-drained t w ok e = let r = drained t w ok e in record { lawful = ok; rest = r; free = free-at-rest t w ok r }
+
 pub drains-by-them : (t : Terms) → DrainsByThem t
-drains-by-them t w ok moves none h = let c = counted t moves w ok none in drained t (run t.rules w moves) c.lawful (let a = c.counts in let b = bounded t w ok in omega arith)
+drains-by-them t w ok moves none h = let c = counted t moves w ok none in has-drained t (run t.rules w moves) c.lawful (let a = c.counts in let b = bounded t w ok in omega arith)

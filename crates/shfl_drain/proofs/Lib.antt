@@ -18,4 +18,7 @@ pub mod NapRows
 pub mod AllRows
 pub mod DrainNumber
 pub mod FewMoves
+pub mod Calm
+pub mod FairRuns
+pub mod WindowRuns
 pub mod MarkRow

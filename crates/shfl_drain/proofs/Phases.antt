@@ -64,7 +64,7 @@ module _ (w : World) (p : ℕ) where
   waits-queued phase.Pick e = refl
   waits-queued phase.Aim e = refl
   waits-queued phase.Place e = refl
-  waits-queued phase.Mark e = refl
+  waits-queued phase.Mark e = absurd (cc)
   waits-queued phase.Give e = refl
   waits-queued _ e = absurd (cc)
 
@@ -99,6 +99,7 @@ module _ (w : World) (p : ℕ) where
   head-waits phase.Late e h = inr (inr refl)
   head-waits phase.Look e h = absurd (head-not true (is_head (view w) p) e h)
   head-waits phase.Begin e h = absurd (head-not true (is_head (view w) p) e h)
+  head-waits phase.Mark e h = absurd (cc)
   head-waits f e h = absurd (head-not (is_round f) (is_head (view w) p) e h)
 
   -- why a pass waits that is awake
@@ -114,6 +115,7 @@ module _ (w : World) (p : ℕ) where
   waits-kind phase.Late e = Leaver refl e
   waits-kind phase.Look e = Uncalled (head-off true (is_head (view w) p) e)
   waits-kind phase.Begin e = Uncalled (head-off true (is_head (view w) p) e)
+  waits-kind phase.Mark e = absurd (cc)
   waits-kind f e = Uncalled (head-off (is_round f) (is_head (view w) p) e)
 
   -- a pass at these phases goes on

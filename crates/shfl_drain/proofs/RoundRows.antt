@@ -90,7 +90,7 @@ inner-goes t p r n c phase.Place e = record { round = refl; headed = refl; awake
 inner-goes t p r n c _ e = absurd (cc)
 
 -- a waiter that isn't the head waits in its round
-pub waits-round : (w : World) (p : ℕ) (f : Phase) → is_round f ≡ true → is_head (view w) p ≡ false → waits_at w p f ≡ true
+pub waits-round : (w : World) (p : ℕ) (f : Phase) → inner f ≡ true → is_head (view w) p ≡ false → waits_at w p f ≡ true
 waits-round w p phase.Next e h = ap not h
 waits-round w p phase.Tail e h = ap not h
 waits-round w p phase.Attr e h = ap not h
@@ -99,8 +99,6 @@ waits-round w p phase.After e h = ap not h
 waits-round w p phase.Pick e h = ap not h
 waits-round w p phase.Aim e h = ap not h
 waits-round w p phase.Place e h = ap not h
-waits-round w p phase.Mark e h = ap not h
-waits-round w p phase.Give e h = ap not h
 waits-round w p _ e h = absurd (cc)
 
 pub fore-round : (r : Regs) (f : Phase) → is_round f ≡ true → is_fore (to f r) ≡ r.headed
@@ -192,4 +190,4 @@ module _ (t : Terms) (w : World) (ok : Lawful t w) (p : ℕ) (below : p < length
           (let x = new ∙ ap (λ b. cond b (3 + left t w' a.lawful p) 0) h in let y = old ∙ ap (λ b. cond b (3 + left t w ok p) 0) h in let z = less in omega arith)
       by (inr h) = no-later t w ok p below f c (inner-off f e) nap at a kept (goes t w p f c) refl (λ z _. ready z) (inner-lock t w p c f e) way-le
           (let x = new ∙ ap (λ b. cond b (3 + left t w' a.lawful p) 0) h in let y = old ∙ ap (λ b. cond b (3 + left t w ok p) 0) h in omega arith)
-          (waits-round w p f rounds (head h))
+          (waits-round w p f e (head h))

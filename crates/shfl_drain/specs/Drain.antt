@@ -5,6 +5,7 @@ use Rattle.shfl_core.specs.Worlds.{World, known, Move, Acquire, Release, Step, a
 use Rattle.shfl_core.specs.Lawful.{Terms, count, Lawful, Advances}
 use Rattle.shfl_laws.specs.Moves.{move_event}
 use Rattle.shfl_drain.specs.GoingOn.{goes_on, IsAtRest}
+use Rattle.shfl_drain.specs.Progress.{IsFreeAndEmpty}
 
 -- a newcomer
 abbrev pub is_acquire : Move → Bool
@@ -31,3 +32,9 @@ pub record DrainNumber (t : Terms) : Type 0 where
       → goes_on w p ≡ true → number (after_move t.rules w (Step p choice)) a.lawful < number w ok
   pub releases : (w : World) (ok : Lawful t w) (p : ℕ) (a : Advances t w ok (move_event t.rules w (Release p)) (after_move t.rules w (Release p)))
       → is_resting (known w.passes p) ≡ true → number (after_move t.rules w (Release p)) a.lawful < number w ok
+
+-- all passes are idle, and the lock is free and empty
+pub record HasDrained (t : Terms) (w : World) : Type 0 where
+  pub lawful : Lawful t w
+  pub rest : IsAtRest w
+  pub free : IsFreeAndEmpty w lawful.shown

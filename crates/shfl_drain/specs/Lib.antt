@@ -2,3 +2,4 @@ pub mod GoingOn
 pub mod Progress
 pub mod Drain
 pub mod Schedules
+pub mod Windows

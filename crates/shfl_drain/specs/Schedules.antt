@@ -4,8 +4,8 @@ use Rattle.shfl_core.specs.declared.phase.Rules.{Rules}
 use Rattle.shfl_core.specs.Plan.{is_resting}
 use Rattle.shfl_core.specs.Worlds.{World, known, Move, Acquire, Release, Step, after_move, run}
 use Rattle.shfl_core.specs.Lawful.{Terms, count, Lawful}
-use Rattle.shfl_drain.specs.GoingOn.{goes_on, IsAtRest}
-use Rattle.shfl_drain.specs.Drain.{is_acquire, most_left}
+use Rattle.shfl_drain.specs.GoingOn.{goes_on}
+use Rattle.shfl_drain.specs.Drain.{is_acquire, most_left, HasDrained}
 
 -- nobody comes anew
 abbrev pub NoNewcomer : List Move → Type 0
@@ -27,6 +27,6 @@ moves_on t w (m ∷ rest) = cond (leads_on w m) 1 0 + moves_on t (after_move t w
 abbrev pub FewMovesOn : Terms → Type 0
 FewMovesOn t = (w : World) → Lawful t w → (moves : List Move) → NoNewcomer moves → moves_on t.rules w moves ≤ most_left (count t)
 
--- and after so many all are idle
+-- and after so many the lock has drained
 abbrev pub DrainsByThem : Terms → Type 0
-DrainsByThem t = (w : World) → Lawful t w → (moves : List Move) → NoNewcomer moves → most_left (count t) ≤ moves_on t.rules w moves → IsAtRest (run t.rules w moves)
+DrainsByThem t = (w : World) → Lawful t w → (moves : List Move) → NoNewcomer moves → most_left (count t) ≤ moves_on t.rules w moves → HasDrained t (run t.rules w moves)

@@ -4,5 +4,7 @@
 pub mod drain;
 pub mod progress;
 
-pub use drain::{a_lock_without_newcomers_drains, what_is_left_until_a_lock_has_drained};
+pub use drain::{
+    a_fair_schedule_drains, a_lock_without_newcomers_drains, what_is_left_until_a_lock_has_drained,
+};
 pub use progress::{each_waiting_pass_waits_for_another, no_lawful_world_is_stuck};
