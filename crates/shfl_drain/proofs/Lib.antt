@@ -21,4 +21,5 @@ pub mod FewMoves
 pub mod Calm
 pub mod FairRuns
 pub mod WindowRuns
+pub mod Reopening
 pub mod MarkRow

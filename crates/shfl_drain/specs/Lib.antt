@@ -3,3 +3,4 @@ pub mod Progress
 pub mod Drain
 pub mod Schedules
 pub mod Windows
+pub mod Reopening

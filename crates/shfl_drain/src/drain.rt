@@ -3,6 +3,7 @@ ghost use Rattle.shfl_core.specs.Lawful.{Terms};
 ghost use Rattle.shfl_drain.specs.Drain.{DrainNumber};
 ghost use Rattle.shfl_drain.specs.Schedules.{FewMovesOn, DrainsByThem};
 ghost use Rattle.shfl_drain.specs.Windows.{DrainsInWindows};
+ghost use Rattle.shfl_drain.specs.Reopening.{Reopens};
 
 /// Of each lawful world there is a number that says how much is left until its lock has drained: 0 where all passes are
 /// idle, and at most a number of the passes alone. Only an acquire raises it, whatever the policies answer; each step of a
@@ -23,4 +24,10 @@ pub fn a_lock_without_newcomers_drains()
 /// times so many windows, whatever the policies answer.
 pub fn a_fair_schedule_drains()
     ensures windows { (t : Terms) → DrainsInWindows t }
+{}
+
+/// Each move keeps that where stealing is disabled somebody is queued or about to enable it again; so where all passes are
+/// idle it is enabled.
+pub fn stealing_is_enabled_in_the_end()
+    ensures law { (t : Terms) → Reopens t }
 {}
