@@ -1,0 +1,6 @@
+pub mod GoingOn
+pub mod Progress
+pub mod Drain
+pub mod Schedules
+pub mod Windows
+pub mod Reopening

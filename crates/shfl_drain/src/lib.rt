@@ -1,0 +1,11 @@
+//! That a lock without newcomers drains: laws of every lawful lock, whatever its policies answer.
+#![tactic(auto)]
+
+pub mod drain;
+pub mod progress;
+
+pub use drain::{
+    a_fair_schedule_drains, a_lock_without_newcomers_drains, stealing_is_enabled_in_the_end,
+    what_is_left_until_a_lock_has_drained,
+};
+pub use progress::{each_waiting_pass_waits_for_another, no_lawful_world_is_stuck};
