@@ -13,13 +13,12 @@ if [ -z "$room" ]; then
     trap 'rm -rf "$room"' EXIT
 fi
 mkdir -p "$room"
-. "$top/tests/cell-program.sh"
 peers="$room/peers" cells="$room/cells" reads="$room/reads"
 if ! [ -x "$reads" ]; then
     cc -O2 -pthread -o "$peers" "$top/bench/peers.c" || exit 1
-    built="$(cell_program "$top" "$room" shfl_cell "$top/bench/cells.rt.txt" work work_by_tries)" || exit 1
+    built="$(python3 -B "$top/bin/programs.py" "$room/built" cells)" || exit 1
     cp "$built" "$cells"
-    built="$(cell_program "$top" "$room" rw_cell "$top/bench/reads.rt.txt" fill read_often)" || exit 1
+    built="$(python3 -B "$top/bin/programs.py" "$room/built" reads)" || exit 1
     cp "$built" "$reads"
 fi
 

@@ -16,36 +16,11 @@ else
     shift
 fi
 parts=" ${*:-free 4 16} "
-bench="$room/crates/bench"
-# This loop keeps the pass idle.
-keeps_idle() {
-    mkdir -p "$bench/proofs/$1"
-    cat >"$bench/proofs/$1/Invariants.antt" <<PROOF
-use Rattle.shfl_table.specs.PassModel.{IsIdleAt}
-use Rattle.bench.proofs.$1.Given as goal
-
-abbrev pub invariant-loop : goal.invariant-loop
-invariant-loop $2 = IsIdleAt l.board.id l.pass
-PROOF
-}
-. "$top/tests/cell-program.sh"
 build() {
-    rm -f "$room/crates.txt"
-    for crate in $(crates_below shfl_table); do
-        mkdir -p "$room/crates/$crate"
-        (cd "$top/crates/$crate" && tar cf - --exclude=./out --exclude=./must-fail .) | tar xf - -C "$room/crates/$crate"
-        grep "^$crate[: ]" "$top/crates.txt" >>"$room/crates.txt"
-    done
-    echo 'bench may_wait=1: shfl_line shfl_core shfl_table syn_outer' >>"$room/crates.txt"
-    cp "$top/HANDLES" "$room/"
-    mkdir -p "$bench/src" "$bench/proofs"
-    cp "$top/bench/locks.rt.txt" "$bench/src/main.rt"
-    : >"$bench/proofs/Lib.antt"
-    for loop in often_by_steps often_by_attempt; do keeps_idle "$loop" l; done
-    for loop in best_by_steps best_by_attempt hold_often; do keeps_idle "$loop" 'g l'; done
-    (cd "$bench" && rt run >"$room/log" 2>&1) || { tail "$room/log" >&2; exit 1; }
+    bench="$(python3 -B "$top/bin/programs.py" "$room" locks)" || exit 1
     cc -O2 -pthread -o "$room/peers" "$top/bench/peers.c"
 }
+bench="$room/locks/crates/locks/out/locks"
 [ -x "$room/peers" ] || build
 
 # The median and the worst of numbers, each a line: the greatest where the words are -g, the least where they are -gr.
@@ -71,7 +46,7 @@ free_row() {
 free() {
     rm -f "$room/ours" "$room/theirs"
     for ((turn = 0; turn < TURNS; turn++)); do
-        "$bench/out/bench" >>"$room/ours"
+        "$bench" >>"$room/ours"
         "$room/peers" free >>"$room/theirs"
     done
     row 'free lock, ns' ours worst peer worst ratio
@@ -82,7 +57,7 @@ free() {
 }
 
 # A run of over a minute counts as 0 holds.
-ours_of() { { timeout 60 "$bench/out/bench" "$@" || echo '0 holds a second'; } | sed -n 's/^\([0-9]*\) holds a second.*/\1/p'; }
+ours_of() { { timeout 60 "$bench" "$@" || echo '0 holds a second'; } | sed -n 's/^\([0-9]*\) holds a second.*/\1/p'; }
 peer_of() { "$room/peers" "$@" 300 | sed -n 's/^\([0-9]*\) gains a second$/\1/p'; }
 # Holds a second of ours beside the peer's. Runs of ours come first, of more and more holds, until one takes a fifth of a second.
 crowd_row() {

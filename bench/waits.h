@@ -1,16 +1,10 @@
 /* The locks that threads wait at in waits.c and handover.c: ours in its four forms, and the peers, each on cache lines of its own. */
 #ifndef WAITS_H
 #define WAITS_H
-#define _GNU_SOURCE
-#include "shfl.h"
-#include <pthread.h>
-#include <stdatomic.h>
-#include <stdio.h>
-#include <stdlib.h>
+#include "threads.h"
 #include <string.h>
 #include <sys/resource.h>
 
-enum { LINE = 128, MOST_THREADS = 64 };
 enum lock_kind { SPIN, RW, PARK, RW_PARK, MUTEX, MCS, RWLOCK, KINDS };
 static const char *const kind_names[KINDS] = {"spin", "rw", "park", "rwpark", "mutex", "mcs", "rwlock"};
 
@@ -106,15 +100,5 @@ static double processor_time(void) {
     struct rusage r;
     getrusage(RUSAGE_THREAD, &r);
     return (double)(r.ru_utime.tv_sec + r.ru_stime.tv_sec) + (double)(r.ru_utime.tv_usec + r.ru_stime.tv_usec) * 1e-6;
-}
-
-static void nap(uint64_t ns) {
-    struct timespec t = {(time_t)(ns / 1000000000), (long)(ns % 1000000000)};
-    nanosleep(&t, NULL);
-}
-
-static inline void busy(uint64_t ns) {
-    if (ns == 0) return;
-    for (uint64_t until = shfl_clock() + ns; shfl_clock() < until;) shfl_hint();
 }
 #endif

@@ -65,6 +65,7 @@ static inline void shfl_unlock(struct shfl_pass *pass) {
     }
     if (shfl_load(&parking->head_asleep)) shfl_ring(&parking->head_asleep);
     else if (shfl_load(&parking->outside)) shfl_after_passing(pass);
+    if (pass->successor) shfl_wake_behind_successor(pass);
 }
 
 #ifdef __cplusplus

@@ -21,8 +21,8 @@ extern "C" {
 #define SHFL_FREE(at) free(at)
 #endif
 
-/* 1 while the thread of a pass sleeps or is about to, else 0. Each is on a cache line of its own. */
-struct shfl_place { uint32_t asleep, unused[15]; };
+/* 1 while the thread of a pass sleeps or is about to, else 0; and shfl_ahead.h. Each is on a cache line of its own. */
+struct shfl_place { uint32_t asleep, behind, unused[14]; };
 
 /* All of it is read and written atomically. What each unlock reads stands in the first 16 bytes. */
 struct shfl_parking {
@@ -37,7 +37,7 @@ struct shfl_parking {
     uint32_t wakeups; /* changes with each wakeup outside */
     uint32_t queued; /* how many queue */
     uint32_t open; /* how many passes are */
-    uint32_t unused[3];
+    uint32_t joined, turn_at, turn_apart; /* shfl_ahead.h */
 };
 
 static inline struct shfl_place *shfl_place_of(struct shfl_parking *parking, uint32_t whom) {
@@ -99,9 +99,11 @@ static inline struct shfl_verdict shfl_attach_parking(struct shfl_pass *pass, ui
     return verdict;
 }
 
-/* Wakes who sleeps at a place. It looks before it writes, so that a place where nobody sleeps stays in the caches of all. */
-static inline void shfl_ring(uint32_t *asleep) {
-    if (shfl_load(asleep) && __atomic_exchange_n(asleep, 0, __ATOMIC_SEQ_CST)) shfl_futex_wake(asleep);
+/* Wakes who sleeps at a place, or is about to: whether there was one. It looks before it writes, so that a place where nobody sleeps stays in the caches of all. */
+static inline bool shfl_ring(uint32_t *asleep) {
+    if (shfl_load(asleep) == 0 || __atomic_exchange_n(asleep, 0, __ATOMIC_SEQ_CST) == 0) return false;
+    shfl_futex_wake(asleep);
+    return true;
 }
 
 /* From here on C's calls of these names go through the parking. */

@@ -4,6 +4,7 @@
  */
 #ifndef SHFL_QUEUEING_H
 #define SHFL_QUEUEING_H
+#include "shfl_ahead.h"
 #include "shfl_trying.h"
 
 #ifdef __cplusplus
@@ -26,11 +27,16 @@ extern "C" {
 #define SHFL_NAP_NS 100000
 #endif
 
+/* So many rounds in a row that moved nobody a shuffler makes awake, where turns are fast. */
+#ifndef SHFL_ROUNDS
+#define SHFL_ROUNDS 32
+#endif
+
 /* What a thread knows of its looks in vain. */
 struct shfl_looks {
     uint32_t *asleep; /* where it sleeps, if it does: null before the first */
     uint64_t until; /* it stays awake until then; 0 afterwards */
-    uint32_t rounds; /* that moved nobody */
+    uint32_t rounds; /* in a row that moved nobody */
     uint32_t naps;
     bool yields; /* it never sleeps, and gives its processor away instead */
 };
@@ -40,10 +46,11 @@ static inline uint32_t *shfl_sleeps_at(struct shfl_pass *pass, bool for_turn) {
     return for_turn ? &shfl_place_of(pass->parking, pass->me)->asleep : &pass->parking->head_asleep;
 }
 
-/* True where it stays awake for now, having paused. After a round that moved nobody the pause grows. */
-static inline bool shfl_stays_awake(struct shfl_looks *looks, bool alone) {
+/* True where it stays awake for now, having paused. After a round that moved nobody the pause grows, though little where turns are fast. */
+static inline bool shfl_stays_awake(struct shfl_looks *looks, bool alone, bool fast) {
+    uint32_t most = fast ? 2 : 8;
     if (looks->until == 0) return false;
-    shfl_hints(alone ? 16u << (looks->rounds < 8 ? looks->rounds : 8) : 2);
+    shfl_hints(alone ? 16u << (looks->rounds < most ? looks->rounds : most) : 2);
     if (shfl_clock() < looks->until) return true;
     looks->until = 0;
     return false;
@@ -77,8 +84,9 @@ static inline void shfl_pause_looking(struct shfl_pass *pass, struct shfl_looks 
         looks->until = shfl_clock() + (far ? SHFL_LOOKING_FAR_NS : SHFL_LOOKING_NS);
         looks->naps = 0;
     }
-    if (alone) looks->rounds++;
-    if (shfl_stays_awake(looks, alone)) return;
+    bool fast = alone && ++looks->rounds < SHFL_ROUNDS && shfl_turns_are_fast(pass->parking);
+    if (fast) looks->until = shfl_clock() + SHFL_LOOKING_NS;
+    if (shfl_stays_awake(looks, alone, fast)) return;
     if (looks->yields) shfl_give_away(looks, alone);
     else shfl_sleep_or_announce(looks, alone || !for_turn);
 }
@@ -91,24 +99,38 @@ static inline void shfl_went_on(struct shfl_pass *pass, struct shfl_looks *looks
 }
 
 /* Whom the last steps may wake. */
-struct shfl_calls { struct shfl_watch last; bool grouped; };
+struct shfl_calls { struct shfl_watch last; bool grouped; struct shfl_batch batch; };
 
 /* Wakes whom this step made ready, and the first one that a round grouped, whose turn is the next one. In the parking forms the step
- * behind it sets the sleeper's own wakeup word, so it is woken after that one too. */
+ * behind it sets the sleeper's own wakeup word, so it is woken after that one too. Where the one that was made ready still slept although
+ * turns are fast, the one behind it is woken too, since the head comes too late to do so. */
 static inline void shfl_call(struct shfl_pass *pass, struct shfl_calls *calls, struct shfl_watch watch) {
-    if (calls->last.kind >= 2) shfl_ring(&shfl_place_of(pass->parking, calls->last.whom)->asleep);
+    struct shfl_parking *parking = pass->parking;
+    if (calls->last.kind >= 2) shfl_ring(&shfl_place_of(parking, calls->last.whom)->asleep);
     bool calls_it = watch.kind == 3 || (watch.kind == 2 && !calls->grouped);
-    if (calls_it) shfl_ring(&shfl_place_of(pass->parking, watch.whom)->asleep);
+    bool slept = calls_it && shfl_ring(&shfl_place_of(parking, watch.whom)->asleep);
+    if (watch.kind == 3 && shfl_turns_are_fast(parking)) {
+        if (slept) shfl_wake_ahead(parking, watch.whom, 1);
+        pass->successor = watch.whom + 1;
+        pass->shuffler = calls->grouped ? calls->batch.last + 1 : 0;
+    }
     calls->last = watch;
     if (!calls_it) calls->last.kind = 0;
-    if (watch.kind == 2) calls->grouped = true;
-    if (watch.kind == 1) calls->grouped = false;
+    if (watch.kind == 2) {
+        if (!calls->grouped) calls->batch.last = calls->batch.at = pass->me;
+        shfl_move_behind(parking, &calls->batch, watch.whom);
+        calls->grouped = true;
+    }
+    if (watch.kind == 1) {
+        if (calls->grouped) shfl_ring(&shfl_place_of(parking, calls->batch.last)->asleep);
+        calls->grouped = false;
+    }
 }
 
 /* Steps until the pass holds the lock and owes no step, answering by the attached policy. The pass has acquired. */
 static inline void shfl_drive_by(struct shfl_pass *pass, bool yields) {
     struct shfl_looks looks = {NULL, 0, 0, 0, yields};
-    struct shfl_calls calls = {{0, 0}, false};
+    struct shfl_calls calls = {{0, 0}, false, {0, 0}};
     struct shfl_watch watch = shfl_watch(pass);
     for (;;) {
         uint8_t outcome = shfl_advance(pass, pass->attached && shfl_answer(pass));
@@ -118,6 +140,7 @@ static inline void shfl_drive_by(struct shfl_pass *pass, bool yields) {
             continue;
         }
         if (outcome == SHFL_WENT_ON) shfl_went_on(pass, &looks);
+        if (watch.kind == 2) looks.rounds = 0;
         shfl_call(pass, &calls, watch);
         if (outcome == SHFL_RESTS) break;
         watch = shfl_watch(pass);
@@ -144,7 +167,9 @@ static inline void shfl_wait_in_queue(struct shfl_waiter *waiter, bool yields) {
     uint32_t *queued = &waiter->pass->parking->queued;
     shfl_go_inside(waiter);
     __atomic_fetch_add(queued, 1, __ATOMIC_SEQ_CST);
+    shfl_stand_behind(waiter->pass);
     shfl_queue(waiter->pass, waiter->shared, yields);
+    shfl_count_turn(waiter->pass->parking);
     __atomic_fetch_sub(queued, 1, __ATOMIC_SEQ_CST);
 }
 

@@ -1,7 +1,7 @@
 #!/usr/bin/env bash
 # Runs each command that a document shows in an indented block, `    $ COMMAND`, at the top of the repository, and compares
 # what it writes on both streams with the lines under it; a last line `status N` says its status, which else is 0. With no
-# words it takes every document of docs/ and the README.
+# words it takes every document of docs/ and the README. What stands behind `%` in place of `$` wants a program that runs, and is left to tests/tool.sh.
 set -u
 top="$(cd "$(dirname "$(readlink -f "${BASH_SOURCE[0]}")")/.." && pwd)"
 cd "$top" || exit 1

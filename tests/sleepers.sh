@@ -6,8 +6,7 @@ set -u
 top="$(cd "$(dirname "$(readlink -f "${BASH_SOURCE[0]}")")/.." && pwd)"
 room="$(mktemp -d)"
 trap 'rm -rf "$room"' EXIT
-. "$top/tests/cell-program.sh"
-program="$(cell_program "$top" "$room" shfl_cell "$top/tests/sleepers.rt.txt")" || exit 1
+program="$(python3 -B "$top/bin/programs.py" "$room" sleepers)" || exit 1
 
 # the processor time of a process, in hundredths of a second
 used() { awk '{ sub(/^.*\) /, ""); print $12 + $13 }' "/proc/$1/stat"; }

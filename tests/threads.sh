@@ -8,9 +8,8 @@ repeats="${1:-10}"
 seconds="${2:-300}"
 room="$(mktemp -d)"
 trap 'rm -rf "$room"' EXIT
-. "$top/tests/cell-program.sh"
-writers="$(cell_program "$top" "$room" shfl_cell "$top/tests/threads.rt.txt" work)" || exit 1
-readers="$(cell_program "$top" "$room" rw_cell "$top/tests/rw-threads.rt.txt" work)" || exit 1
+writers="$(python3 -B "$top/bin/programs.py" "$room" threads)" || exit 1
+readers="$(python3 -B "$top/bin/programs.py" "$room" rw_threads)" || exit 1
 wanted() { for form; do for policy in Never Always Socket Program; do echo "$form $policy whole"; done; done; }
 wanted Spin Park >"$room/wanted.writers"
 wanted Rw RwPark >"$room/wanted.readers"

@@ -16,8 +16,10 @@ static const char by_socket[] = "61120000000000006111040000000000b70000000100000
 
 static struct shfl_pass passes[PASSES];
 static _Atomic int vain[PASSES], head_vain, alone, given_away_holding, slept_through;
+static _Atomic uint64_t ready_at[PASSES]; /* when its turn came */
 static __thread uint8_t last = SHFL_WENT_ON;
-static __thread bool acquiring, overslept;
+static __thread bool acquiring;
+static __thread uint64_t overslept; /* until when it slept, where nobody woke it in all that time */
 static int failed;
 
 static void expect(bool right, const char *what, int form) {
@@ -29,14 +31,17 @@ static void expect(bool right, const char *what, int form) {
 uint8_t __real_shfl_advance(struct shfl_pass *pass, bool choice);
 uint8_t __wrap_shfl_advance(struct shfl_pass *pass, bool choice) {
     acquiring = true;
+    struct shfl_watch next = shfl_watch(pass);
+    if (next.kind == 3) ready_at[next.whom] = shfl_clock();
     last = __real_shfl_advance(pass, choice);
     if (last == SHFL_IN_VAIN || last == SHFL_IN_VAIN_OPEN) {
         vain[pass->me]++;
         if (shfl_watch(pass).kind != 1) head_vain++;
     }
     if (last == SHFL_GROUPED_NOBODY) alone++;
-    if (overslept && last == SHFL_WENT_ON) slept_through++;
-    overslept = false;
+    /* that its turn comes just as its sleep is over is no fault: the one that wakes it may be late */
+    if (overslept && last == SHFL_WENT_ON && ready_at[pass->me] && overslept > ready_at[pass->me] + 50000000) slept_through++;
+    overslept = 0;
     if (last == SHFL_RESTS) acquiring = false;
     return last;
 }
@@ -63,18 +68,21 @@ long __wrap_syscall(long number, ...) {
     va_end(words);
     if (call == FUTEX_WAIT_PRIVATE) gives_away();
     long told = __real_syscall(number, word, call, value, most, NULL, 0);
-    overslept = call == FUTEX_WAIT_PRIVATE && told != 0 && errno == ETIMEDOUT && most->tv_nsec >= 100000000;
+    bool over = call == FUTEX_WAIT_PRIVATE && told != 0 && errno == ETIMEDOUT && most->tv_nsec >= 100000000;
+    overslept = over ? shfl_clock() : 0;
     return told;
 }
 
-static void open_all(int form) {
+static void open_all_by(int form, uint16_t limit) {
     static const uint16_t sockets[PASSES] = {0, 1, 0, 1, 0, 1, 0};
     uint64_t attrs[PASSES];
     for (int k = 0; k < PASSES; k++) attrs[k] = shfl_attr(sockets[k], 0, 0, 0);
-    if (!shfl_open(attrs, PASSES, (uint8_t)form, 1024, passes, PASSES)) exit(2);
-    for (int k = 0; k < PASSES; k++) vain[k] = 0;
+    if (!shfl_open(attrs, PASSES, (uint8_t)form, limit, passes, PASSES)) exit(2);
+    for (int k = 0; k < PASSES; k++) vain[k] = 0, ready_at[k] = 0;
     head_vain = alone = 0;
 }
+
+static void open_all(int form) { open_all_by(form, 1024); }
 
 static void close_all(void) {
     for (int k = 0; k < PASSES; k++) shfl_close(&passes[k]);
@@ -114,8 +122,9 @@ static void head_is_first(int form) {
 
 static _Atomic int gains;
 static int order[THREADS];
+static uint32_t hints[THREADS];
 
-/* Holds until the next head has looked in vain, which it does after its round. */
+/* Holds until the next head has looked in vain, which it does after its round. Then the hints of the waking ahead say who comes next. */
 static void *take_turn(void *arg) {
     struct shfl_pass *pass = arg;
     shfl_lock(pass);
@@ -123,6 +132,7 @@ static void *take_turn(void *arg) {
     int seen = head_vain;
     if (++gains < THREADS) {
         while (head_vain == seen) usleep(100);
+        hints[gains - 1] = shfl_load(shfl_behind(pass->parking, pass->me));
     }
     shfl_unlock(pass);
     return NULL;
@@ -161,9 +171,11 @@ static void expect_order(const char *right, int form) {
     for (int k = 0; k < THREADS; k++) got[k] = (char)('0' + order[k]);
     expect(memcmp(got, right, THREADS) == 0, right, form);
     if (memcmp(got, right, THREADS) != 0) printf("waits: the order was %s\n", got);
+    for (int k = 0; k + 1 < THREADS; k++) expect(hints[k] == (uint32_t)order[k + 1] + 1, "a hint names another than the next one", form);
 }
 
-/* First in, first out without a policy; by socket with one: the second pass moves the fourth before the third, and never the last. */
+/* First in, first out without a policy, and with one under the limit 1; else by socket: the second pass moves the fourth before the third,
+ * and never the last. */
 static void orders(int form) {
     open_all(form);
     for (int k = 0; k < PASSES; k++) shfl_queue_when(&passes[k], SHFL_QUEUE, 0);
@@ -177,6 +189,11 @@ static void orders(int form) {
         queue_all();
         expect_order("013245", form);
     }
+    close_all();
+    open_all_by(form, 1);
+    attach_all(by_socket);
+    queue_all();
+    expect_order("012345", form);
     close_all();
 }
 

@@ -7,7 +7,7 @@ use Rattle.shfl_line.specs.declared.words.Attr.{Attr}
 use Rattle.shfl_cell.specs.Cells.{CellModel, CellPassModel, fresh, no_attr, number}
 use Rattle.call_queue.specs.Rule.{whole}
 use Rattle.call_queue.specs.Queues.{QueueModel, IsFresh}
-use Rattle.call_pool.specs.Pools.{PoolPassModel, IsPassOf, IsUnused, FirstHasTheRest}
+use Rattle.call_pool.specs.Pools.{PoolPassModel, IsPassOf, IsUnused, HaveAttrs, FirstHasTheRest}
 use Rattle.call_pool.proofs.Takings.{unused_own}
 
 module _ {C : Type 0} (queue : QueueModel C) (cell : CellModel) (attrs : List Attr) (counts : List ℕ) (passes : List (PoolPassModel C)) (cells : List CellPassModel)
@@ -30,6 +30,9 @@ module _ {C : Type 0} (queue : QueueModel C) (cell : CellModel) (attrs : List At
     (takers k d below).ended,
     ap (λ (p : CellPassModel). p.seen) (cell_at k d below),
   )
+
+  pub all_attrs : HaveAttrs attrs passes
+  all_attrs k d below = ap (λ (p : CellPassModel). p.attr) (cell_at k d below)
 
   pub all_own : (call_numbers : C → List ℕ) (admits : List ℕ → List ℕ → Type 0) → ((k : ℕ) → k < length counts → slice_index counts k ≡ length queue.calls)
       → All (λ c. admits cell.opening (call_numbers c)) queue.calls → All (IsPassOf call_numbers admits (record { queue = queue; cell = cell })) passes

@@ -7,7 +7,8 @@ use Rattle.hist_log.specs.PoolHistories.{AreRising}
 use Rattle.call_queue.specs.Rule.{whole}
 use Rattle.call_queue.specs.Queues.{QueueModel, TakerModel, IsFresh}
 use Rattle.shfl_table.specs.Histories.{actions_by}
-use Rattle.shfl_cell.specs.Cells.{CellModel, CellPassModel, MakesCall, number}
+use Rattle.shfl_line.specs.declared.words.Attr.{Attr}
+use Rattle.shfl_cell.specs.Cells.{CellModel, CellPassModel, MakesCall, number, no_attr}
 
 -- a pool: its queue of calls, and its cell
 pub record PoolModel (C : Type 0) : Type 0 where
@@ -39,6 +40,10 @@ module _ {C : Type 0} where
   -- a pass that took nothing yet
   abbrev pub IsUnused : PoolPassModel C → Type 0
   IsUnused pass = (pass.taker.taken ≡ []) × (pass.taker.ended ≡ false) × (pass.cell.seen ≡ [])
+
+  -- each pass has the attributes of its place
+  abbrev pub HaveAttrs : List Attr → List (PoolPassModel C) → Type 0
+  HaveAttrs attrs passes = (k : ℕ) (d : PoolPassModel C) → k < length passes → (slice_index_or passes k d).cell.attr ≡ slice_index_or attrs k no_attr
 
   -- these passes have a fresh taker each, and these of the cell in their order
   abbrev pub ArePaired : QueueModel C → List CellPassModel → List (PoolPassModel C) → Type 0

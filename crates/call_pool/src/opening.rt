@@ -2,7 +2,7 @@
 ghost use Rattle.std.specs.Prelude.{◌≡◌, ◌+◌, ◌*◌, ◌<◌, ◌≤◌, ◌++◌, List, All, length, map, vec_len, vec_capacity, IfOk, OnOk};
 ghost use Rattle.shfl_cell.specs.Cells.{AreInOrder};
 ghost use Rattle.call_queue.specs.Queues.{IsFresh, LastHasTheRest};
-ghost use Rattle.call_pool.specs.Pools.{IsPassOf, IsUnused, FirstHasTheRest, ArePaired};
+ghost use Rattle.call_pool.specs.Pools.{IsPassOf, IsUnused, HaveAttrs, FirstHasTheRest, ArePaired};
 
 use crate::pool::{MOST, Pool, PoolOf, PoolPass, PoolPassOf};
 use call_queue::{CallQueue, Taker};
@@ -95,6 +95,7 @@ impl<O: Object + Drop> PoolOf<O::Call, Book<Numbered<O>>> {
         ensures passes { IfOk result (λ r.
             All (IsPassOf O.call_numbers O.admits r.0) r.1.items) }
         ensures unused { IfOk result (λ r. All IsUnused r.1.items) }
+        ensures attrs { IfOk result (λ r. HaveAttrs attrs.now r.1.items) }
         ensures in_order { IfOk result (λ r. AreInOrder (map (λ p. p.cell) r.1.items)) }
     {
         let each = calls.len() as u32;

@@ -2,14 +2,14 @@
 use Rattle.std.proofs.Common.{◌≡◌, ◌≢◌, ℕ, zero, suc, ◌+◌, ◌<◌, ◌≤◌, ◌==◌, ◌||◌, cond, Bool, true, false, List, [], ◌∷◌, ◌++◌, length, sym, refl, ap, ◌∙◌, inl, inr, arith, slice_get, get_or, take, Some, None, Option, eq-eqb, ne_eqb, append_assoc, append-nil}
 use Rattle.std.specs.List.{count_by, All}
 use Rattle.std.proofs.lemmas.List.Elements.{All-nil, All-cons}
-use Rattle.std.proofs.lemmas.List.Sums.{sum_by-cons}
+use Rattle.std.proofs.lemmas.List.Sums.{sum_by-cons, sum_by-append}
 use mathlib.Core.Logic.{dite}
 use mathlib.Core.Bool.{false≢true}
 use native.Mathlib.Decide.{ℕ_discrete}
 use Rattle.hist_log.specs.declared.numbered.NumberedCall.{NumberedCall}
 use Rattle.call_queue.specs.declared.rule.Ticket.{Ticket}
 use Rattle.call_queue.specs.declared.rule.Share.{Share}
-use Rattle.call_queue.specs.Tickets.{calls_from, ends_from, tickets_of, call_at, calls_in, bare, is_end, has_end, AreWhole}
+use Rattle.call_queue.specs.Tickets.{calls_from, ends_from, tickets_of, call_at, calls_in, bare, is_end, ends_in, has_end, AreWhole}
 use Rattle.call_queue.specs.Rule.{IsOneOf, weigh, HasTakenAll}
 use Rattle.call_queue.proofs.Weights.{weigh-append}
 
@@ -20,6 +20,10 @@ either_assoc false b c = refl
 pub length-ends_from : (C : Type 0) (at n : ℕ) → length (ends_from {C = C} at n) ≡ n
 length-ends_from C at zero = refl
 length-ends_from C at (suc n) = ap suc (length-ends_from C (suc at) n)
+
+ends-ends_from : (C : Type 0) (at n : ℕ) → ends_in {C = C} (ends_from at n) ≡ n
+ends-ends_from C at zero = refl
+ends-ends_from C at (suc n) = let r = ends-ends_from C (suc at) n in let one = sum_by-cons (λ (t : Ticket C). cond (is_end t.call) 1 0) (record { at = at; call = None }) (ends_from (suc at) n) in omega arith
 
 either_neither : (a : Bool) → (a || false) ≡ a
 either_neither true = refl
@@ -90,6 +94,16 @@ module _ {C : Type 0} where
 
   pub tickets-whole : (cs : List C) (n : ℕ) → AreWhole (tickets_of cs n)
   tickets-whole cs n = (n, ap (λ l. tickets_of l n) (sym (bare-tickets_of cs n)))
+
+  -- ---- the ends are counted
+
+  ends-calls_from : (at : ℕ) (cs : List C) → ends_in (calls_from at cs) ≡ 0
+  ends-calls_from at [] = refl
+  ends-calls_from at (c ∷ cs) = let r = ends-calls_from (suc at) cs in let one = sum_by-cons (λ (t : Ticket C). cond (is_end t.call) 1 0) (record { at = at; call = Some c }) (calls_from (suc at) cs) in omega arith
+
+  pub ends-tickets_of : (cs : List C) (n : ℕ) → ends_in (tickets_of cs n) ≡ n
+  ends-tickets_of cs n = let both = sum_by-append (λ (t : Ticket C). cond (is_end t.call) 1 0) (calls_from 0 cs) (ends_from (length cs) n) in
+      let a = ends-calls_from 0 cs in let b = ends-ends_from C (length cs) n in omega arith
 
   -- ---- what stands at a place
 

@@ -4,10 +4,11 @@ use Rattle.atomic_table.specs.Seated.{TableId}
 use Rattle.hist_log.specs.declared.numbered.NumberedCall.{NumberedCall}
 use Rattle.call_queue.specs.Rule.{whole}
 
--- a queue: which one it is, the calls that it was filled with, and how many takers it has
+-- a queue: which one it is, the calls that it was filled with, how many ends stand behind them, and how many takers it has
 pub record QueueModel (C : Type 0) : Type 0 where
   pub id : TableId
   pub calls : List C
+  pub ends : ℕ
   pub takers : ℕ
 
 -- a taker: its queue, the calls that this was filled with, how many parts of the right to know who took what it has, what it

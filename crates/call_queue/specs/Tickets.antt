@@ -1,5 +1,5 @@
 -- The tickets of a list of calls, and the calls of a list of tickets.
-use Rattle.std.specs.Prelude.{◌≡◌, ℕ, zero, suc, List, [], ◌∷◌, ◌++◌, map, length, Option, Some, None, Bool, true, false, ◌||◌}
+use Rattle.std.specs.Prelude.{◌≡◌, ℕ, zero, suc, List, [], ◌∷◌, ◌++◌, map, length, Option, Some, None, Bool, true, false, ◌||◌, count_by}
 use Rattle.hist_log.specs.declared.numbered.NumberedCall.{NumberedCall}
 use Rattle.call_queue.specs.declared.rule.Ticket.{Ticket}
 
@@ -34,6 +34,10 @@ module _ {C : Type 0} where
   abbrev pub is_end : Option C → Bool
   is_end None = true
   is_end (Some call) = false
+
+  -- how many of the tickets are ends
+  abbrev pub ends_in : List (Ticket C) → ℕ
+  ends_in = count_by (λ t. is_end t.call)
 
   -- an end is among the tickets
   abbrev pub has_end : List (Ticket C) → Bool

@@ -128,6 +128,7 @@ impl<C: Copy> CallQueue<C> {
         requires few { length calls.now ≤ 4096 }
         requires takers { (0 < takers) × (takers ≤ 64) }
         ensures queue { IfOk result (λ r. (r.0.calls ≡ calls.now) × (r.0.takers ≡ takers)) }
+        ensures ends { IfOk result (λ r. r.0.ends ≡ takers) }
         ensures count { IfOk result (λ r. vec_len r.1 ≡ takers) }
         ensures rest { IfOk result (λ r. LastHasTheRest r.1.items) }
         ensures fresh { IfOk result (λ r. All (IsFresh r.0.id r.0.calls) r.1.items) }

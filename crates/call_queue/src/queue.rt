@@ -23,13 +23,14 @@ pub struct CallQueue<C: Copy> {
 impl<C: Copy> Model for CallQueue<C> {
     ghost use Rattle.crossbeam_queue.specs.Passes.{view as share_of};
     ghost use Rattle.call_queue.specs.Queues.{QueueModel};
-    ghost use Rattle.call_queue.specs.Tickets.{bare, calls_in};
+    ghost use Rattle.call_queue.specs.Tickets.{bare, calls_in, ends_in};
 
     ghost Value = { QueueModel C };
 
     ghost view = { λ q. record {
       id = q.line.table.shared.table_id;
       calls = bare (calls_in (share_of q.filled.value).all);
+      ends = ends_in (share_of q.filled.value).all;
       takers = q.takers;
     } };
 }

@@ -12,11 +12,15 @@ mod line;
 #[cfg(test)]
 mod pool;
 #[cfg(test)]
+mod reached;
+#[cfg(test)]
 mod replay;
 #[cfg(test)]
 mod serial;
 #[cfg(test)]
 mod shards;
+#[cfg(test)]
+mod takers;
 #[cfg(test)]
 mod threads;
 #[cfg(test)]

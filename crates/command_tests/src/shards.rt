@@ -1,5 +1,7 @@
 //! Traces that are run by threads with a lock for each directory.
-use crate::threads::{FOUR_WORKERS, wait_for, workers_of};
+use crate::threads::{
+    ATTACHED, FOUR_WORKERS, GROUPED, check_order, queue_gate, wait_for, workers_of,
+};
 use dir_table::DirReply;
 use shfl_workers::{Outcome, run_shards};
 use std::alloc::Global;
@@ -10,16 +12,25 @@ use std::thread::Threads;
 use syn_outer::{Gate, OpenGate, Point};
 use trace_text::read_trace;
 
-// Two workers, each of whom makes a name in a directory of its own.
-const TWO_SHARDS: &[u8] =
+/// Two workers, each of whom makes a name in a directory of its own.
+pub(crate) const TWO_SHARDS: &[u8] =
     b"syncord-trace 1\nworker 0 0 0 0\nworker 0 0 0 0\npolicy none - -\ncalls\n0 make 0 a\n1 make 1 a\n";
 
 /// Lets worker 0 hold its directory's lock until worker 1 has made its call in the other directory.
 #[derive(Drop)]
-struct ShardGate {
+pub(crate) struct ShardGate {
     held: AtomicU64,
     made: AtomicU64,
-    gave_up: AtomicU64,
+    pub(crate) gave_up: AtomicU64,
+}
+
+/// A gate at which nobody has been yet.
+pub(crate) fn shard_gate() -> ShardGate {
+    ShardGate {
+        held: AtomicU64::new(0),
+        made: AtomicU64::new(0),
+        gave_up: AtomicU64::new(0),
+    }
 }
 
 impl Gate for ShardGate {
@@ -49,11 +60,7 @@ fn run_text<G: Gate + Sync, R: Threads + Wait + Sync>(
 
 #[test]
 fn two_shards(rt: HostRuntime) -> Result<(), Fail> {
-    let gate = ShardGate {
-        held: AtomicU64::new(0),
-        made: AtomicU64::new(0),
-        gave_up: AtomicU64::new(0),
-    };
+    let gate = shard_gate();
     let outcome = run_text(&rt, rt.alloc(), TWO_SHARDS, &gate)?;
     let workers = workers_of(rt.alloc(), &outcome)?;
     assert_eq!(&rt; gate.gave_up.load(Ordering::SeqCst), 0);
@@ -71,4 +78,19 @@ fn four_workers_share_shards(rt: HostRuntime) -> Result<(), Fail> {
     assert_eq!(&rt; outcome.dir.count(5), DirReply::Number(1));
     assert_eq!(&rt; outcome.dir.count(6), DirReply::Number(0));
     Ok(())
+}
+
+// Each worker's own attributes are asked about, and the policy is the trace's.
+#[test]
+fn grouped_order_in_a_shard(rt: HostRuntime) -> Result<(), Fail> {
+    let gate = queue_gate();
+    let outcome = run_text(&rt, rt.alloc(), GROUPED, &gate)?;
+    check_order(&rt, rt.alloc(), &gate, &outcome, &[])
+}
+
+#[test]
+fn attached_order_in_a_shard(rt: HostRuntime) -> Result<(), Fail> {
+    let gate = queue_gate();
+    let outcome = run_text(&rt, rt.alloc(), ATTACHED, &gate)?;
+    check_order(&rt, rt.alloc(), &gate, &outcome, &[(1, 1)])
 }

@@ -15,28 +15,29 @@ use trace_text::read_trace;
 // How often a test looks at its counters before it gives up.
 const LOOKS: u64 = 100_000_000;
 
-// Five workers on the sockets 0, 0, 1, 0 and 1; the first policy prefers waiters of the own socket.
-const GROUPED: &[u8] =
-    b"syncord-trace 1\nworker 0 0 0 0\nworker 0 0 0 0\nworker 1 0 0 0\nworker 0 0 0 0\nworker 1 0 0 0\npolicy socket 61120000000000006111040000000000b7000000010000001d21010000000000b7000000000000009500000000000000 -\ncalls\n0 make 0 a\n1 make 1 a\n2 make 2 a\n3 make 3 a\n4 make 4 a\n";
+/// Five workers on the sockets 0, 0, 1, 0 and 1, who call one directory; the first policy prefers waiters of the own socket, and the last
+/// one nobody.
+pub(crate) const GROUPED: &[u8] =
+    b"syncord-trace 1\nworker 0 0 0 0\nworker 0 0 0 0\nworker 1 0 0 0\nworker 0 0 0 0\nworker 1 0 0 0\npolicy socket 61120000000000006111040000000000b7000000010000001d21010000000000b7000000000000009500000000000000 -\npolicy none - -\ncalls\n0 make 0 a\n1 make 0 b\n2 make 0 c\n3 make 0 d\n4 make 0 e\n";
 
-// The same with that policy attached by worker 0, before its call.
-const ATTACHED: &[u8] =
-    b"syncord-trace 1\nworker 0 0 0 0\nworker 0 0 0 0\nworker 1 0 0 0\nworker 0 0 0 0\nworker 1 0 0 0\npolicy none - -\npolicy socket 61120000000000006111040000000000b7000000010000001d21010000000000b7000000000000009500000000000000 -\ncalls\n0 attach socket\n0 make 0 a\n1 make 1 a\n2 make 2 a\n3 make 3 a\n4 make 4 a\n";
+/// The same with that policy attached by worker 0, before its call.
+pub(crate) const ATTACHED: &[u8] =
+    b"syncord-trace 1\nworker 0 0 0 0\nworker 0 0 0 0\nworker 1 0 0 0\nworker 0 0 0 0\nworker 1 0 0 0\npolicy none - -\npolicy socket 61120000000000006111040000000000b7000000010000001d21010000000000b7000000000000009500000000000000 -\ncalls\n0 attach socket\n0 make 0 a\n1 make 0 b\n2 make 0 c\n3 make 0 d\n4 make 0 e\n";
 
 /// Four workers on two sockets, each of whom makes a name, looks for it and counts; worker 3 drops what it made.
 pub(crate) const FOUR_WORKERS: &[u8] =
     b"syncord-trace 1\nworker 0 0 0 0\nworker 0 0 0 0\nworker 1 0 0 0\nworker 1 0 0 0\npolicy none - -\npolicy socket 61120000000000006111040000000000b7000000010000001d21010000000000b7000000000000009500000000000000 -\ncalls\n0 attach socket\n0 make 5 a\n0 find 5 a\n0 attach none\n0 count 5\n1 make 5 a\n1 find 5 a\n1 next 5\n2 make 5 a\n2 find 5 a\n2 count 6\n3 make 6 b\n3 drop 6 b\n3 count 6\n";
 
-// Two workers who look for a name that nobody makes.
-const TWO_READERS: &[u8] =
+/// Two workers who look for a name that nobody makes.
+pub(crate) const TWO_READERS: &[u8] =
     b"syncord-trace 1\nworker 0 0 0 0\nworker 0 0 0 0\npolicy none - -\ncalls\n0 find 0 a\n1 find 0 a\n";
 
 /// Lets worker 0 hold the lock until the others have queued in their order and worker 1 has ended its round.
 #[derive(Drop)]
-struct QueueGate {
+pub(crate) struct QueueGate {
     held: AtomicU64,
     queued: [AtomicU64; 5],
-    gave_up: AtomicU64,
+    pub(crate) gave_up: AtomicU64,
 }
 
 /// Waits until the counter is that high, or until someone gave up.
@@ -89,7 +90,8 @@ impl Gate for QueueGate {
     }
 }
 
-fn queue_gate() -> QueueGate {
+/// A gate at which nobody has been yet.
+pub(crate) fn queue_gate() -> QueueGate {
     QueueGate {
         held: AtomicU64::new(0),
         queued: [
@@ -134,8 +136,8 @@ pub(crate) fn workers_of(alloc: Global, outcome: &Outcome) -> Result<Vec<u32>, F
     Ok(workers)
 }
 
-// Nobody gave up, the queue was ordered by the policy that prefers the own socket, and so much was published.
-fn check_order<R: Abort>(
+/// Nobody gave up, the queue was ordered by the policy that prefers the own socket, and so much was published.
+pub(crate) fn check_order<R: Abort>(
     rt: &R,
     alloc: Global,
     gate: &QueueGate,
@@ -179,9 +181,17 @@ fn attached_order_on_copies(rt: HostRuntime) -> Result<(), Fail> {
 
 /// Lets each of two workers hold the lock until the other one holds it too.
 #[derive(Drop)]
-struct ReadersGate {
+pub(crate) struct ReadersGate {
     held: [AtomicU64; 2],
-    gave_up: AtomicU64,
+    pub(crate) gave_up: AtomicU64,
+}
+
+/// A gate at which neither has been yet.
+pub(crate) fn readers_gate() -> ReadersGate {
+    ReadersGate {
+        held: [AtomicU64::new(0), AtomicU64::new(0)],
+        gave_up: AtomicU64::new(0),
+    }
 }
 
 impl Gate for ReadersGate {
@@ -202,10 +212,7 @@ impl Gate for ReadersGate {
 
 #[test]
 fn readers_hold_at_once(rt: HostRuntime) -> Result<(), Fail> {
-    let gate = ReadersGate {
-        held: [AtomicU64::new(0), AtomicU64::new(0)],
-        gave_up: AtomicU64::new(0),
-    };
+    let gate = readers_gate();
     let outcome = run_text(&rt, rt.alloc(), TWO_READERS, &gate)?;
     assert_eq!(&rt; gate.gave_up.load(Ordering::SeqCst), 0);
     assert_eq!(&rt; outcome.history.len(), 2);

@@ -43,6 +43,20 @@ impl Write for Counting<'_> {
     }
 }
 
+/// A writer of std that takes all, and can't be flushed.
+#[derive(Drop)]
+struct Unflushed;
+
+impl Write for Unflushed {
+    fn write(&mut self, buf: &[u8]) -> io::Result<usize> {
+        Ok(buf.len())
+    }
+
+    fn flush(&mut self) -> io::Result<()> {
+        Err(io::Error::from(io::ErrorKind::BrokenPipe))
+    }
+}
+
 fn pass_all<Rt: Wait, G: Gate + Sync>(rt: &Rt, gate: &G) {
     for point in [
         Point::BeforeCall,
@@ -162,6 +176,15 @@ fn a_sink_is_offered_all_that_is_left_and_flushed_after_each_write(rt: HostRunti
     drop(out);
     assert_eq!(rt; writes, 3);
     assert_eq!(rt; flushes, 3);
+}
+
+#[test]
+fn a_flush_that_fails_is_a_fault(rt: HostRuntime) {
+    let mut out = StdSink::new(Unflushed);
+    assert_eq!(rt;
+        write_all(&mut out, b"twelve bytes").err(),
+        Some(WriteFault { written: 0 })
+    );
 }
 
 #[test]

@@ -67,7 +67,12 @@ fn wins(ticket: &mut Ticket) -> bool {
 
 /// The first holds the lock, and the others are queued behind it. A round doesn't ask about the queue's end.
 fn queued(alloc: Global, form: Form) -> Result<Four, Fail> {
-    let mut tickets = open_four(alloc, form, [0; 4])?;
+    queued_on(alloc, form, [0; 4])
+}
+
+/// The same, with the passes on these sockets.
+fn queued_on(alloc: Global, form: Form, sockets: [u64; 4]) -> Result<Four, Fail> {
+    let mut tickets = open_four(alloc, form, sockets)?;
     let _ = enters(&mut tickets.first);
     let _ = tickets.second.acquire(Mode::Write);
     steps(&mut tickets.second, 4);
@@ -172,6 +177,31 @@ fn a_pass_answers_by_the_policy_attached_last(rt: HostRuntime) -> Result<(), Fai
     assert!(rt; attached.is_ok() && replaced.is_ok());
     let yes = says_yes(&mut alone.second, 40);
     assert!(rt; !yes);
+    Ok(())
+}
+
+/// Whether the second pass, on one socket, moves up the third, on another, or on the same.
+fn groups_the_third(alloc: Global, sockets: [u64; 4]) -> Result<bool, Fail> {
+    let mut tickets = queued_on(alloc, Form::Spin, sockets)?;
+    let attached = tickets
+        .second
+        .attach(alloc, Profile::One, &SAME_SOCKET, &[]);
+    if attached.is_err() {
+        return Err("no policy")?;
+    }
+    Ok(says_yes(&mut tickets.second, 40))
+}
+
+#[test]
+fn a_waiter_is_moved_up_where_its_own_socket_is_that_of_the_pass_that_asks(
+    rt: HostRuntime,
+) -> Result<(), Fail> {
+    let alloc = rt.alloc();
+    let near = groups_the_third(alloc, [0, 1, 1, 0])?;
+    let far = groups_the_third(alloc, [0, 1, 0, 1])?;
+    let first_socket = groups_the_third(alloc, [1, 0, 0, 1])?;
+    let not_the_first = groups_the_third(alloc, [1, 0, 1, 0])?;
+    assert!(rt; near && !far && first_socket && !not_the_first);
     Ok(())
 }
 

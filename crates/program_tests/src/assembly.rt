@@ -1,6 +1,7 @@
 ghost use Rattle.std.specs.Prelude.{IfOk};
 ghost use Rattle.bpf_isa.specs.WellFormed.{IsWellFormed};
 
+use crate::checks::same;
 use bpf_asm::*;
 use bpf_isa::{AluOp, Cond, Insn, Operand, Profile, Size, Width, encode};
 use std::alloc::Global;
@@ -40,15 +41,19 @@ fn a_policy_assembles_to_its_slots_and_is_listed_again(rt: HostRuntime) -> Resul
     for slot in SAME_SOCKET_SLOTS {
         bytes.extend_from_slice(&slot.to_be_bytes())?;
     }
-    assert_eq!(rt; encode(rt.alloc(), &insns)?, bytes);
-    assert_eq!(rt; disassemble(rt.alloc(), &insns)?.as_slice(), SAME_SOCKET);
+    same(&rt, &encode(rt.alloc(), &insns)?, &bytes);
+    same(
+        &rt,
+        &disassemble(rt.alloc(), &insns)?.as_slice(),
+        &SAME_SOCKET,
+    );
     Ok(())
 }
 
 #[test]
 fn a_name_stands_for_the_offset_to_its_slot(rt: HostRuntime) -> Result<(), Fail> {
     let insns = read(rt.alloc(), Profile::One, SAME_SOCKET_NAMED)?;
-    assert_eq!(rt; insns, read(rt.alloc(), Profile::One, SAME_SOCKET)?);
+    same(&rt, &insns, &read(rt.alloc(), Profile::One, SAME_SOCKET)?);
     Ok(())
 }
 
@@ -58,52 +63,57 @@ fn each_form_is_read(rt: HostRuntime) -> Result<(), Fail> {
         b"arsh32 r9 -1\nneg64 r0\nlddw r1 r2 -32768\nwide r3 18446744073709551615\njal -2147483648\njsle32 r4 -2147483648 32767\n";
     let insns = read(rt.alloc(), Profile::One, text)?;
     let src = Operand::Imm(-1);
-    assert_eq!(rt;
-        insns.get(0).copied(),
-        Some(Insn::Alu {
+    same(
+        &rt,
+        &insns.get(0).copied(),
+        &Some(Insn::Alu {
             width: Width::W32,
             op: AluOp::Arsh,
             dst: 9,
-            src
-        })
+            src,
+        }),
     );
-    assert_eq!(rt;
-        insns.get(2).copied(),
-        Some(Insn::Load {
+    same(
+        &rt,
+        &insns.get(2).copied(),
+        &Some(Insn::Load {
             size: Size::DW,
             dst: 1,
             src: 2,
-            off: -32768
-        })
+            off: -32768,
+        }),
     );
-    assert_eq!(rt;
-        insns.get(3).copied(),
-        Some(Insn::Wide {
+    same(
+        &rt,
+        &insns.get(3).copied(),
+        &Some(Insn::Wide {
             dst: 3,
             low: -1,
-            high: -1
-        })
+            high: -1,
+        }),
     );
-    assert_eq!(rt; insns.get(4).copied(), Some(Insn::Half));
-    assert_eq!(rt;
-        insns.get(5).copied(),
-        Some(Insn::GotoLong { off: -2147483648 })
+    same(&rt, &insns.get(4).copied(), &Some(Insn::Half));
+    same(
+        &rt,
+        &insns.get(5).copied(),
+        &Some(Insn::GotoLong { off: -2147483648 }),
     );
     let src = Operand::Imm(-2147483648);
-    assert_eq!(rt;
-        insns.get(6).copied(),
-        Some(Insn::Jump {
+    same(
+        &rt,
+        &insns.get(6).copied(),
+        &Some(Insn::Jump {
             width: Width::W32,
             cond: Cond::Sle,
             dst: 4,
             src,
-            off: 32767
-        })
+            off: 32767,
+        }),
     );
     let further: &[u8] =
         b"ldsh r0 r1 4\nmovsx64 32 r0 r1\nmovsx32 16 r0 r1\nle 16 r0\nbe 32 r0\nswap 64 r0\n";
     let insns = read(rt.alloc(), Profile::Two, further)?;
-    assert_eq!(rt; disassemble(rt.alloc(), &insns)?.as_slice(), further);
+    same(&rt, &disassemble(rt.alloc(), &insns)?.as_slice(), &further);
     Ok(())
 }
 
@@ -142,7 +152,7 @@ fn the_first_bad_line_is_named_with_its_lowest_fault(rt: HostRuntime) {
     ];
     for (text, line, what) in table {
         let fault = read(rt.alloc(), Profile::One, text).err();
-        assert_eq!(rt; fault, Some(AsmError::Format { line, what }));
+        same(&rt, &fault, &Some(AsmError::Format { line, what }));
     }
 }
 
@@ -152,10 +162,10 @@ fn the_513th_slot_is_one_too_many(rt: HostRuntime) -> Result<(), Fail> {
     for _ in 0..512 {
         text.extend_from_slice(b"exit\n")?;
     }
-    assert_eq!(rt; read(rt.alloc(), Profile::One, &text)?.len(), 512);
+    same(&rt, &read(rt.alloc(), Profile::One, &text)?.len(), &512);
     text.extend_from_slice(b":end\nexit\n")?;
     let fault = read(rt.alloc(), Profile::One, &text).err();
-    assert_eq!(rt; fault, Some(AsmError::Format { line: 514, what: 8 }));
+    same(&rt, &fault, &Some(AsmError::Format { line: 514, what: 8 }));
     Ok(())
 }
 
@@ -168,7 +178,7 @@ fn a_name_too_far_away_goes_before_a_slot_too_many(rt: HostRuntime) -> Result<()
     }
     text.extend_from_slice(b":far\n")?;
     let fault = read(rt.alloc(), Profile::One, &text).err();
-    assert_eq!(rt; fault, Some(AsmError::Format { line: 1, what: 6 }));
+    same(&rt, &fault, &Some(AsmError::Format { line: 1, what: 6 }));
     Ok(())
 }
 
@@ -181,7 +191,7 @@ fn each_fault_is_told(rt: HostRuntime) -> Result<(), Fail> {
     ];
     for (fault, due) in faults {
         let told = format!(in alloc; "{fault}")?;
-        assert_eq!(rt; told.as_str(), due);
+        same(&rt, &told.as_str(), &due);
     }
     Ok(())
 }

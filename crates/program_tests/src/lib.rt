@@ -2,7 +2,11 @@
 #![tactic(auto)]
 
 #[cfg(test)]
+mod assembled;
+#[cfg(test)]
 mod assembly;
+#[cfg(test)]
+mod checks;
 #[cfg(test)]
 mod instructions;
 #[cfg(test)]

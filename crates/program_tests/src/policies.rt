@@ -1,4 +1,5 @@
 //! Policies and what they answer.
+use crate::checks::{holds, same};
 use bpf_isa::{IsaError, Profile};
 use bpf_verifier::Refusal;
 use policy_source::PolicySource;
@@ -74,7 +75,7 @@ fn the_context_has_the_anchor_and_then_the_waiter(rt: HostRuntime) -> Result<(),
         0x02, 0x01, 0, 0, 0x12, 0x11, 0, 0, 0x04, 0x03, 0, 0, 0x14, 0x13, 0, 0, 0x06, 0x05, 0, 0,
         0x16, 0x15, 0, 0, 0x08, 0x07, 0, 0, 0x18, 0x17, 0, 0, 0xff, 0x03, 0, 0, 0, 0, 0, 0,
     ];
-    assert_eq!(rt; context(&anchor, &waiter, 1023), expected);
+    same(&rt, &context(&anchor, &waiter, 1023), &expected);
     Ok(())
 }
 
@@ -82,9 +83,9 @@ fn the_context_has_the_anchor_and_then_the_waiter(rt: HostRuntime) -> Result<(),
 fn a_policy_answers_by_its_program(rt: HostRuntime) -> Result<(), Fail> {
     let policy = loaded(rt.alloc(), program(rt.alloc(), &SAME_SOCKET)?, None)?;
     let mut running = policy.running();
-    assert!(rt; running.should(&attr(5), &attr(5), 1));
-    assert!(rt; !running.should(&attr(5), &attr(6), 1));
-    assert!(rt; !running.skip(&attr(5), 1));
+    holds(&rt, running.should(&attr(5), &attr(5), 1));
+    holds(&rt, !running.should(&attr(5), &attr(6), 1));
+    holds(&rt, !running.skip(&attr(5), 1));
     Ok(())
 }
 
@@ -93,12 +94,12 @@ fn skip_sees_a_waiter_of_zeros(rt: HostRuntime) -> Result<(), Fail> {
     let alloc = rt.alloc();
     let policy = loaded(alloc, None, program(alloc, &WAITER_SOCKET)?)?;
     let mut running = policy.running();
-    assert!(rt; !running.skip(&attr(5), 1));
-    assert!(rt; !running.should(&attr(5), &attr(5), 1));
+    holds(&rt, !running.skip(&attr(5), 1));
+    holds(&rt, !running.should(&attr(5), &attr(5), 1));
     let capped = loaded(alloc, None, program(alloc, &BATCH)?)?;
     let mut asking = capped.running();
-    assert!(rt; asking.skip(&attr(5), 7));
-    assert!(rt; !asking.skip(&attr(5), 0));
+    holds(&rt, asking.skip(&attr(5), 7));
+    holds(&rt, !asking.skip(&attr(5), 0));
     Ok(())
 }
 
@@ -114,24 +115,26 @@ fn the_first_bad_program_is_named(rt: HostRuntime) -> Result<(), Fail> {
     let Err(why) = both else {
         panic!(rt; "a read of no value was accepted")
     };
-    assert_eq!(rt;
-        why,
-        LoadError::Bad {
+    same(
+        &rt,
+        &why,
+        &LoadError::Bad {
             hook: Hook::Should,
-            fault: refused
-        }
+            fault: refused,
+        },
     );
     let second = loaded(alloc, program(alloc, &BATCH)?, program(alloc, &BAD_OPCODE)?);
     let unknown = ProgramFault::Isa(IsaError::BadOpcode { slot: 0 });
     let Err(why) = second else {
         panic!(rt; "an unknown opcode was accepted")
     };
-    assert_eq!(rt;
-        why,
-        LoadError::Bad {
+    same(
+        &rt,
+        &why,
+        &LoadError::Bad {
             hook: Hook::Skip,
-            fault: unknown
-        }
+            fault: unknown,
+        },
     );
     Ok(())
 }
@@ -145,9 +148,9 @@ fn a_copy_is_the_same_policy(rt: HostRuntime) -> Result<(), Fail> {
         program(alloc, &BATCH)?,
     )?;
     let copy = policy.copy(alloc)?;
-    assert!(rt; policy.same(&copy));
+    holds(&rt, policy.same(&copy));
     let other = loaded(alloc, program(alloc, &SAME_SOCKET)?, None)?;
-    assert!(rt; !policy.same(&other));
+    holds(&rt, !policy.same(&other));
     Ok(())
 }
 
@@ -175,7 +178,7 @@ fn each_fault_is_told(rt: HostRuntime) -> Result<(), Fail> {
     ];
     for (fault, due) in faults {
         let told = format!(in alloc; "{fault}")?;
-        assert_eq!(rt; told.as_str(), due);
+        same(&rt, &told.as_str(), &due);
     }
     Ok(())
 }

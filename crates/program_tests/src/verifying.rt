@@ -1,219 +1,147 @@
-//! Programs as their slots, each in the hexadecimal digits of its eight bytes.
+//! Programs, in assembly, and what the verifier says of them.
 
-ghost use Rattle.bpf_isa.specs.WellFormed.{IsWellFormed};
-
-use bpf_isa::{Insn, Profile, decode};
+use crate::assembled::instructions;
+use crate::checks::{holds, same};
 use bpf_verifier::{NoMemory, Refusal, verify};
 use std::alloc::Global;
 use std::process::Abort;
 use std::test::Fail;
 
-const EXIT: u64 = 0x9500000000000000;
-
 /// Whether two sockets are the same, the first two fields of the context.
-const SAME_SOCKET: [u64; 6] = [
-    0x6112000000000000,
-    0x6111040000000000,
-    0xb700000001000000,
-    0x1d21010000000000,
-    0xb700000000000000,
-    EXIT,
-];
+const SAME_SOCKET: &[u8] =
+    b"ldw r2 r1 0\nldw r1 r1 4\nmov64 r0 1\njeq64 r1 r2 1\nmov64 r0 0\nexit\n";
 
-fn instructions(rt: &impl Abort, alloc: Global, profile: Profile, slots: &[u64]) -> Vec<Insn>
-    ensures { IsWellFormed result.items }
-{
-    let mut bytes = Vec::new(alloc);
-    for slot in slots {
-        bytes
-            .extend_from_slice(&slot.to_be_bytes())
-            .expect(rt, "memory");
-    }
-    decode(alloc, profile, bytes.as_slice()).expect(rt, "instructions")
+/// The same with a jump back.
+const LOOPED: &[u8] = b"ldw r2 r1 0\nldw r1 r1 4\nmov64 r0 1\njeq64 r1 r2 -1\nmov64 r0 0\nexit\n";
+
+/// Register 3 has a number on one path, and the pointer on the other.
+const DIFFERS: &[u8] = b"ldw r2 r1 0\nmov64 r3 0\njeq64 r2 0 1\nmov64 r3 r1\nmov64 r0 r3\nexit\n";
+
+/// The program is accepted, and has so many slots.
+fn is_accepted(rt: &impl Abort, alloc: Global, text: &[u8], slots: u32) {
+    let program = verify(alloc, instructions(rt, alloc, text)).expect(rt, "accepted");
+    same(rt, &program.slots(), &slots);
 }
 
-fn verdict(rt: &impl Abort, alloc: Global, slots: &[u64]) -> Result<u32, Refusal> {
-    Ok(verify(alloc, instructions(rt, alloc, Profile::Two, slots))?.slots())
+/// The program is refused so.
+fn is_refused(rt: &impl Abort, alloc: Global, text: &[u8], refusal: Refusal) {
+    match verify(alloc, instructions(rt, alloc, text)) {
+        Ok(_) => holds(rt, false),
+        Err(why) => same(rt, &why, &refusal),
+    }
 }
 
 #[test]
-fn the_socket_program_is_accepted(rt: HostRuntime) -> Result<(), Fail> {
-    let insns = instructions(&rt, rt.alloc(), Profile::One, &SAME_SOCKET);
-    let program = verify(rt.alloc(), insns)?;
-    assert_eq!(rt; program.slots(), 6);
-    let again = program.copy(rt.alloc())?;
-    assert_eq!(rt; again.insns(), program.insns());
-    Ok(())
+fn the_socket_program_is_accepted(rt: HostRuntime) {
+    let alloc = rt.alloc();
+    is_accepted(&rt, alloc, SAME_SOCKET, 6);
+    let program = verify(alloc, instructions(&rt, alloc, SAME_SOCKET)).expect(&rt, "accepted");
+    let again = program.copy(alloc).expect(&rt, "memory");
+    same(&rt, &again.insns(), &program.insns());
 }
 
 #[test]
 fn jumps_lead_forward_and_stay_inside(rt: HostRuntime) {
-    let mut looped = SAME_SOCKET;
-    looped[3] = 0x1d21ffff00000000;
-    assert_eq!(rt;
-        verdict(&rt, rt.alloc(), &looped),
-        Err(Refusal::Back { slot: 3 })
-    );
-    let no_exit = [0xb700000000000000];
-    assert_eq!(rt;
-        verdict(&rt, rt.alloc(), &no_exit),
-        Err(Refusal::OutOfProgram { slot: 0 })
-    );
+    let alloc = rt.alloc();
+    is_refused(&rt, alloc, LOOPED, Refusal::Back { slot: 3 });
+    let outside = Refusal::OutOfProgram { slot: 0 };
+    is_refused(&rt, alloc, b"mov64 r0 0\n", outside);
     // 65,536 slots, of which the low 16 bits are 0
-    let long_jump = [0x0600000000000100, EXIT];
-    assert_eq!(rt;
-        verdict(&rt, rt.alloc(), &long_jump),
-        Err(Refusal::OutOfProgram { slot: 0 })
-    );
+    is_refused(&rt, alloc, b"jal 65536\nexit\n", outside);
 }
 
 #[test]
 fn a_register_is_read_only_where_it_has_a_value(rt: HostRuntime) {
-    let unset = [0xbf20000000000000, EXIT];
-    assert_eq!(rt;
-        verdict(&rt, rt.alloc(), &unset),
-        Err(Refusal::NoValue { slot: 0, reg: 2 })
-    );
-    let two_unset = [0x0f23000000000000, EXIT];
-    assert_eq!(rt;
-        verdict(&rt, rt.alloc(), &two_unset),
-        Err(Refusal::NoValue { slot: 0, reg: 2 })
-    );
-    // a number on one path, the pointer on the other
-    let differs = [
-        0x6112000000000000,
-        0xb703000000000000,
-        0x1502010000000000,
-        0xbf13000000000000,
-        0xbf30000000000000,
-        EXIT,
-    ];
-    assert_eq!(rt;
-        verdict(&rt, rt.alloc(), &differs),
-        Err(Refusal::NoValue { slot: 4, reg: 3 })
-    );
-    let extended = [0xbf00080000000000, EXIT];
-    assert_eq!(rt;
-        verdict(&rt, rt.alloc(), &extended),
-        Err(Refusal::NoValue { slot: 0, reg: 0 })
-    );
+    let alloc = rt.alloc();
+    let second = Refusal::NoValue { slot: 0, reg: 2 };
+    is_refused(&rt, alloc, b"mov64 r0 r2\nexit\n", second);
+    is_refused(&rt, alloc, b"add64 r3 r2\nexit\n", second);
+    is_refused(&rt, alloc, DIFFERS, Refusal::NoValue { slot: 4, reg: 3 });
+    let extended = Refusal::NoValue { slot: 0, reg: 0 };
+    is_refused(&rt, alloc, b"movsx64 8 r0 r0\nexit\n", extended);
 }
 
 #[test]
 fn the_pointer_is_no_number(rt: HostRuntime) {
-    let returned = [0xbf10000000000000, EXIT];
-    assert_eq!(rt;
-        verdict(&rt, rt.alloc(), &returned),
-        Err(Refusal::PointerUse { slot: 1, reg: 0 })
-    );
-    let cut = [0xbc10000000000000, EXIT];
-    assert_eq!(rt;
-        verdict(&rt, rt.alloc(), &cut),
-        Err(Refusal::PointerUse { slot: 0, reg: 1 })
-    );
-    let swapped = [0xd701000010000000, EXIT];
-    assert_eq!(rt;
-        verdict(&rt, rt.alloc(), &swapped),
-        Err(Refusal::PointerUse { slot: 0, reg: 1 })
-    );
-    let copied = [0xbf12000000000000, 0x6120000000000000, EXIT];
-    assert_eq!(rt; verdict(&rt, rt.alloc(), &copied), Ok(3));
+    let alloc = rt.alloc();
+    let returned = Refusal::PointerUse { slot: 1, reg: 0 };
+    is_refused(&rt, alloc, b"mov64 r0 r1\nexit\n", returned);
+    let used = Refusal::PointerUse { slot: 0, reg: 1 };
+    is_refused(&rt, alloc, b"mov32 r0 r1\nexit\n", used);
+    is_refused(&rt, alloc, b"swap 16 r1\nexit\n", used);
+    is_accepted(&rt, alloc, b"mov64 r2 r1\nldw r0 r2 0\nexit\n", 3);
 }
 
 #[test]
 fn loads_are_aligned_and_in_the_context(rt: HostRuntime) {
-    let refused = Err(Refusal::BadLoad { slot: 0 });
-    assert_eq!(rt;
-        verdict(&rt, rt.alloc(), &[0x6110020000000000, EXIT]),
-        refused
-    );
-    assert_eq!(rt;
-        verdict(&rt, rt.alloc(), &[0x6110280000000000, EXIT]),
-        refused
-    );
-    assert_eq!(rt;
-        verdict(&rt, rt.alloc(), &[0x6110fcff00000000, EXIT]),
-        refused
-    );
-    assert_eq!(rt;
-        verdict(&rt, rt.alloc(), &[0x7910240000000000, EXIT]),
-        refused
-    );
-    assert_eq!(rt;
-        verdict(&rt, rt.alloc(), &[0x7910200000000000, EXIT]),
-        Ok(2)
-    );
-    assert_eq!(rt;
-        verdict(&rt, rt.alloc(), &[0x8910040000000000, EXIT]),
-        Ok(2)
-    );
-    let through_a_number = [0xb702000000000000, 0x6120000000000000, EXIT];
-    assert_eq!(rt;
-        verdict(&rt, rt.alloc(), &through_a_number),
-        Err(Refusal::BadLoad { slot: 1 })
-    );
+    let alloc = rt.alloc();
+    let first = Refusal::BadLoad { slot: 0 };
+    is_refused(&rt, alloc, b"ldw r0 r1 2\nexit\n", first);
+    is_refused(&rt, alloc, b"ldw r0 r1 40\nexit\n", first);
+    is_refused(&rt, alloc, b"ldw r0 r1 -4\nexit\n", first);
+    is_refused(&rt, alloc, b"lddw r0 r1 36\nexit\n", first);
+    is_accepted(&rt, alloc, b"lddw r0 r1 32\nexit\n", 2);
+    is_accepted(&rt, alloc, b"ldsh r0 r1 4\nexit\n", 2);
+    let second = Refusal::BadLoad { slot: 1 };
+    is_refused(&rt, alloc, b"mov64 r2 0\nldw r0 r2 0\nexit\n", second);
 }
 
 #[test]
 fn slots_that_nothing_reaches_have_good_edges(rt: HostRuntime) {
-    let skipped_read = [
-        0xb700000000000000,
-        0x0500010000000000,
-        0xbf20000000000000,
-        EXIT,
-    ];
-    assert_eq!(rt; verdict(&rt, rt.alloc(), &skipped_read), Ok(4));
-    let skipped_jump = [
-        0xb700000000000000,
-        0x0500010000000000,
-        0x0500fdff00000000,
-        EXIT,
-    ];
-    assert_eq!(rt;
-        verdict(&rt, rt.alloc(), &skipped_jump),
-        Err(Refusal::Back { slot: 2 })
-    );
+    let alloc = rt.alloc();
+    is_accepted(&rt, alloc, b"mov64 r0 0\nja 1\nmov64 r0 r2\nexit\n", 4);
+    let back = Refusal::Back { slot: 2 };
+    is_refused(&rt, alloc, b"mov64 r0 0\nja 1\nja -3\nexit\n", back);
 }
 
 #[test]
 fn the_longest_program_is_accepted(rt: HostRuntime) {
-    let mut slots = [0xb700000001000000; 512];
-    slots[511] = EXIT;
-    assert_eq!(rt; verdict(&rt, rt.alloc(), &slots), Ok(512));
+    let alloc = rt.alloc();
+    let mut text = Vec::new(alloc);
+    for _ in 0..511u32 {
+        text.extend_from_slice(b"mov64 r0 1\n")
+            .expect(&rt, "memory");
+    }
+    text.extend_from_slice(b"exit\n").expect(&rt, "memory");
+    is_accepted(&rt, alloc, &text, 512);
+}
+
+fn is_told(rt: &impl Abort, alloc: Global, refusal: Refusal, due: &str) {
+    let told = format!(in alloc; "{refusal}").expect(rt, "memory");
+    same(rt, &told.as_str(), &due);
 }
 
 #[test]
 fn each_fault_is_told(rt: HostRuntime) -> Result<(), Fail> {
     let alloc = rt.alloc();
-    let faults = [
-        (
-            Refusal::Back { slot: 3 },
-            "the jump in slot 3 doesn't lead forward",
-        ),
-        (
-            Refusal::OutOfProgram { slot: 3 },
-            "slot 3 leads out of the program",
-        ),
-        (
-            Refusal::NoValue { slot: 3, reg: 2 },
-            "slot 3 reads register 2, which has no value",
-        ),
-        (
-            Refusal::PointerUse { slot: 3, reg: 2 },
-            "slot 3 reads the pointer in register 2 as a number",
-        ),
-        (
-            Refusal::BadLoad { slot: 3 },
-            "the load in slot 3 doesn't read the context",
-        ),
-        (Refusal::NoMemory, "out of memory"),
-    ];
-    for (fault, due) in faults {
-        let told = format!(in alloc; "{fault}")?;
-        assert_eq!(rt; told.as_str(), due);
-    }
+    let back = Refusal::Back { slot: 3 };
+    is_told(&rt, alloc, back, "the jump in slot 3 doesn't lead forward");
+    let outside = Refusal::OutOfProgram { slot: 3 };
+    is_told(&rt, alloc, outside, "slot 3 leads out of the program");
+    let unset = Refusal::NoValue { slot: 3, reg: 2 };
+    is_told(
+        &rt,
+        alloc,
+        unset,
+        "slot 3 reads register 2, which has no value",
+    );
+    let pointer = Refusal::PointerUse { slot: 3, reg: 2 };
+    is_told(
+        &rt,
+        alloc,
+        pointer,
+        "slot 3 reads the pointer in register 2 as a number",
+    );
+    let load = Refusal::BadLoad { slot: 3 };
+    is_told(
+        &rt,
+        alloc,
+        load,
+        "the load in slot 3 doesn't read the context",
+    );
+    is_told(&rt, alloc, Refusal::NoMemory, "out of memory");
     let error = NoMemory;
     let told = format!(in alloc; "{error}")?;
-    assert_eq!(rt; told.as_str(), "out of memory");
+    same(&rt, &told.as_str(), &"out of memory");
     Ok(())
 }

@@ -2,6 +2,7 @@
 ghost use Rattle.std.specs.Prelude.{◌≡◌, ◌+◌, ◌<◌, ◌≤◌, All, length, vec_len, IfOk, true};
 ghost use Rattle.policy_versions.specs.Models.{IsClosed, next_version};
 
+use crate::checks::{holds, same};
 use bpf_isa::Profile;
 use policy_versions::{
     Lost, Place, Publisher, Registry, Right, SlotTurns, Turns, Using, VersionPass,
@@ -46,7 +47,7 @@ fn publish_one(
 {
     let instance = registry.instance(alloc, 0).expect(rt, "memory");
     match publisher.try_publish(registry, &mut SlotTurns::new(), instance) {
-        Ok(version) => assert_eq!(rt; version, expected),
+        Ok(version) => same(rt, &version, &expected),
         Err(_) => panic!(rt; "the place is in use"),
     }
 }
@@ -83,9 +84,9 @@ fn refuse_one(rt: &impl Abort, alloc: Global, registry: &Registry, publisher: &m
     match publisher.try_publish(registry, &mut SlotTurns::new(), instance) {
         Ok(_) => panic!(rt; "published over a user"),
         Err(refused) => {
-            assert!(rt; refused.word % 0x1_0000_0000 / 4 > 0);
-            assert_eq!(rt; refused.loaded, refused.word);
-            assert_eq!(rt; refused.instance.which(), 0);
+            holds(rt, refused.word % 0x1_0000_0000 / 4 > 0);
+            same(rt, &refused.loaded, &refused.word);
+            same(rt, &refused.instance.which(), &0);
         }
     }
 }
@@ -103,13 +104,13 @@ fn one_user_stays<R: Abort + Wait>(
     requires pass { IsClosed registry.now pass.old }
 {
     let held = pass.enter(rt, registry);
-    assert_eq!(rt; held.version(), 0);
+    same(rt, &held.version(), &0);
     publish_up_to(rt, alloc, registry, publisher, 1, 8);
     refuse_one(rt, alloc, registry, publisher);
     pass.leave(registry, held);
     publish_one(rt, alloc, registry, publisher, 8);
     let newer = pass.enter(rt, registry);
-    assert_eq!(rt; newer.version(), 8);
+    same(rt, &newer.version(), &8);
     pass.leave(registry, newer);
 }
 
@@ -166,8 +167,8 @@ fn leave_in_order(
     refuse_one(rt, alloc, registry, publisher);
     leave_one(registry, first);
     publish_one(rt, alloc, registry, publisher, 8);
-    assert_eq!(rt; last.held.version(), 7);
-    assert_eq!(rt; last.held.policy(registry).name(), 0);
+    same(rt, &last.held.version(), &7);
+    same(rt, &last.held.policy(registry).name(), &0);
     leave_one(registry, last);
 }
 
@@ -186,7 +187,7 @@ fn stay<'r, R: Abort + Wait>(
         panic!(rt; "no pass")
     };
     let held = pass.enter(rt, registry);
-    assert_eq!(rt; held.version(), version);
+    same(rt, &held.version(), &version);
     Staying { pass, held }
 }
 
@@ -260,7 +261,7 @@ fn share_one<R: Abort + Wait>(rt: &R, registry: &Registry, passes: &mut Vec<Vers
 {
     let one = stay(rt, registry, passes, 0);
     let other = stay(rt, registry, passes, 0);
-    assert_eq!(rt; one.held.which(), other.held.which());
+    same(rt, &one.held.which(), &other.held.which());
     leave_one(registry, other);
     leave_one(registry, one);
 }
@@ -310,13 +311,18 @@ fn a_refusal_has_the_words_of_the_turn_that_was_lost(rt: HostRuntime) -> Result<
     match publisher.try_publish(&registry, &mut turns, instance) {
         Ok(_) => panic!(rt; "published without a turn"),
         Err(refused) => {
-            assert_eq!(rt;
-                (refused.loaded, refused.word),
-                (0x5_0000_0001, 0x6_0000_0009)
+            same(
+                &rt,
+                &(refused.loaded, refused.word),
+                &(0x5_0000_0001, 0x6_0000_0009),
             );
             let mut told = String::new(alloc);
             write!(told, "{refused}")?;
-            assert_eq!(rt; told.as_str(), "the place of the next version is in use");
+            same(
+                &rt,
+                &told.as_str(),
+                &"the place of the next version is in use",
+            );
         }
     }
     publish_one(&rt, alloc, &registry, &mut publisher, 1);
@@ -339,10 +345,10 @@ fn follow<R: Abort + Wait>(
     for version in 1..21u64 {
         let which = ((version + 1) % 3) as u32;
         let instance = registry.instance(alloc, which).expect(rt, "memory");
-        assert_eq!(rt; publisher.publish(rt, registry, instance), version);
+        same(rt, &publisher.publish(rt, registry, instance), &version);
         let held = pass.enter(rt, registry);
-        assert_eq!(rt; (held.version(), held.which()), (version, which));
-        assert_eq!(rt; held.policy(registry).name(), which);
+        same(rt, &(held.version(), held.which()), &(version, which));
+        same(rt, &held.policy(registry).name(), &which);
         pass.leave(registry, held);
     }
 }
@@ -369,8 +375,8 @@ fn use_often<R: Abort + Wait>(rt: &R, registry: &Registry, pass: &mut VersionPas
         let name = held.policy(registry).name();
         let which = held.which();
         pass.leave(registry, held);
-        assert!(rt; version >= last);
-        assert_eq!(rt; name, which);
+        holds(rt, version >= last);
+        same(rt, &name, &which);
         last = version;
     }
 }
@@ -406,7 +412,7 @@ fn publish_all<R: Abort + Wait>(
             .instance(alloc, (version % 2) as u32)
             .expect(rt, "memory");
         let published = publisher.publish(rt, registry, instance);
-        assert_eq!(rt; published, version);
+        same(rt, &published, &version);
     }
 }
 

@@ -67,6 +67,7 @@ impl<O: Object + Drop> RwCellOf<Book<O>, Entry<O>, O> {
               call = O.call_numbers call.now;
               reply = O.reply_numbers r.0;
             } ∷ []) }
+        ensures mode { OnOk result (pass.new.reg.mode ≡ Read) }
         ensures steps { OnOk result (pass.new.steps_taken ≡ pass.old.steps_taken + 2) }
         ensures asks_nobody { OnOk result (pass.new.decisions ≡ pass.old.decisions) }
         ensures busy { IfErr result (λ busy.
@@ -126,6 +127,9 @@ impl<O: Object + Drop> RwCellOf<Book<O>, Entry<O>, O> {
               call = O.call_numbers call.now;
               reply = O.reply_numbers result.0;
             } ∷ [] }
+
+        // The lock was held for reading.
+        ensures mode { pass.new.reg.mode ≡ Read }
         ensures asked { AsksAll pass.old.attr pass.old.decisions pass.new.decisions
             (C.told chooser.old) (C.told chooser.new) }
         ensures home { C.home chooser.new ≡ C.home chooser.old }

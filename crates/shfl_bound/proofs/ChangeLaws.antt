@@ -9,9 +9,9 @@ use Rattle.shfl_core.specs.Words.{look, site, wide}
 use Rattle.shfl_core.specs.Plan.{is_idle, attempt_plan}
 use Rattle.shfl_core.specs.Take.{to}
 use Rattle.shfl_core.specs.Waiting.{idle}
-use Rattle.shfl_core.specs.Worlds.{World, known, placed_at, tried}
+use Rattle.shfl_core.specs.Worlds.{known, placed_at, tried}
 use Rattle.shfl_core.specs.Events.{attempt_event}
-use Rattle.shfl_core.specs.Lawful.{Terms, Lawful, Advances}
+use Rattle.shfl_core.specs.Lawful.{Terms, Advances}
 use Rattle.shfl_core.proofs.Lists.{at-read}
 use Rattle.shfl_laws.specs.Moves.{with_one_more}
 use Rattle.shfl_laws.proofs.laws.Laws.{laws}
@@ -20,14 +20,14 @@ use Rattle.shfl_laws.proofs.laws.MoveRows.{forget-law}
 use Rattle.shfl_laws.proofs.laws.AttemptRows.{attempt-law}
 use Rattle.shfl_laws.proofs.laws.Opens.{seat-law}
 use Rattle.shfl_laws.proofs.laws.Stealing.{disable-law}
-use Rattle.shfl_bound.specs.Changes.{Change, Moves, Tries, Disables, Fills, Replaces, is_idle_there, has_seat}
+use Rattle.shfl_bound.specs.Changes.{Moves, Tries, Disables, Fills, Replaces, is_idle_there, has_seat}
 use Rattle.shfl_bound.specs.Overtaking.{ChangeLaw}
 use Rattle.shfl_bound.proofs.Changing.{both-true}
 
 pub idle-is : (f : Phase) → is_idle f ≡ true → f ≡ phase.Idle
 idle-is f h = grind arith
 
-below-is : (a b : ℕ) → nat_lt a b ≡ true → a < b
+pub below-is : (a b : ℕ) → nat_lt a b ≡ true → a < b
 below-is a b e = grind (arith, nat_tests)
 
 -- each change leads from a lawful world to one

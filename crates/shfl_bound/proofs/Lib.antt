@@ -5,9 +5,17 @@ pub mod LineMarks
 pub mod LineSteps
 pub mod Staying
 pub mod MovedUp
+pub mod Leading
+pub mod Inside
 pub mod Steps
 pub mod Changing
 pub mod ChangeLaws
 pub mod Bound
 pub mod InOrder
 pub mod SharedSteps
+pub mod Enabling
+pub mod Turns
+pub mod Enabled
+pub mod Stealers
+pub mod Stolen
+pub mod SharedRuns

@@ -2,3 +2,5 @@ pub mod Changes
 pub mod Departures
 pub mod Overtaking
 pub mod SharedSteps
+pub mod Stealing
+pub mod Runs

@@ -1,5 +1,6 @@
 //! The cell's opening.
-ghost use Rattle.std.specs.Prelude.{◌≡◌, ℕ, All, ◌<◌, ◌≤◌, length, sum, vec_len, slice_get, slice_index, slice_index_or, IfOk, Some};
+ghost use Rattle.std.specs.Prelude.{◌≡◌, ℕ, All, ◌<◌, ◌≤◌, length, map, sum, vec_len, slice_get, slice_index, slice_index_or, IfOk, Some};
+ghost use Rattle.shfl_line.specs.Words.{attr_word};
 ghost use Rattle.shfl_table.specs.PassModel.{fresh_pass};
 ghost use Rattle.shfl_table.specs.Books.{allowed_of};
 ghost use Rattle.shfl_cell.specs.Cells.{fresh, cell_on, no_attr, AreInOrder};
@@ -91,6 +92,7 @@ impl<O: Object + Drop> ShflCellOf<Book<O>> {
             × (r.0.opening ≡ O.state_numbers object) × (r.0.allowed ≡ calls.now)) }
         ensures rules { IfOk result (λ r.
             r.0.id.rules ≡ record { limit = limit; form = form }) }
+        ensures attrs { IfOk result (λ r. r.0.id.attrs ≡ map attr_word attrs.now) }
         ensures count { IfOk result (λ r. vec_len r.1 ≡ length calls.now) }
         ensures passes { IfOk result (λ r. (k : ℕ) → k < length calls.now
             → slice_get r.1.items k ≡ Some (fresh r.0 k

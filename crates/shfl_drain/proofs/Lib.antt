@@ -23,3 +23,6 @@ pub mod FairRuns
 pub mod WindowRuns
 pub mod Reopening
 pub mod MarkRow
+pub mod RoundSteps
+pub mod HandingOn
+pub mod Beginning

@@ -61,7 +61,7 @@ inner-quiet t p r n phase.Place e = tt
 inner-quiet t p r n _ e = absurd (cc)
 
 -- where it leads: on in the round, awake
-record GoesRound (h : Bool) (v : PassState) : Type 0 where
+pub record GoesRound (h : Bool) (v : PassState) : Type 0 where
   pub round : is_round v.phase ≡ true
   pub headed : v.reg.headed ≡ h
   pub awake : v.nap ≡ Awake
@@ -74,7 +74,7 @@ either-phase : (r : Regs) (b : Bool) (f g : Phase) → is_round f ≡ true → i
 either-phase r true f g x y = record { round = x; headed = refl; awake = refl }
 either-phase r false f g x y = record { round = y; headed = refl; awake = refl }
 
-inner-goes : (t : Rules) (p : ℕ) (r : Regs) (n : ℕ) (c : Bool) (f : Phase) → inner f ≡ true → GoesRound r.headed (take_at t p r n c f)
+pub inner-goes : (t : Rules) (p : ℕ) (r : Regs) (n : ℕ) (c : Bool) (f : Phase) → inner f ≡ true → GoesRound r.headed (take_at t p r n c f)
 inner-goes t p r zero c phase.Next e = record { round = refl; headed = refl; awake = refl }
 inner-goes t p r (suc n) c phase.Next e = record { round = refl; headed = refl; awake = refl }
 inner-goes t p r n c phase.Tail e = either-phase r (n == r.cand + 1) phase.Give phase.Attr refl refl

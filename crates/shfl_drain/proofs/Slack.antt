@@ -90,7 +90,7 @@ slack-most n q ready lock mark left h = let a = nap-most q.nap in
     let b = two-most (is_fore q || ready) (pace_at n lock q.reg.saw left q.phase) (drowsy mark q.nap q.phase) (9 * n + 15) (pace-most n lock q.reg.saw left q.phase h) (let c = drowsy-most mark q.nap q.phase in omega arith) in omega arith
 
 -- so much is left of a round at most
-phase-most : (r : Regs) (f : Phase) → phase_measure r f ≤ 10
+pub phase-most : (r : Regs) (f : Phase) → phase_measure r f ≤ 10
 phase-most r phase.Mark = two-most (r.prev == r.last) 3 8 10 (omega arith) (omega arith)
 phase-most r _ = omega arith
 

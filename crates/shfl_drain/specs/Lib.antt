@@ -4,3 +4,4 @@ pub mod Drain
 pub mod Schedules
 pub mod Windows
 pub mod Reopening
+pub mod HandingOn

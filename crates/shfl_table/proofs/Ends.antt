@@ -239,6 +239,6 @@ pub map-snoc : {A B : Type 0} (f : A → B) (xs : List A) (x : A) → map f (xs 
 map-snoc f [] x = refl
 map-snoc {A} {B} f (y ∷ ys) x = ap (λ (l : List B). f y ∷ l) (map-snoc f ys x)
 
-pub splits-again : {V : Type 0} (initial_state : V → List ℕ) (history : V → List Action) (rules : Rules) (count : ℕ) (words : List ℕ) (r : List ℕ) (id n : ℕ) (v : View) → v ≡ new_view r n → n + 1 < count → Splits (BoardRule initial_state history (told_terms rules count words) r) id v (not_last v) (next_view v)
+pub splits-again : {V : Type 0} (initial_state : V → List ℕ) (history : V → List Action) (rules : Rules) (count : ℕ) (words : List ℕ) (r : List ℕ) (id n : ℕ) (v : View) → v ≡ new_view (told_terms rules count words).attrs r n → n + 1 < count → Splits (BoardRule initial_state history (told_terms rules count words) r) id v (not_last v) (next_view v)
 splits-again initial_state history rules count words r id n v e h = splits initial_state history (told_terms rules count words) r id v (ap (λ (z : View). z.live) e) (ap (λ (z : View). z.last) e)
     (subst (λ (z : ℕ × ℕ). z.0 + 1 < z.1) (λ j. (sym (ap (λ (z : View). number z) e) j, sym (count-is rules count words) j)) h)

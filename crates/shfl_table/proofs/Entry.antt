@@ -25,6 +25,7 @@ use Rattle.shfl_table.specs.Places.{first_place, place_count, Every, numbered, v
 use Rattle.shfl_table.specs.Histories.{common_history}
 use Rattle.shfl_table.specs.PassInvariant.{Carries, IsGoodUnder, PassInvariant}
 use Rattle.shfl_table.proofs.Places.{values_numbered}
+use Rattle.shfl_table.proofs.Candidates.{asks-entered, asks-left}
 
 bare : {X : Type 0} (values : List (Option X)) → length values ≡ 0 → values ≡ []
 bare [] e = refl
@@ -66,6 +67,7 @@ module _ {X : Type 0} (initial_state : X → List ℕ) (history : X → List Act
     range = a.0;
     carries = a.1;
     back = k.back;
+    asks = asks-entered m own me.0.attrs k.asks;
   })
 
   abbrev Within : Type 0
@@ -96,4 +98,5 @@ module _ {X : Type 0} (initial_state : X → List ℕ) (history : X → List Act
     range = a.0;
     carries = a.1;
     back = k.back;
+    asks = asks-left own me.0.attrs k.asks;
   })

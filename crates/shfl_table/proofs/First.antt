@@ -33,7 +33,7 @@ module _ (rules : Rules) (attrs : List Attr) (may : MayOpen rules attrs) where
     terms-are = subst (λ (z : List ℕ). told_terms rules (length attrs) z ≡ terms rules attrs) (sym a)
         (subst (λ (k : ℕ). told_terms rules k (opening_words attrs) ≡ terms rules attrs) (length-map attrs attr_word) (terms-law (terms rules attrs) (first_seated attrs) first.lawful))
 
-    pub opens-first : {V : Type 0} (initial_state : V → List ℕ) (history : V → List Action) (r : List ℕ) (values : List V) → Every (IsCurrent initial_state history r []) values → BoardRule initial_state history (told_terms rules (length attrs) words) r (opening words (map Some values) (first_view r))
+    pub opens-first : {V : Type 0} (initial_state : V → List ℕ) (history : V → List Action) (r : List ℕ) (values : List V) → Every (IsCurrent initial_state history r []) values → BoardRule initial_state history (told_terms rules (length attrs) words) r (opening words (map Some values) (first_view (told_terms rules (length attrs) words).attrs r))
     opens-first initial_state history r values alike = opens initial_state history r (told_terms rules (length attrs) words) words values
         (subst (λ (z : Terms × List ℕ). Lawful z.0 (record { words = z.1; passes = idle 0 ∷ [] })) (λ j. (sym terms-are j, sym a j)) first.lawful) alike
 

@@ -1,5 +1,5 @@
 -- What a pass at the queue's head keeps where it disables stealing, and what that tells.
-use Rattle.std.proofs.Common.{◌≡◌, ℕ, ◌+◌, true, List, [], Option, Some, refl, sym, ap, ◌∙◌, subst, append-nil}
+use Rattle.std.proofs.Common.{◌≡◌, ℕ, ◌+◌, true, List, Option, Some, refl, sym, ap, ◌∙◌, subst, append-nil}
 use Rattle.atomic_table.specs.Table.{Me}
 use Rattle.atomic_table.specs.Seated.{TableId}
 use Rattle.shfl_core.specs.declared.phase.PassState.{PassState}
@@ -52,9 +52,10 @@ module _ {X : Type 0} (initial_state : X → List ℕ) (history : X → List Act
       leaving = k.carries.leaving;
     };
     back = k.back;
+    asks = k.asks;
   })
 
-  pub disabling-told : (id' : TableId) (m : PassModel X) → id' ≡ id → record { board = record { table = id; rules = rules }; own = own; steps_taken = me.0.steps_taken; decisions = me.0.decisions; attempts = me.0.attempts; initial_state = me.0.initial_state; history = me.0.history; values = values_of me.1 } ≡ m
-      → record { board = record { table = id'; rules = rules }; own = own; steps_taken = me'.0.steps_taken; decisions = me'.0.decisions; attempts = me'.0.attempts; initial_state = me'.0.initial_state; history = me'.0.history; values = values_of me'.1 } ≡ record m { steps_taken = m.steps_taken + 1 }
-  disabling-told id' m there is_m = (λ j. record { board = record { table = there j; rules = rules }; own = own; steps_taken = (same.1 j).steps_taken; decisions = (ap (λ (v : View). v.decisions) same.1 ∙ append-nil me.0.decisions) j; attempts = (same.1 j).attempts; initial_state = (same.1 j).initial_state; history = (same.1 j).history; values = values_of (same.0 j) })
+  pub disabling-told : (id' : TableId) (m : PassModel X) → id' ≡ id → record { board = record { table = id; rules = rules; attrs = me.0.attrs }; own = own; steps_taken = me.0.steps_taken; decisions = me.0.decisions; attempts = me.0.attempts; initial_state = me.0.initial_state; history = me.0.history; values = values_of me.1 } ≡ m
+      → record { board = record { table = id'; rules = rules; attrs = me'.0.attrs }; own = own; steps_taken = me'.0.steps_taken; decisions = me'.0.decisions; attempts = me'.0.attempts; initial_state = me'.0.initial_state; history = me'.0.history; values = values_of me'.1 } ≡ record m { steps_taken = m.steps_taken + 1 }
+  disabling-told id' m there is_m = (λ j. record { board = record { table = there j; rules = rules; attrs = (same.1 j).attrs }; own = own; steps_taken = (same.1 j).steps_taken; decisions = (ap (λ (v : View). v.decisions) same.1 ∙ append-nil me.0.decisions) j; attempts = (same.1 j).attempts; initial_state = (same.1 j).initial_state; history = (same.1 j).history; values = values_of (same.0 j) })
       ∙ ap (λ (z : PassModel X). record z { steps_taken = z.steps_taken + 1 }) is_m

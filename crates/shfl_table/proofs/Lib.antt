@@ -1,4 +1,5 @@
 pub mod Calls
+pub mod Candidates
 pub mod Ends
 pub mod Entry
 pub mod First

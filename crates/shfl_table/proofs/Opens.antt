@@ -19,7 +19,7 @@ module _ {V : Type 0} (initial_state : V → List ℕ) (history : V → List Act
   home-at (x ∷ xs) a zero h = (x, refl, a.0.0, a.0.1)
   home-at (x ∷ xs) a (suc k) h = home-at xs a.1 k (omega arith)
 
-  pub opens : (t : Terms) (words : List ℕ) (values : List V) → Lawful t (record { words = words; passes = idle 0 ∷ [] }) → Every (IsCurrent initial_state history r []) values → BoardRule initial_state history t r (opening words (map Some values) (first_view r))
+  pub opens : (t : Terms) (words : List ℕ) (values : List V) → Lawful t (record { words = words; passes = idle 0 ∷ [] }) → Every (IsCurrent initial_state history r []) values → BoardRule initial_state history t r (opening words (map Some values) (first_view t.attrs r))
   opens t words values ok alike = record {
     total = [];
     lawful = ok;
@@ -28,6 +28,6 @@ module _ {V : Type 0} (initial_state : V → List ℕ) (history : V → List Act
     seated = only;
   }
     where
-      only : (seat : ℕ) (v : View) → get_elem? (first_view r ∷ []) seat ≡ some v → SeatFacts r [] (first_view r ∷ []) seat v
-      only zero v e = subst (SeatFacts r [] (first_view r ∷ []) 0) (some-injective (first_view r) v e) (record { last = λ _ _. refl; root_is = λ _. refl; knew = λ _. knew_itself 0 []; holder = λ _ _. refl; back = λ g h. absurd h })
+      only : (seat : ℕ) (v : View) → get_elem? (first_view t.attrs r ∷ []) seat ≡ some v → SeatFacts r [] (first_view t.attrs r ∷ []) seat v
+      only zero v e = subst (SeatFacts r [] (first_view t.attrs r ∷ []) 0) (some-injective (first_view t.attrs r) v e) (record { last = λ _ _. refl; root_is = λ _. refl; knew = λ _. knew_itself 0 []; holder = λ _ _. refl; back = λ g h. absurd h })
       only (suc seat) v e = absurd (some-ne-none v (sym e))

@@ -25,13 +25,13 @@ use Rattle.shfl_laws.proofs.laws.OwnSteps.{own-step}
 use Rattle.shfl_laws.specs.Holds.{hold_of, is_releasing}
 use Rattle.shfl_table.specs.Places.{Every, numbered}
 use Rattle.shfl_table.specs.Histories.{Continues, HasSeen, IsCurrent, common_history}
-use Rattle.shfl_table.specs.declared.view.Decision.{Decision}
 use Rattle.shfl_table.specs.declared.kept.Action.{Action}
 use Rattle.shfl_table.specs.declared.view.View.{View}
 use Rattle.shfl_table.specs.Views.{Deeds, number, passes_from, step_deeds, view_after}
 use Rattle.shfl_table.specs.BoardRule.{BoardRule, IsHome, world_of}
 use Rattle.shfl_table.specs.ValueMoves.{GainsHold, MayFree, MovesValues, access_play, step_play}
 use Rattle.shfl_laws.proofs.laws.Holds.{take-mode, hold-seen, frees-only}
+use Rattle.shfl_table.proofs.Candidates.{attr-told}
 use Rattle.shfl_table.proofs.SeatViews.{pass-there, same_carried, none-some}
 use Rattle.shfl_table.proofs.Values.{all-home, freed-ruled, own-home, read-ruled, stays-ruled, unread-ruled, write-ruled}
 use Rattle.std.proofs.lemmas.List.{length-map}
@@ -198,6 +198,7 @@ module _ {V : Type 0} (initial_state : V → List ℕ) (history : V → List Act
         (
           record {
             form = λ e. subst (Formed (site a)) (sym (told-found a (look s.words (site a)) e)) (ok.lawful.formed (site a));
+            attr = λ e p is. told-found a (look s.words (site a)) e ∙ (ap (look s.words) is ∙ attr-told t (world_of s) p ok.lawful);
             stays = law_is.numbers id (next (told a (look s.words (site a)))) there_is ∙ sym (num s ok long at);
             range = subst (λ k. InRange t k (next (told a (look s.words (site a))))) (sym (num s ok long at))
                 (in-range-law t (record { words = written s.words a; passes = set (passes_from 0 s.views) id (next (told a (look s.words (site a)))) }) id (next (told a (look s.words (site a)))) law_is there_is);

@@ -1,20 +1,21 @@
 -- What a pass keeps of its values.
-use Rattle.std.proofs.Common.{◌≡◌, ℕ, ◌++◌, ◌<◌, Bool, true, false, cond, List, [], ◌∷◌, map, length, Option, Some, None, refl, sym, ap, ◌∙◌, subst, arith, append-nil}
+use Rattle.std.proofs.Common.{◌≡◌, ℕ, ◌++◌, ◌<◌, Bool, true, false, cond, List, [], ◌∷◌, map, length, slice_index, Option, Some, None, refl, sym, ap, ◌∙◌, subst, arith, append-nil}
 use Rattle.atomic_table.specs.Table.{Me}
 use Rattle.atomic_table.specs.Seated.{TableId}
 use Rattle.shfl_line.specs.declared.events.Mode.{Mode}
 use Rattle.shfl_line.specs.declared.events.Mode.TheVariants.{Write, Read}
 use Rattle.shfl_core.specs.declared.phase.Phase.{Phase}
-use Rattle.shfl_core.specs.declared.phase.Phase.TheVariants.{Release, ReadRelease}
+use Rattle.shfl_core.specs.declared.phase.Phase.TheVariants.{Release, ReadRelease, Decide}
+use Rattle.shfl_core.specs.declared.words.Word.TheVariants.{Attr as AttrOf}
+use Rattle.shfl_table.proofs.Candidates.{asks-after, asks-now}
 use Rattle.shfl_core.specs.Phases.{is_holding}
 use Rattle.shfl_core.specs.declared.phase.PassState.{PassState}
-use Rattle.shfl_table.specs.declared.view.Decision.{Decision}
 use Rattle.shfl_table.specs.declared.kept.Action.{Action}
 use Rattle.shfl_table.specs.declared.view.View.{View}
 use Rattle.shfl_laws.specs.Holds.{hold_of, is_releasing}
 use Rattle.shfl_table.specs.Places.{first_place, place_count, Every, numbered, values_of}
 use Rattle.shfl_table.specs.Histories.{Continues, HasSeen, IsCurrent, common_history}
-use Rattle.shfl_table.specs.Views.{Deeds, number, step_decisions, step_deeds, view_after}
+use Rattle.shfl_table.specs.Views.{Deeds, number, step_deeds, view_after}
 use Rattle.shfl_table.specs.ValueMoves.{FitsWords, GainsHold, MayFree, MovesValues}
 use Rattle.shfl_line.specs.declared.events.Form.{Form}
 use Rattle.shfl_core.specs.declared.phase.Rules.{Rules}
@@ -168,8 +169,11 @@ module _ {X : Type 0} (initial_state : X → List ℕ) (history : X → List Act
     view : (seen : List Action) × (me'.0 ≡ view_after (step_deeds rules own choice) me.0 (take rules own.reg.me own n choice) seen)
     view = view-by initial_state history id.slots own q me me' (λ i. take rules own.reg.me own i choice) (step_deeds rules own choice) n e number-is num' alike steady still k.carries r (hold_of own) (hold_of q) refl refl only
 
-    pub row-kept : (id' : TableId) → id' ≡ id → t.rules ≡ rules → id.words ≡ wide (count t) → PassInvariant initial_state history rules q id' me'
-    row-kept id' same ruled words = record {
+    finds : t.attrs ≡ me.0.attrs → is_store (plan rules own.reg.me own) ≡ false → (p : ℕ) → site (plan rules own.reg.me own) ≡ AttrOf p → n ≡ slice_index me.0.attrs p
+    finds told load p at = go.attr load p at ∙ ap (λ l. slice_index l p) told
+
+    pub row-kept : (id' : TableId) → id' ≡ id → t.rules ≡ rules → t.attrs ≡ me.0.attrs → id.words ≡ wide (count t) → PassInvariant initial_state history rules q id' me'
+    row-kept id' same ruled told words = record {
       live = ap (λ (v : View). v.live) view.1 ∙ k.live;
       seen = Alike (e ∙ sym (ap (λ (v : View). v.pass) view.1));
       range = subst (λ i. index (site (plan rules q.reg.me q)) < i) (sym words ∙ ap (λ (z : TableId). z.words) (sym same))
@@ -177,14 +181,18 @@ module _ {X : Type 0} (initial_state : X → List ℕ) (history : X → List Act
       carries = subst (λ (z : TableId). Carries initial_state history z.slots q me'.0 me'.1) (sym same)
           (carries-after initial_state history id.slots own q me me' (λ i. take rules own.reg.me own i choice) (step_deeds rules own choice) n e number-is num' alike steady still k.carries r (hold_of own) (hold_of q) refl refl only);
       back = ap (λ (v : View). v.back) view.1 ∙ k.back;
+      asks = subst (λ (z : PassState × List ℕ). z.0.phase ≡ Decide → z.0.reg.seen ≡ slice_index z.1 z.0.reg.cand) (λ j. (sym e j, ap (λ (v : View). v.attrs) (sym view.1) j))
+          (asks-after rules own.reg.me own n choice me.0.attrs k.asks (finds told));
     }
 
-    pub told-row : (id' : TableId) → id' ≡ id → TakesStep initial_state history (record { board = record { table = id; rules = rules }; own = own; steps_taken = me.0.steps_taken; decisions = me.0.decisions; attempts = me.0.attempts; initial_state = me.0.initial_state; history = me.0.history; values = values_of me.1 }) choice (record { board = record { table = id'; rules = rules }; own = q; steps_taken = me'.0.steps_taken; decisions = me'.0.decisions; attempts = me'.0.attempts; initial_state = me'.0.initial_state; history = me'.0.history; values = values_of me'.1 })
-    told-row id' same = record {
+    pub told-row : (id' : TableId) → id' ≡ id → t.attrs ≡ me.0.attrs → TakesStep initial_state history (record { board = record { table = id; rules = rules; attrs = me.0.attrs }; own = own; steps_taken = me.0.steps_taken; decisions = me.0.decisions; attempts = me.0.attempts; initial_state = me.0.initial_state; history = me.0.history; values = values_of me.1 }) choice (record { board = record { table = id'; rules = rules; attrs = me'.0.attrs }; own = q; steps_taken = me'.0.steps_taken; decisions = me'.0.decisions; attempts = me'.0.attempts; initial_state = me'.0.initial_state; history = me'.0.history; values = values_of me'.1 })
+    told-row id' same told = record {
       found = n;
       form = go.form;
+      attr = finds told;
+      asks = asks-now rules own me.0.attrs k.asks;
       number = num';
-      row = λ j. record { board = record { table = same j; rules = rules }; own = e j; steps_taken = (view.1 j).steps_taken; decisions = (view.1 j).decisions; attempts = (view.1 j).attempts; initial_state = (view.1 j).initial_state; history = me'.0.history; values = values_of me'.1 };
+      row = λ j. record { board = record { table = same j; rules = rules; attrs = (view.1 j).attrs }; own = e j; steps_taken = (view.1 j).steps_taken; decisions = (view.1 j).decisions; attempts = (view.1 j).attempts; initial_state = (view.1 j).initial_state; history = me'.0.history; values = values_of me'.1 };
       stays = λ x. let s = r.stays (sym alike ∙ (x ∙ ap hold_of e)) in (ap values_of s.0, ap (λ (v : View). v.history) s.1);
       gains = λ mode a b. let g : GainsHold initial_state history (step_deeds rules own choice) mode id.slots me (take rules own.reg.me own n choice) me' = r.gains mode (sym alike ∙ a) (sym (ap hold_of e) ∙ b) in let tales : g.told ≡ me'.0.history = sym (ap (λ (v : View). v.history) g.view) in
           let none : me.1 ≡ [] = nothing initial_state history id.slots own q me me' (λ i. take rules own.reg.me own i choice) (step_deeds rules own choice) n e number-is num' alike steady still k.carries r a in (
@@ -200,7 +208,7 @@ module _ {X : Type 0} (initial_state : X → List ℕ) (history : X → List Act
           let g = r.frees mode (sym alike ∙ a) (sym (ap hold_of e) ∙ b) (first_place (hold_of own) own.reg.me) xs (v.is ∙ ap (numbered (first_place (hold_of own) own.reg.me)) w) in (ap values_of g.0, ap (λ (x : View). x.history) g.1);
     }
 
-    pub row-told : (id' : TableId) (m : PassModel X) → id' ≡ id → record { board = record { table = id; rules = rules }; own = own; steps_taken = me.0.steps_taken; decisions = me.0.decisions; attempts = me.0.attempts; initial_state = me.0.initial_state; history = me.0.history; values = values_of me.1 } ≡ m → (outcome : Outcome) → IsOutcome own n q outcome
-        → (s : TakesStep initial_state history m choice (record { board = record { table = id'; rules = rules }; own = q; steps_taken = me'.0.steps_taken; decisions = me'.0.decisions; attempts = me'.0.attempts; initial_state = me'.0.initial_state; history = me'.0.history; values = values_of me'.1 })) × IsOutcome m.own s.found q outcome
+    pub row-told : (id' : TableId) (m : PassModel X) → id' ≡ id → t.attrs ≡ me.0.attrs → record { board = record { table = id; rules = rules; attrs = me.0.attrs }; own = own; steps_taken = me.0.steps_taken; decisions = me.0.decisions; attempts = me.0.attempts; initial_state = me.0.initial_state; history = me.0.history; values = values_of me.1 } ≡ m → (outcome : Outcome) → IsOutcome own n q outcome
+        → (s : TakesStep initial_state history m choice (record { board = record { table = id'; rules = rules; attrs = me'.0.attrs }; own = q; steps_taken = me'.0.steps_taken; decisions = me'.0.decisions; attempts = me'.0.attempts; initial_state = me'.0.initial_state; history = me'.0.history; values = values_of me'.1 })) × IsOutcome m.own s.found q outcome
     unfolding told-row
-    row-told id' m same is outcome came = subst (λ (z : PassModel X). (s : TakesStep initial_state history z choice (record { board = record { table = id'; rules = rules }; own = q; steps_taken = me'.0.steps_taken; decisions = me'.0.decisions; attempts = me'.0.attempts; initial_state = me'.0.initial_state; history = me'.0.history; values = values_of me'.1 })) × IsOutcome z.own s.found q outcome) is (told-row id' same, came)
+    row-told id' m same told is outcome came = subst (λ (z : PassModel X). (s : TakesStep initial_state history z choice (record { board = record { table = id'; rules = rules; attrs = me'.0.attrs }; own = q; steps_taken = me'.0.steps_taken; decisions = me'.0.decisions; attempts = me'.0.attempts; initial_state = me'.0.initial_state; history = me'.0.history; values = values_of me'.1 })) × IsOutcome z.own s.found q outcome) is (told-row id' same told, came)

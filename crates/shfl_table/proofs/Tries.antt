@@ -29,6 +29,7 @@ use Rattle.shfl_table.specs.ValueMoves.{FitsWords, GainsHold, MovesValues}
 use Rattle.shfl_table.specs.PassInvariant.{Carries, PassInvariant}
 use Rattle.shfl_table.specs.PassModel.{PassModel}
 use Rattle.shfl_table.specs.PassSteps.{Refuses, SeesValues, TakesStep, TriesOnce, as_holder, as_refused, attempt_steps}
+use Rattle.shfl_table.proofs.Candidates.{asks-nobody}
 use Rattle.shfl_table.proofs.Own.{seen-me, carries-after, view-by}
 use Rattle.shfl_table.proofs.Places.{values_numbered}
 
@@ -84,12 +85,13 @@ module _ {X : Type 0} (initial_state : X → List ℕ) (history : X → List Act
       carries = subst (λ (z : TableId). Carries initial_state history z.slots q me'.0 me'.1) (sym there)
           (carries-after initial_state history id.slots own q me me' (attempted mode me.0.pass.reg) attempt_deeds n is num num' same steady still k.carries r (hold_of own) (hold_of q) refl refl only);
       back = ap (λ (v : View). v.back) view.1 ∙ k.back;
+      asks = λ f. absurd (asks-nobody mode own.reg n (ap (λ (z : PassState). z.phase) (sym e) ∙ f));
     }
 
-    pub try-told : (id' : TableId) (m : PassModel X) → id' ≡ id → record { board = record { table = id; rules = rules }; own = own; steps_taken = me.0.steps_taken; decisions = me.0.decisions; attempts = me.0.attempts; initial_state = me.0.initial_state; history = me.0.history; values = values_of me.1 } ≡ m
-        → TriesOnce initial_state history m mode n (record { board = record { table = id'; rules = rules }; own = q; steps_taken = me'.0.steps_taken; decisions = me'.0.decisions; attempts = me'.0.attempts; initial_state = me'.0.initial_state; history = me'.0.history; values = values_of me'.1 })
-    try-told id' m there is_m = subst (λ (z : PassModel X). TriesOnce initial_state history z mode n (record { board = record { table = id'; rules = rules }; own = q; steps_taken = me'.0.steps_taken; decisions = me'.0.decisions; attempts = me'.0.attempts; initial_state = me'.0.initial_state; history = me'.0.history; values = values_of me'.1 })) is_m (record {
-      row = λ j. record { board = record { table = there j; rules = rules }; own = e j; steps_taken = (view.1 j).steps_taken; decisions = (ap (λ (v : View). v.decisions) view.1 ∙ append-nil me.0.decisions) j; attempts = (view.1 j).attempts; initial_state = (view.1 j).initial_state; history = me'.0.history; values = values_of me'.1 };
+    pub try-told : (id' : TableId) (m : PassModel X) → id' ≡ id → record { board = record { table = id; rules = rules; attrs = me.0.attrs }; own = own; steps_taken = me.0.steps_taken; decisions = me.0.decisions; attempts = me.0.attempts; initial_state = me.0.initial_state; history = me.0.history; values = values_of me.1 } ≡ m
+        → TriesOnce initial_state history m mode n (record { board = record { table = id'; rules = rules; attrs = me'.0.attrs }; own = q; steps_taken = me'.0.steps_taken; decisions = me'.0.decisions; attempts = me'.0.attempts; initial_state = me'.0.initial_state; history = me'.0.history; values = values_of me'.1 })
+    try-told id' m there is_m = subst (λ (z : PassModel X). TriesOnce initial_state history z mode n (record { board = record { table = id'; rules = rules; attrs = me'.0.attrs }; own = q; steps_taken = me'.0.steps_taken; decisions = me'.0.decisions; attempts = me'.0.attempts; initial_state = me'.0.initial_state; history = me'.0.history; values = values_of me'.1 })) is_m (record {
+      row = λ j. record { board = record { table = there j; rules = rules; attrs = (view.1 j).attrs }; own = e j; steps_taken = (view.1 j).steps_taken; decisions = (ap (λ (v : View). v.decisions) view.1 ∙ append-nil me.0.decisions) j; attempts = (view.1 j).attempts; initial_state = (view.1 j).initial_state; history = me'.0.history; values = values_of me'.1 };
       stays = λ x. let s = r.stays (sym same ∙ (out ∙ (sym x ∙ ap (λ (z : PassState). hold_of (attempted mode z.reg n)) alike))) in (ap values_of s.0, ap (λ (v : View). v.history) s.1);
       gains = λ m a. let g : GainsHold initial_state history attempt_deeds m id.slots me (attempted mode me.0.pass.reg n) me' = r.gains m (sym same ∙ out) (ap (λ (z : PassState). hold_of (attempted mode z.reg n)) (sym alike) ∙ a) in let tales : g.told ≡ me'.0.history = sym (ap (λ (v : View). v.history) g.view) in (
         subst (λ (z : List Action × ℕ). HasSeen z.0 z.1 me.0.history) (λ j. (tales j, num j)) g.knew,

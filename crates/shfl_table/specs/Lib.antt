@@ -12,3 +12,4 @@ pub mod Outcomes
 pub mod Queueing
 pub mod Disabling
 pub mod Books
+pub mod PlainWords

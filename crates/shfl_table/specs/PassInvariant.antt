@@ -1,9 +1,10 @@
 -- What a pass's type keeps beside its seat.
-use Rattle.std.specs.Prelude.{◌≡◌, ℕ, ◌<◌, true, List, [], length, Option, Some}
+use Rattle.std.specs.Prelude.{◌≡◌, ℕ, ◌<◌, true, List, [], length, slice_index, Option, Some}
 use Rattle.atomic_table.specs.Table.{Me}
 use Rattle.atomic_table.specs.Seated.{TableId}
 use Rattle.shfl_line.specs.declared.events.Mode.{Mode}
 use Rattle.shfl_core.specs.declared.phase.Rules.{Rules}
+use Rattle.shfl_core.specs.declared.phase.Phase.TheVariants.{Decide}
 use Rattle.shfl_core.specs.declared.phase.PassState.{PassState}
 use Rattle.shfl_core.specs.Words.{index, site}
 use Rattle.shfl_core.specs.Plan.{plan}
@@ -35,3 +36,5 @@ pub record PassInvariant {X : Type 0} (initial_state : X → List ℕ) (history 
   pub range : index (site (plan rules own.reg.me own)) < id.words
   pub carries : Carries initial_state history id.slots own me.0 me.1
   pub back : me.0.back ≡ []
+  -- where it asks of a candidate, it has that one's attributes
+  pub asks : own.phase ≡ Decide → own.reg.seen ≡ slice_index me.0.attrs own.reg.cand

@@ -13,10 +13,12 @@ use Rattle.shfl_table.specs.declared.view.Given.{Given}
 use Rattle.shfl_table.specs.Histories.{Continues, common_history}
 use Rattle.shfl_table.specs.Places.{Every, place_index}
 
--- which board it is, and the rules of its lock
+-- which board it is, and what its opening fixed: the rules of its lock and the attributes of its passes
 pub record BoardId : Type 0 where
   pub table : TableId
   pub rules : Rules
+  -- the attribute word of each pass
+  pub attrs : List ℕ
 
 pub record BoardModel : Type 0 where
   pub id : BoardId

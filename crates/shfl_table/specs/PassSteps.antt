@@ -1,11 +1,15 @@
 -- What a step and an attempt do to a pass.
-use Rattle.std.specs.Prelude.{◌≡◌, ◌≢◌, ◌||◌, ℕ, ◌+◌, Bool, true, false, List, [], ◌++◌, map, length, Some, None}
+use Rattle.std.specs.Prelude.{◌≡◌, ◌≢◌, ◌||◌, ℕ, ◌+◌, Bool, true, false, List, [], ◌++◌, map, length, slice_index, Some, None}
 use Rattle.shfl_line.specs.declared.events.Mode.{Mode}
 use Rattle.shfl_line.specs.declared.events.Mode.TheVariants.{Write, Read}
-use Rattle.shfl_line.specs.Words.{held_of, closed_of}
+use Rattle.shfl_line.specs.declared.words.Attr.{Attr}
+use Rattle.shfl_line.specs.Words.{attr_of, held_of, closed_of}
 use Rattle.shfl_core.specs.declared.phase.PassState.{PassState}
 use Rattle.shfl_core.specs.declared.phase.Phase.TheVariants.{Idle, Held}
 use Rattle.shfl_core.specs.declared.phase.Nap.TheVariants.{Awake}
+use Rattle.shfl_core.specs.declared.phase.Ask.TheVariants.{Should}
+use Rattle.shfl_core.specs.declared.words.Word.TheVariants.{Attr as AttrOf}
+use Rattle.shfl_core.specs.Waiting.{ask}
 use Rattle.shfl_core.specs.Words.{site, is_store}
 use Rattle.shfl_core.specs.Plan.{plan}
 use Rattle.shfl_core.specs.Take.{take, attempted}
@@ -21,10 +25,17 @@ use Rattle.shfl_table.specs.PassModel.{PassModel}
 abbrev pub SeesValues : {X : Type 0} → (X → List ℕ) → (X → List Action) → Mode → PassModel X → PassModel X → Type 0
 SeesValues {X} initial_state history mode old new = HasSeen new.history old.own.reg.me old.history × ((xs : List X) × (new.values ≡ map Some xs) × (length xs ≡ place_count (Some mode) old.own.reg.me old.board.table.slots) × Every (IsCurrent initial_state history old.initial_state new.history) xs)
 
+-- what the next step asks of a candidate tells the attributes of that pass
+abbrev pub AsksOfCandidate : {X : Type 0} → PassModel X → Type 0
+AsksOfCandidate old = (waiter : Attr) (batch : ℕ) → ask old.board.rules old.own ≡ Should waiter batch → waiter ≡ attr_of (slice_index old.board.attrs old.own.reg.cand)
+
 -- one step of the lock's machine, with the word found
 pub record TakesStep {X : Type 0} (initial_state : X → List ℕ) (history : X → List Action) (old : PassModel X) (choice : Bool) (new : PassModel X) : Type 0 where
   pub found : ℕ
   pub form : is_store (plan old.board.rules old.own.reg.me old.own) ≡ false → Formed (site (plan old.board.rules old.own.reg.me old.own)) found
+  -- a look at a pass's attributes finds those of the opening, and what is asked of a candidate tells the candidate's
+  pub attr : is_store (plan old.board.rules old.own.reg.me old.own) ≡ false → (q : ℕ) → site (plan old.board.rules old.own.reg.me old.own) ≡ AttrOf q → found ≡ slice_index old.board.attrs q
+  pub asks : AsksOfCandidate old
   pub row : new ≡ record old { own = take old.board.rules old.own.reg.me old.own found choice; steps_taken = old.steps_taken + 1; decisions = old.decisions ++ step_decisions old.board.rules old.own choice; history = new.history; values = new.values }
   pub number : new.own.reg.me ≡ old.own.reg.me
   pub stays : hold_of old.own ≡ hold_of new.own → (new.values ≡ old.values) × (new.history ≡ old.history)

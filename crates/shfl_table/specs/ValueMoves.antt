@@ -1,15 +1,15 @@
 -- What an operation does with the values: by the hold before and after, a pass gains places, gives them back, or keeps them.
-use Rattle.std.specs.Prelude.{◌≡◌, ℕ, Bool, false, List, [], ◌++◌, map, length, Option, Some, None}
+use Rattle.std.specs.Prelude.{◌≡◌, ℕ, Bool, false, List, [], ◌++◌, map, length, slice_index, Option, Some, None}
 use Rattle.atomic_table.specs.Table.{Me, Step}
 use Rattle.shfl_line.specs.declared.events.Mode.{Mode}
 use Rattle.shfl_line.specs.declared.events.Mode.TheVariants.{Read}
 use Rattle.shfl_core.specs.declared.phase.PassState.{PassState}
 use Rattle.shfl_core.specs.declared.words.Access.{Access}
+use Rattle.shfl_core.specs.declared.words.Word.TheVariants.{Attr as AttrOf}
 use Rattle.shfl_core.specs.Words.{site, is_store}
 use Rattle.shfl_core.specs.Plan.{plan, attempt_plan}
 use Rattle.shfl_core.specs.Take.{take, attempted}
 use Rattle.shfl_core.specs.Lawful.{Terms, Formed, InRange}
-use Rattle.shfl_table.specs.declared.view.Decision.{Decision}
 use Rattle.shfl_table.specs.declared.kept.Action.{Action}
 use Rattle.shfl_table.specs.declared.view.View.{View}
 use Rattle.shfl_laws.specs.Holds.{hold_of}
@@ -43,9 +43,10 @@ module _ {V : Type 0} (initial_state : V → List ℕ) (history : V → List Act
     pub grew : Continues (number m.0) m.0.history (common_history history m.0.history values)
     pub read : mode ≡ Read → common_history history m.0.history values ≡ m.0.history
 
-  -- what is told besides: the found word's form, and that the next word is there
+  -- what is told besides: the found word's form, an attribute word's value, and that the next word is there
   pub record FitsWords (t : Terms) (a : Access) (next : ℕ → PassState) (m : Me (Option V) View) (n : ℕ) : Type 0 where
     pub form : is_store a ≡ false → Formed (site a) n
+    pub attr : is_store a ≡ false → (q : ℕ) → site a ≡ AttrOf q → n ≡ slice_index t.attrs q
     pub stays : (next n).reg.me ≡ number m.0
     pub range : InRange t (number m.0) (next n)
 

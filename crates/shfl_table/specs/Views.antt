@@ -23,12 +23,13 @@ abbrev pub passes_from : ℕ → List View → List PassState
 passes_from i [] = []
 passes_from i (v ∷ vs) = pass_at i v ∷ passes_from (suc i) vs
 
-abbrev pub new_view : List ℕ → ℕ → View
-new_view initial_state k = record {
+abbrev pub new_view : List ℕ → List ℕ → ℕ → View
+new_view attrs initial_state k = record {
   pass = idle k;
   steps_taken = 0;
   decisions = [];
   attempts = 0;
+  attrs = attrs;
   initial_state = initial_state;
   history = [];
   live = true;
@@ -36,15 +37,15 @@ new_view initial_state k = record {
   back = [];
 }
 
-abbrev pub first_view : List ℕ → View
-first_view initial_state = new_view initial_state 0
+abbrev pub first_view : List ℕ → List ℕ → View
+first_view attrs initial_state = new_view attrs initial_state 0
 
 -- the seat that splits off the next one is the last no more
 abbrev pub not_last : View → View
 not_last v = record v { last = false }
 
 abbrev pub next_view : View → View
-next_view v = new_view v.initial_state (number v + 1)
+next_view v = new_view v.attrs v.initial_state (number v + 1)
 
 -- what a step asks the policy, with the choice
 abbrev pub decision_on : Bool → Ask → List Decision
@@ -86,7 +87,7 @@ abbrev pub with_given : View → View → View
 with_given v w = record v { back = record { number = w.pass.reg.me; history = w.history } ∷ v.back }
 
 abbrev pub spent_view : View
-spent_view = record (new_view [] 0) { live = false; last = false }
+spent_view = record (new_view [] [] 0) { live = false; last = false }
 
 abbrev pub IsAmong : Given → List Given → Type 0
 IsAmong g [] = ⊥

@@ -29,7 +29,12 @@ impl<V: Kept + Drop> Model for SharedBoard<V> {
     ghost Value = { BoardModel };
 
     ghost view = { λ b. record {
-      id = record { table = b.table.shared.table_id; rules = b.table.shared.key.rules };
+      id = record {
+        table = b.table.shared.table_id;
+        rules = b.table.shared.key.rules;
+        attrs = (told_terms b.table.shared.key.rules b.table.shared.key.count
+            b.table.shared.key.words.value.items).attrs;
+      };
       count = b.table.shared.key.count;
       initial_state = initial_state_of V.initial_state b.table.shared.key.values.value.items;
     } };

@@ -15,6 +15,7 @@ mod outcomes;
 mod passes;
 mod pausing;
 mod performing;
+mod plain_words;
 mod plays;
 mod queueing;
 mod sleepers;
@@ -33,10 +34,8 @@ pub use opening::{open, open_with_sleepers};
 pub use outcomes::Outcome;
 pub use passes::Pass;
 pub use performing::perform;
+pub use plain_words::a_board_in_plain_words;
 pub use queueing::{FEW_ATTEMPTS, Queueing};
 pub use view::{Decision, Given};
 pub use visits::Visit;
 pub use waiting::{free, wait_by, wait_for};
-
-#[cfg(test)]
-mod tests;

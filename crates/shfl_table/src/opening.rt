@@ -5,6 +5,8 @@ ghost use Rattle.shfl_core.specs.Words.{most_passes, wide};
 ghost use Rattle.shfl_table.specs.Histories.{AreUntouched, initial_state_of};
 ghost use Rattle.shfl_table.specs.PassModel.{IsIdleAt, fresh_pass};
 ghost use Rattle.shfl_table.specs.Views.{first_view};
+ghost use Rattle.shfl_line.specs.Words.{attr_word};
+ghost use Rattle.shfl_laws.specs.Moves.{told_terms};
 
 use crate::board::SharedBoard;
 use crate::kept::Kept;
@@ -27,7 +29,7 @@ fn seated<V: Kept + Drop>(rules: Rules, number: u32, seat: Seat<Option<V>, View>
         × (seat.me.0.attempts ≡ 0)
         × (seat.me.0.back ≡ []) × (seat.me.1 ≡ []) }
     ensures { result ≡ fresh_pass seat.me.0.initial_state
-        (record { table = seat.table_id; rules = rules }) number }
+        (record { table = seat.table_id; rules = rules; attrs = seat.me.0.attrs }) number }
 {
     Pass {
         own: idle_pass(number),
@@ -48,14 +50,20 @@ fn deal<V: Kept + Drop>(
     requires words { shared.now.table_id.words ≡ wide count }
     requires seat { (first.table_id ≡ shared.now.table_id)
         × (first.me ≡ (
-          first_view (initial_state_of V.initial_state
-              shared.now.key.values.value.items),
+          first_view (told_terms shared.now.key.rules shared.now.key.count
+              shared.now.key.words.value.items).attrs
+              (initial_state_of V.initial_state shared.now.key.values.value.items),
           [],
         )) }
     ensures { IfOk result (λ v. (vec_len v ≡ count)
         × ((i : ℕ) → i < vec_len v → slice_get v.items i ≡ Some (fresh_pass
         (initial_state_of V.initial_state shared.now.key.values.value.items)
-        (record { table = shared.now.table_id; rules = rules }) i))) }
+        (record {
+          table = shared.now.table_id;
+          rules = rules;
+          attrs = (told_terms shared.now.key.rules shared.now.key.count
+              shared.now.key.words.value.items).attrs;
+        }) i))) }
 {
     let mut seat = first;
     let mut passes = Vec::with_capacity(alloc, count as usize)?;
@@ -107,6 +115,7 @@ pub fn open_with_sleepers<V: Kept + Drop>(
         × (r.0.id.table.slots ≡ vec_len values)
         × (r.0.count ≡ length attrs.now)
         × (r.0.initial_state ≡ initial_state_of V.initial_state values.items)) }
+    ensures attrs { IfOk result (λ r. r.0.id.attrs ≡ map attr_word attrs.now) }
     ensures count { IfOk result (λ r. vec_len r.1 ≡ length attrs.now) }
     ensures passes { IfOk result (λ r. (i : ℕ) → i < vec_len r.1 → slice_get r.1.items i
         ≡ Some (fresh_pass (initial_state_of V.initial_state values.items) r.0.id i)) }
@@ -157,6 +166,7 @@ pub fn open<V: Kept + Drop>(
         × (r.0.id.table.slots ≡ vec_len values)
         × (r.0.count ≡ length attrs.now)
         × (r.0.initial_state ≡ initial_state_of V.initial_state values.items)) }
+    ensures attrs { IfOk result (λ r. r.0.id.attrs ≡ map attr_word attrs.now) }
     ensures count { IfOk result (λ r. vec_len r.1 ≡ length attrs.now) }
     ensures passes { IfOk result (λ r. (i : ℕ) → i < vec_len r.1 → slice_get r.1.items i
         ≡ Some (fresh_pass (initial_state_of V.initial_state values.items) r.0.id i)) }

@@ -7,7 +7,7 @@ ghost use Rattle.shfl_core.specs.Waiting.{MayUse};
 ghost use Rattle.shfl_laws.specs.Holds.{hold_of};
 ghost use Rattle.shfl_table.specs.Outcomes.{IsOutcome};
 ghost use Rattle.shfl_table.specs.PassModel.{AreIn};
-ghost use Rattle.shfl_table.specs.PassSteps.{TakesStep};
+ghost use Rattle.shfl_table.specs.PassSteps.{AsksOfCandidate, TakesStep};
 ghost use Rattle.shfl_table.specs.Places.{place_count};
 ghost use Rattle.shfl_table.specs.declared.outcomes.Outcome.TheVariants.{Resting};
 
@@ -39,7 +39,7 @@ impl<V: Kept> Model for Pass<V> {
     ghost Value = { PassModel V };
 
     ghost view = { λ p. record {
-      board = record { table = p.seat.table_id; rules = p.rules };
+      board = record { table = p.seat.table_id; rules = p.rules; attrs = p.seat.me.0.attrs };
       own = p.own;
       steps_taken = p.seat.me.0.steps_taken;
       decisions = p.seat.me.0.decisions;
@@ -62,7 +62,15 @@ impl<V: Kept + Drop> Pass<V> {
         self.own.reg.me
     }
 
-    /// Where it stands.
+    /// Where it stands: phase, registers and park state.
+    #[inline(always)]
+    pub fn standing(&self) -> PassState
+        ensures { result ≡ self.now.own }
+    {
+        self.own
+    }
+
+    /// Its phase.
     #[inline(always)]
     pub fn phase(&self) -> Phase
         ensures { result ≡ self.now.own.phase }
@@ -78,7 +86,8 @@ impl<V: Kept + Drop> Pass<V> {
         self.own.nap
     }
 
-    /// Whether it holds the lock. A pass has the places that its hold gives it, and no others.
+    /// Whether it holds the lock. A pass has the places that its hold gives it, and no others. It may still owe the step that wakes
+    /// the pass that it made ready: `resting` says that it owes none.
     #[inline(always)]
     pub fn held(&self) -> bool
         ensures answer { result ≡ plan.is_held self.now.own.phase }
@@ -86,6 +95,14 @@ impl<V: Kept + Drop> Pass<V> {
             ≡ place_count (hold_of self.now.own) self.now.own.reg.me self.now.board.table.slots }
     {
         matches!(self.own.phase, Phase::Held)
+    }
+
+    /// Whether it holds the lock and owes no step, so that it may release.
+    #[inline(always)]
+    pub fn resting(&self) -> bool
+        ensures { result ≡ plan.is_resting self.now.own }
+    {
+        matches!(self.own.phase, Phase::Held) && matches!(self.own.nap, Nap::Awake)
     }
 
     /// Whether it has a step to make.
@@ -96,10 +113,11 @@ impl<V: Kept + Drop> Pass<V> {
         is_moving(self.own)
     }
 
-    /// What its next step asks the policy.
+    /// What its next step asks the policy. A question of a candidate tells the attributes with which the candidate was opened.
     #[inline(always)]
     pub fn ask(&self) -> Ask
-        ensures { result ≡ waiting.ask self.now.board.rules self.now.own }
+        ensures answer { result ≡ waiting.ask self.now.board.rules self.now.own }
+        ensures candidate { AsksOfCandidate self.now }
     {
         ask_row(self.rules, self.own)
     }

@@ -10,15 +10,22 @@ use std::sync::atomic::AtomicU64;
 use std::time::Duration;
 use std::{hint, thread};
 
-// How often a waiter looks again at once, in the queue and at its head; then it sleeps.
+// How often a waiter looks again at once, in the queue, where more than so many wait there, and at its head; then it sleeps.
 const SPINS: u32 = 100;
+
+const SPINS_FAR: u32 = 15;
+
+const NEAR: u64 = 3;
 
 const SPINS_AT_HEAD: u32 = 1000;
 
-// After so many rounds that moved nobody a shuffler sleeps until the next; before, it spins so long, and each time twice as long.
-const BRIEF_ROUNDS: u32 = 3;
+// After so many rounds that moved nobody a shuffler sleeps until the next; before, it spins so long, and each time twice as long, up to
+// so many times.
+const BRIEF_ROUNDS: u32 = 16;
 
-const BRIEF_PAUSE: u32 = 64;
+const BRIEF_PAUSE: u32 = 16;
+
+const BRIEF_DOUBLINGS: u32 = 2;
 
 // The first sleep, in microseconds; each next one is twice as long, up to a longest one, which is shorter at the queue's head.
 const FIRST_SLEEP: u32 = 50;
@@ -46,6 +53,8 @@ pub(crate) struct Pauses {
     rounds: u32,
     // How often it slept since it last moved somebody or became the head.
     sleeps: u32,
+    // It was woken since it joined, so its turn is near.
+    woken: bool,
     // Others know that it may sleep.
     announced: bool,
     // Whoever frees the lock knows it too.
@@ -58,6 +67,7 @@ impl Pauses {
             looks: 0,
             rounds: 0,
             sleeps: 0,
+            woken: false,
             announced: false,
             at_head: false,
         }
@@ -88,6 +98,7 @@ impl Pauses {
             self.sleeps = self.sleeps.saturating_add(1);
             if sleeper.sleep_at_most(rt, micros) {
                 self.looks = 0;
+                self.woken = true;
             }
         }
         self.announced = sleeper.announce();
@@ -103,7 +114,13 @@ impl Pauses {
         let looks = self.looks;
         self.looks = looks.saturating_add(1);
         let spins = match pass.phase() {
-            Phase::Look => SPINS,
+            Phase::Look => {
+                if self.woken || board.head.waiting() <= NEAR {
+                    SPINS
+                } else {
+                    SPINS_FAR
+                }
+            }
             _ => SPINS_AT_HEAD,
         };
         if looks < spins {
@@ -128,7 +145,7 @@ impl Pauses {
         let rounds = self.rounds;
         self.rounds = rounds.saturating_add(1);
         if rounds < BRIEF_ROUNDS {
-            for _ in 0..BRIEF_PAUSE << rounds.min(BRIEF_ROUNDS) {
+            for _ in 0..BRIEF_PAUSE << rounds.min(BRIEF_DOUBLINGS) {
                 hint::spin_loop();
             }
         } else {
@@ -160,6 +177,7 @@ impl Pauses {
 
     /// The waiter holds the lock, and sleeps no more.
     pub(crate) fn end<V: Kept + Drop>(&self, board: &SharedBoard<V>, pass: &Pass<V>) {
+        board.head.leaves();
         if self.at_head {
             board.head.rise(pass.number());
         }

@@ -25,6 +25,8 @@ pub struct View {
     pub decisions: LinkedList<Decision>,
     /// How often it tried to take the lock without queueing.
     pub attempts: u64,
+    /// The attribute word of each pass of its board.
+    pub attrs: LinkedList<u64>,
     pub initial_state: LinkedList<u64>,
     /// The history of the values, as far as the pass saw it.
     pub history: LinkedList<Action>,
@@ -58,7 +60,8 @@ impl<V: Kept> TableRule<Option<V>, View, Opening<V>> for LawfulBoard {
         (told_terms k.rules k.count k.words.value.items)
         (initial_state_of V.initial_state k.values.value.items) };
 
-    ghost first = { λ k. first_view (initial_state_of V.initial_state k.values.value.items) };
+    ghost first = { λ k. first_view (told_terms k.rules k.count k.words.value.items).attrs
+        (initial_state_of V.initial_state k.values.value.items) };
 }
 
 /// The last pass splits off the next one.

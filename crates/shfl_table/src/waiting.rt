@@ -88,15 +88,36 @@ fn park_or_wake<V: Kept + Drop, Rt: Wait>(
     }
 }
 
+// Wakes the pass that the step has made ready, and where it came so late that it slept, the next one too.
+fn rouse_heir<V: Kept + Drop>(board: &SharedBoard<V>, heir: u32) {
+    if board.rouse(heir as usize) {
+        board.rouse_behind(heir as usize, 1);
+    }
+    board.head.leads_to(heir);
+}
+
 // Wakes the pass that the step has made ready, or has given the shuffler's flag, where it sleeps, and the head, which a reader's count
-// that was taken back may have kept out.
+// that was taken back may have kept out; and notes who stands behind whom.
 fn rouse_other<V: Kept + Drop>(board: &SharedBoard<V>, before: Phase, nap: Nap, pass: &Pass<V>) {
     if !matches!(nap, Nap::Awake) {
         return;
     }
+    let reg = &pass.own.reg;
     match before {
-        Phase::Ready => board.rouse(pass.own.reg.heir as usize),
-        Phase::Give => board.rouse(pass.own.reg.last as usize),
+        Phase::Init => board.stands_last(reg.me),
+        Phase::Link => board.stands_before(reg.before, reg.me),
+        Phase::Place => {
+            board.stands_before(reg.prev, reg.after);
+            board.stands_before(reg.cand, reg.first);
+            board.stands_before(reg.last, reg.cand);
+        }
+        Phase::Ready => rouse_heir(board, reg.heir),
+        // who keeps the flag is awake, and must not end its own next sleep
+        Phase::Give => {
+            if reg.last != reg.me {
+                let _ = board.rouse(reg.last as usize);
+            }
+        }
         Phase::Uncount => board.rouse_head(),
         _ => {}
     }
@@ -178,6 +199,7 @@ pub fn wait_by<V: Kept + Drop, C: Chooser, G: Gate, Rt: Wait>(
         return;
     }
     let _ = pass.acquire(mode);
+    board.head.joins();
     let mut pauses = Pauses::new();
     for _ in rt.forever() {
         if !pass.moving() {
@@ -227,7 +249,7 @@ pub fn wait_for<V: Kept + Drop, C: Chooser, G: Gate, Rt: Wait>(
     );
 }
 
-/// Frees the lock, with all values put back, and with one history, and wakes the queue's head where that sleeps.
+/// Frees the lock, with all values put back, and with one history, and wakes the queue's head where that sleeps, and those who come next.
 #[inline(always)]
 pub fn free<V: Kept + Drop>(board: &SharedBoard<V>, pass: &mut Pass<V>)
     requires board { pass.old.board ≡ board.now.id }
@@ -243,4 +265,5 @@ pub fn free<V: Kept + Drop>(board: &SharedBoard<V>, pass: &mut Pass<V>)
     let _ = pass.release();
     let _ = pass.step(board, false);
     board.rouse_head();
+    board.rouse_ahead();
 }

@@ -10,7 +10,8 @@ mod ticket;
 mod told;
 
 pub use asked::{form_numbered, profile_numbered};
-pub use boxes::boxed_each;
+pub use boxes::{boxed_each, shared};
 pub use opening::open;
+pub use policies::{answer_of, loaded};
 pub use ticket::Ticket;
 pub use told::{ShflAsk, ShflVerdict, ShflWatch, ask_told, outcome_told, verdict_told, watch_told};

@@ -1,6 +1,6 @@
 //! The opening of a lock, with a ticket for each of its passes.
 ghost use Rattle.std.specs.Prelude.{◌≡◌, ℕ, ◌<◌, ◌≤◌, length, map, vec_len, slice_get, slice_index, IfOk, None, Some, []};
-ghost use Rattle.shfl_line.specs.Words.{attr_of};
+ghost use Rattle.shfl_line.specs.Words.{attr_of, attr_word};
 ghost use Rattle.shfl_table.specs.PassModel.{fresh_pass};
 ghost use Rattle.shfl_ticket.specs.Tickets.{AreOpened, fresh_ticket};
 
@@ -13,7 +13,8 @@ use std::sync::Arc;
 
 // The attributes that these words hold.
 fn attrs_of(alloc: Global, words: &[u64]) -> Result<Vec<Attr>, NoMemory>
-    ensures { IfOk result (λ v. vec_len v ≡ length words.now) }
+    ensures { IfOk result (λ v. (vec_len v ≡ length words.now)
+        × (map attr_word v.items ≡ words.now)) }
 {
     let mut attrs = Vec::with_capacity(alloc, words.len())?;
     for word in words {

@@ -30,8 +30,8 @@ fn bytes_of(alloc: Global, bytes: &[u8]) -> Result<Option<Vec<u8>>, LoadError>
     }
 }
 
-// What the policy of these programs answers to a question of a pass with these attributes.
-fn answer_of(policy: &Policy, anchor: &Attr, question: Ask) -> bool
+/// What a policy answers to a question of a pass with these attributes.
+pub fn answer_of(policy: &Policy, anchor: &Attr, question: Ask) -> bool
     ensures { result ≡ answer_to (Some policy.now) anchor.now question }
 {
     let mut running = policy.running();
@@ -42,8 +42,13 @@ fn answer_of(policy: &Policy, anchor: &Attr, question: Ask) -> bool
     }
 }
 
-// The policy of these programs.
-fn loaded(alloc: Global, profile: Profile, should: &[u8], skip: &[u8]) -> Result<Policy, LoadError>
+/// The policy of these programs, under the name 0; no bytes are no program.
+pub fn loaded(
+    alloc: Global,
+    profile: Profile,
+    should: &[u8],
+    skip: &[u8],
+) -> Result<Policy, LoadError>
     ensures loaded { IfOk result (IsLoaded 0 profile (source_of should.now skip.now)) }
     ensures bad { IfErr result (IsLoadError profile (source_of should.now skip.now)) }
 {

@@ -3,7 +3,7 @@ ghost use Rattle.std.specs.Prelude.{◌≡◌, ◌<◌, length, slice_index};
 ghost use Rattle.shfl_line.specs.Words.{attr_of};
 ghost use Rattle.shfl_core.specs.Plan as plan;
 ghost use Rattle.shfl_core.specs.Waiting as waiting;
-ghost use Rattle.shfl_ticket.specs.Tickets.{ticket_of};
+ghost use Rattle.shfl_ticket.specs.Tickets.{AsksOfCandidate, ticket_of};
 
 use shfl_core::{Ask, Nap, Phase, Watch};
 use shfl_line::Attr;
@@ -105,9 +105,10 @@ impl Ticket {
         self.pass.moving()
     }
 
-    /// What the next step asks the policy.
+    /// What the next step asks the policy. A question of a candidate tells the attributes with which the candidate was opened.
     pub fn ask(&self) -> Ask
-        ensures { result ≡ waiting.ask self.now.board.rules self.now.own }
+        ensures answer { result ≡ waiting.ask self.now.board.rules self.now.own }
+        ensures candidate { AsksOfCandidate self.now }
     {
         self.pass.ask()
     }

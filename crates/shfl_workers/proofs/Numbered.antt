@@ -1,5 +1,5 @@
 -- Passes that stand at the places of their numbers.
-use Rattle.std.proofs.Common.{◌≡◌, ℕ, zero, suc, ◌<◌, List, [], ◌∷◌, map, length, get_or, slice_get, Some, All, sym, refl, ap, ◌∙◌, subst, arith}
+use Rattle.std.proofs.Common.{◌≡◌, ℕ, zero, suc, ◌<◌, List, [], ◌∷◌, ◌++◌, map, length, get_or, slice_get, Some, All, sym, refl, ap, ◌∙◌, subst, arith}
 use Rattle.std.specs.List.{Contains}
 use Rattle.std.proofs.lemmas.List.{get_or-map}
 use Rattle.std.proofs.lemmas.List.Elements.{All-map, Contains-get_or}
@@ -43,6 +43,13 @@ element_at (y ∷ ys) (suc i) lt = element_at ys i (omega (arith, lt))
 -- what is true of all is true of the one at a place
 pub of_all : {X : Type 0} (P : X → Type 0) (xs : List X) → All P xs → (i : ℕ) (x : X) → slice_get xs i ≡ Some x → P x
 of_all P xs all i x e = let r = at_index xs i x x e in subst P r.1 (all i x r.0)
+
+-- what is true at each place stays so where it is true of one more at the next place
+pub at_each_more : {X : Type 0} (P : ℕ → X → Type 0) (xs : List X) (x : X) → AtEachPlace P xs → P (length xs) x → AtEachPlace P (xs ++ x ∷ [])
+at_each_more P [] x all here zero y e = subst (P 0) (some_same x y e) here
+at_each_more P [] x all here (suc k) y e = absurd (cc)
+at_each_more P (z ∷ zs) x all here zero y e = all 0 y e
+at_each_more P (z ∷ zs) x all here (suc k) y e = at_each_more (λ n. P (suc n)) zs x (λ n w f. all (suc n) w f) here k y e
 
 -- where each element is that of its place, and those are such, each is
 pub each_place : {X : Type 0} (P : ℕ → X → Type 0) (f : ℕ → X) (xs : List X) → ((k : ℕ) → k < length xs → slice_get xs k ≡ Some (f k)) → ((k : ℕ) → k < length xs → P k (f k)) → AtEachPlace P xs

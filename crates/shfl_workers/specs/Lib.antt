@@ -8,4 +8,5 @@ pub mod ShardDirs
 pub mod Passes
 pub mod CellDirs
 pub mod Opened
+pub mod Loaded
 pub mod Prevailing

@@ -1,6 +1,7 @@
 //! The chooser of a worker: each round is answered by one version of live policies.
-ghost use Rattle.std.specs.Prelude.{◌≡◌, None, IsSome};
-ghost use Rattle.policy_versions.specs.Models.{IsClosed};
+ghost use Rattle.std.specs.Prelude.{◌≡◌, None, IsSome, IsSomeAnd};
+ghost use Rattle.policy_versions.specs.Models.{IsClosed, IsNewest, LoadedLast};
+ghost use Rattle.policy_versions.specs.Rule.{word_of};
 ghost use Rattle.shfl_line.specs.Policies.{AddsAnswer, skip_answer, should_answer};
 ghost use Rattle.shfl_workers.specs.Choosing.{policy_of, skipped, moved_up};
 
@@ -98,6 +99,14 @@ impl<'a, 'p> Chooser for UsingChooser<'a, 'p> {
         ensures pass { (self.new.name ≡ self.old.name) × (self.new.pass.user ≡ self.old.pass.user) }
         ensures moves { self.new.moves ≡ self.old.moves }
         ensures open { IsSome self.new.held }
+
+        // A round that is open goes on. Another one has the version that was current at the last load of this call, and none that is
+        // older than one that the pass has loaded before.
+        ensures goes_on { IsSome self.old.held → self.new ≡ self.old }
+        ensures current { self.old.held ≡ None → IsSomeAnd self.new.held
+            (λ u. LoadedLast self.old.pass.seen self.new.pass.seen (word_of u.version u.which)) }
+        ensures newest { self.old.held ≡ None → IsSomeAnd self.new.held
+            (λ u. IsNewest self.old.pass.seen u.version) }
     {
         if self.held.is_some() {
             return;

@@ -3,6 +3,7 @@ ghost use Rattle.std.specs.Prelude.{◌≡◌, IfOk, ◌≤◌, vec_len, length}
 ghost use Rattle.shfl_policy.specs.Loading.{IsLoaded};
 ghost use Rattle.std.specs.List.{AllByRecursion};
 ghost use Rattle.policy_text.specs.Accepted.{AcceptsSource};
+ghost use Rattle.shfl_workers.specs.Loaded.{AreLoaded};
 
 use bpf_isa::Profile;
 use shfl_policy::{LoadError, Policy, load};
@@ -34,11 +35,13 @@ pub fn load_all(
 ) -> Result<Vec<Policy>, NoMemory>
     requires few { length declared.now ≤ 64 }
     requires accepted { AllByRecursion (λ p. AcceptsSource profile p.source) declared.now }
-    ensures { IfOk result (λ v. vec_len v ≡ length declared.now) }
+    ensures count { IfOk result (λ v. vec_len v ≡ length declared.now) }
+    ensures loaded { IfOk result (λ v. AreLoaded profile declared.now v.items) }
 {
     let mut policies = Vec::with_capacity(alloc, declared.len())?;
     for number in 0..declared.len() {
-        policies.push(load_one(alloc, number as u32, profile, &declared[number])?)?;
+        let policy = load_one(alloc, number as u32, profile, &declared[number])?;
+        policies.push(policy)?;
     }
     Ok(policies)
 }

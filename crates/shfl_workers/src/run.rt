@@ -8,6 +8,7 @@ ghost use Rattle.trace_text.specs.Histories.{IsHistoryOf};
 ghost use Rattle.trace_text.specs.Attachments.{attached_in, attaches_of};
 ghost use Rattle.policy_versions.specs.Models.{AreFresh};
 ghost use Rattle.shfl_workers.specs.Attaching.{Attached};
+ghost use Rattle.shfl_workers.specs.Loaded.{AreLoaded};
 
 use crate::activity::{join, run_all, take_apart};
 use crate::attaching::{Attaching, copies_of};
@@ -52,6 +53,8 @@ fn open_registry(
         trace.now.policies.items }
     ensures attached { IfOk result (λ r. Attached r.0 [] (attached_in trace.now.calls.items)
         r.1.publisher r.1.copies.items) }
+    ensures declared { IfOk result (λ r.
+        AreLoaded trace.now.profile trace.now.policies.items r.0.declared) }
     ensures count { IfOk result (λ r. vec_len r.2 ≡ length trace.now.workers.items) }
     ensures users { IfOk result (λ r.
         AreFresh r.0 (length trace.now.workers.items) r.2.items) }

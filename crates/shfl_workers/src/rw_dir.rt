@@ -1,10 +1,12 @@
 //! A directory with a copy for each worker, behind a readers-writer lock.
-ghost use Rattle.std.specs.Prelude.{◌≡◌, slice_index, length, map, vec_len, All, IfOk};
+ghost use Rattle.std.specs.Prelude.{◌≡◌, ◌<◌, ◌+◌, ◌++◌, ◌∷◌, [], List, slice_index, length, map, vec_len, All, IfOk};
+ghost use Rattle.dir_table.specs.declared.calls.DirCall.{DirCall as DirCallValue};
+ghost use Rattle.dir_table.specs.Meanings.{IsAdmitted};
 ghost use Rattle.rw_cell.specs.RwCells.{number, IsPassOf};
 ghost use Rattle.trace_text.specs.Report.{done_of};
 ghost use Rattle.trace_text.specs.Traces.{IsWithin};
 ghost use Rattle.trace_text.specs.Histories.{IsHistoryOf};
-ghost use Rattle.shfl_workers.specs.RwDirs.{HasMade};
+ghost use Rattle.shfl_workers.specs.RwDirs.{HasMade, mode_of};
 ghost use Rattle.shfl_workers.specs.Opened.{directory_for, IsCellFor};
 ghost use Rattle.shfl_workers.specs.Passes.{AtEachPlace, IsDone};
 
@@ -77,7 +79,20 @@ impl SharedDir for RwCellOf<Book<Dir>, Entry<Dir>, Dir> {
         chooser: &mut C,
         gate: &G,
         call: &DirCall,
-    ) {
+    )
+        requires pass { IsPassOf self.now pass.old }
+        requires left { 0 < pass.old.left }
+        requires admitted { IsAdmitted (slice_index self.now.opening 0) call.now }
+        ensures pass { IsPassOf self.now pass.new }
+        ensures worker { number pass.new ≡ number pass.old }
+        ensures left { pass.new.left + 1 ≡ pass.old.left }
+        ensures made { (calls : List DirCallValue) → HasMade pass.old calls
+            → HasMade pass.new (calls ++ call.now ∷ []) }
+        ensures home { C.home chooser.new ≡ C.home chooser.old }
+
+        // A read holds the lock beside other readers, and a write alone.
+        ensures mode { pass.new.reg.mode ≡ mode_of call.now }
+    {
         if Dir::is_read(call) {
             let _ = self.read(rt, pass, chooser, gate, call);
         } else {

@@ -2,10 +2,12 @@
 use Rattle.std.specs.Prelude.{ℕ, ◌+◌, ◌*◌, List, ◌++◌, length, map, codes}
 use Rattle.std.specs.List.{flat_map}
 use Rattle.std.specs.Fmt.{decimal}
-use Rattle.sim_model.specs.declared.bench.Bench.{Bench}
+use Rattle.sim_report.specs.declared.figures.Figure.TheVariants as figure
+use Rattle.sim_report.specs.declared.figures.Line.TheVariants as line
 use Rattle.sim_report.specs.declared.tallies.Key.TheVariants.{Socket}
-use Rattle.sim_report.specs.Reports.{end_of, time_of}
-use Rattle.sim_report.specs.Tallies.{tally_in, values_of}
+use Rattle.sim_report.specs.Endings.{EndedModel, ended}
+use Rattle.sim_report.specs.Figures.{value_of, told_of}
+use Rattle.sim_report.specs.Tallies.{values_of}
 use Rattle.sim_text.specs.Setups.{CandidateModel, SetupModel}
 use Rattle.sim_chart.specs.Bars.{BarModel, chart_text}
 use Rattle.sim_chart.specs.Shapes.{text_at, text_end}
@@ -14,18 +16,26 @@ abbrev pub bar : List ℕ → ℕ → BarModel
 bar label amount = record { label = label; amount = amount }
 
 -- how the run of a policy ends, of several seeds with the first
-abbrev pub end_bench : SetupModel → CandidateModel → Bench
-end_bench s c = (end_of s s.load.seeds.first c.rule).bench
+abbrev pub first_end : SetupModel → CandidateModel → EndedModel
+first_end s c = ended s s.load.seeds.first c.rule
 
-abbrev pub gains_bar : SetupModel → CandidateModel → BarModel
-gains_bar s c = bar c.name (end_bench s c).order.gained
+-- the gains of all passes in a run that ended so
+abbrev pub gains_bar : SetupModel → List ℕ → EndedModel → BarModel
+gains_bar s name e = bar name (value_of (told_of e s.passes line.Gains) figure.Gained)
 
--- the longest wait on a socket in a run that ended so, up to a time
-abbrev pub wait_bar : SetupModel → List ℕ → ℕ → Bench → ℕ → BarModel
-wait_bar s name time b socket = bar (name ++ codes " socket " ++ decimal socket) (tally_in Socket socket time s.passes b.served).longest
+-- the longest wait on a socket
+abbrev pub wait_bar : SetupModel → List ℕ → EndedModel → ℕ → BarModel
+wait_bar s name e socket = bar (name ++ codes " socket " ++ decimal socket) (value_of (told_of e s.passes (line.Passes Socket socket)) figure.Longest)
 
-abbrev pub waits_bars : SetupModel → CandidateModel → List BarModel
-waits_bars s c = map (wait_bar s c.name (time_of s s.load.seeds.first c.rule) (end_bench s c)) (values_of Socket s.passes)
+abbrev pub waits_bars : SetupModel → List ℕ → EndedModel → List BarModel
+waits_bars s name e = map (wait_bar s name e) (values_of Socket s.passes)
+
+-- the bars of a policy
+abbrev pub gains_of : SetupModel → CandidateModel → BarModel
+gains_of s c = gains_bar s c.name (first_end s c)
+
+abbrev pub waits_of : SetupModel → CandidateModel → List BarModel
+waits_of s c = waits_bars s c.name (first_end s c)
 
 -- the beginning of a picture of this height
 unfoldable pub svg_text : ℕ → List ℕ
@@ -62,4 +72,4 @@ unfoldable pub charts_text : List BarModel → List BarModel → List ℕ
 charts_text gains waits = head_text (height_of gains waits) ++ gains_text gains ++ waits_text (second_of gains) waits ++ codes "</svg>\n"
 
 abbrev pub picture_text : SetupModel → List ℕ
-picture_text s = charts_text (map (gains_bar s) s.policies) (flat_map (waits_bars s) s.policies)
+picture_text s = charts_text (map (gains_of s) s.policies) (flat_map (waits_of s) s.policies)

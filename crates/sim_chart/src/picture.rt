@@ -2,43 +2,33 @@
 ghost use Rattle.std.specs.Prelude.{◌≡◌, ◌≤◌, ◌+◌, ◌*◌, ◌++◌, ◌∷◌, [], length, map, IfOk, OnOk};
 ghost use Rattle.std.specs.List.{flat_map};
 ghost use Rattle.sim_chart.specs.Pictures as pictures;
-ghost use Rattle.sim_report.specs.Reports.{time_of};
-ghost use Rattle.sim_report.specs.Tallies.{values_of};
-ghost use Rattle.sim_report.specs.declared.tallies.Key.TheVariants.{Socket};
 ghost use Rattle.sim_text.specs.Setups.{IsWithin};
 
 use crate::bars::{Bar, push_chart};
 use crate::shapes::{push_text_at, push_text_end};
 use shfl_line::NoMemory;
-use sim_model::{Bench, simulate, time_reached};
-use sim_report::{Key, push_figure, run_setup, tally_of, values_of};
-use sim_text::{Candidate, SimSetup};
+use sim_report::{Ended, Figure, Key, Line, push_figure, run_of, told_of, value_of, values_of};
+use sim_text::SimSetup;
 use std::alloc::{AllocError, Global};
 
 // The bar of a policy's gains, behind those before.
 fn push_gains(
     alloc: Global,
     gains: &mut Vec<Bar>,
+    setup: &SimSetup,
     name: &[u8],
-    gained: u64,
+    ended: &Ended,
 ) -> Result<(), AllocError>
+    requires { IsWithin setup.now }
     ensures bars { OnOk result (gains.new.items
-        ≡ gains.old.items ++ pictures.bar name.now gained ∷ []) }
+        ≡ gains.old.items ++ pictures.gains_bar setup.now name.now ended.now ∷ []) }
     ensures few { OnOk result (length gains.new.items ≡ length gains.old.items + 1) }
 {
     let label = Vec::from_slice(alloc, name)?;
-    gains.push(Bar {
-        label,
-        amount: gained,
-    })?;
+    let all = told_of(ended, setup.passes.as_slice(), Line::Gains);
+    let amount = value_of(&all, Figure::Gained);
+    gains.push(Bar { label, amount })?;
     Ok(())
-}
-
-/// How a run ended: what was counted, and up to when it had come.
-#[derive(Drop)]
-struct End {
-    bench: Bench,
-    time: u64,
 }
 
 // The bar of the longest wait on a socket.
@@ -46,21 +36,21 @@ fn wait_bar(
     alloc: Global,
     setup: &SimSetup,
     name: &[u8],
-    end: &End,
+    ended: &Ended,
     socket: u32,
 ) -> Result<Bar, AllocError>
     requires { IsWithin setup.now }
-    ensures { IfOk result
-        (λ b. b ≡ pictures.wait_bar setup.now name.now end.now.time end.now.bench socket) }
+    ensures { IfOk result (λ b. b ≡ pictures.wait_bar setup.now name.now ended.now socket) }
 {
-    let attrs = setup.passes.as_slice();
-    let tally = tally_of(Key::Socket, socket, end.time, attrs, &end.bench.served);
+    let own = told_of(
+        ended,
+        setup.passes.as_slice(),
+        Line::Passes(Key::Socket, socket),
+    );
     let mut label = Vec::from_slice(alloc, name)?;
     push_figure(&mut label, b" socket ", u64::from(socket))?;
-    Ok(Bar {
-        label,
-        amount: tally.longest,
-    })
+    let amount = value_of(&own, Figure::Longest);
+    Ok(Bar { label, amount })
 }
 
 // The bars of the longest waits on each socket, behind those before.
@@ -69,35 +59,18 @@ fn push_waits(
     waits: &mut Vec<Bar>,
     setup: &SimSetup,
     name: &[u8],
-    end: &End,
+    ended: &Ended,
 ) -> Result<(), AllocError>
     requires { IsWithin setup.now }
-    ensures bars { OnOk result (waits.new.items ≡ waits.old.items
-        ++ map (pictures.wait_bar setup.now name.now end.now.time end.now.bench)
-        (values_of Socket setup.now.passes)) }
+    ensures bars { OnOk result (waits.new.items
+        ≡ waits.old.items ++ pictures.waits_bars setup.now name.now ended.now) }
     ensures few { OnOk result (length waits.new.items ≤ length waits.old.items + 1024) }
 {
     let sockets = values_of(alloc, Key::Socket, setup.passes.as_slice())?;
     for socket in &sockets {
-        waits.push(wait_bar(alloc, setup, name, end, *socket)?)?;
+        waits.push(wait_bar(alloc, setup, name, ended, *socket)?)?;
     }
     Ok(())
-}
-
-// How the run of a policy ends, of several seeds with the first.
-#[tactic(auto, unfolding(sim_report::specs::Reports::end_of, sim_report::specs::Reports::time_of))]
-fn end_of(alloc: Global, setup: &SimSetup, candidate: &Candidate) -> Result<End, NoMemory>
-    requires { IsWithin setup.now }
-    ensures bench { IfOk result (λ e. e.bench ≡ pictures.end_bench setup.now candidate.now) }
-    ensures time { IfOk result
-        (λ e. e.time ≡ time_of setup.now setup.now.load.seeds.first candidate.now.rule) }
-{
-    let lock = run_setup(setup, setup.load.seeds.first);
-    let attrs = setup.passes.as_slice();
-    let run = simulate(alloc, &lock, attrs, &candidate.rule, setup.load.turns)?;
-    let time = time_reached(&lock, &run.bench);
-    let bench = run.bench;
-    Ok(End { bench, time })
 }
 
 /// The bars of all policies: their gains, and the longest waits on each socket.
@@ -110,19 +83,19 @@ struct Charts {
 fn bars_of(alloc: Global, setup: &SimSetup) -> Result<Charts, NoMemory>
     requires { IsWithin setup.now }
     ensures gains { IfOk result
-        (λ c. c.gains.items ≡ map (pictures.gains_bar setup.now) setup.now.policies) }
+        (λ c. c.gains.items ≡ map (pictures.gains_of setup.now) setup.now.policies) }
     ensures waits { IfOk result
-        (λ c. c.waits.items ≡ flat_map (pictures.waits_bars setup.now) setup.now.policies) }
+        (λ c. c.waits.items ≡ flat_map (pictures.waits_of setup.now) setup.now.policies) }
     ensures few { IfOk result (λ c. length c.gains.items ≤ 16) }
     ensures short { IfOk result (λ c. length c.waits.items ≤ 16384) }
 {
     let mut gains = Vec::new(alloc);
     let mut waits = Vec::new(alloc);
     for candidate in &setup.policies {
-        let end = end_of(alloc, setup, candidate)?;
+        let ended = run_of(alloc, setup, setup.load.seeds.first, &candidate.rule)?;
         let name = candidate.name.as_slice();
-        push_gains(alloc, &mut gains, name, end.bench.order.gained)?;
-        push_waits(alloc, &mut waits, setup, name, &end)?;
+        push_gains(alloc, &mut gains, setup, name, &ended)?;
+        push_waits(alloc, &mut waits, setup, name, &ended)?;
     }
     Ok(Charts { gains, waits })
 }

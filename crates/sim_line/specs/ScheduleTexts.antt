@@ -20,7 +20,7 @@ use Rattle.sim_text.specs.declared.setup.Rule.{Rule}
 use Rattle.sim_text.specs.declared.setup.Rule.TheVariants.{Simple, Program}
 use Rattle.sim_text.specs.Answering.{rule_advice}
 use Rattle.lock_words.specs.Forms.{form_text}
-use Rattle.sim_report.specs.Reports.{run_setup}
+use Rattle.sim_report.specs.Endings.{run_setup}
 use Rattle.sim_text.specs.Setups.{CandidateModel, SetupModel}
 
 -- the most events of a schedule

@@ -2,3 +2,4 @@ pub mod Rising
 pub mod Values
 pub mod Totals
 pub mod Listed
+pub mod EndedRuns

@@ -1,55 +1,135 @@
--- The figures of a run, in the order in which a report over several seeds tells them.
-use Rattle.std.specs.Prelude.{ℕ, zero, suc, ◌+◌, List, [], ◌∷◌, ◌++◌, Bool, cond}
+-- The figures of a run: the one list of them, from which the report, the table over several seeds and the picture are made.
+use Rattle.std.specs.Prelude.{ℕ, zero, suc, ◌+◌, List, [], ◌∷◌, ◌++◌, cond, map, codes}
 use Rattle.std.specs.List.{flat_map}
 use Rattle.shfl_line.specs.declared.words.Attr.{Attr}
-use Rattle.sim_model.specs.declared.bench.Bench.{Bench}
 use Rattle.sim_model.specs.declared.counts.Counts.{Counts}
-use Rattle.sim_model.specs.declared.counts.Order.{Order}
 use Rattle.sim_model.specs.declared.counts.Reaches.{Reaches}
-use Rattle.sim_model.specs.declared.counts.Served.{Served}
 use Rattle.sim_text.specs.declared.setup.Rule.{Rule}
 use Rattle.sim_text.specs.Setups.{SetupModel}
+use Rattle.sim_report.specs.declared.figures.Figure.{Figure}
+use Rattle.sim_report.specs.declared.figures.Figure.TheVariants as figure
+use Rattle.sim_report.specs.declared.figures.Line.{Line}
+use Rattle.sim_report.specs.declared.figures.Line.TheVariants as line
+use Rattle.sim_report.specs.declared.figures.Told.{Told}
 use Rattle.sim_report.specs.declared.tallies.Key.{Key}
 use Rattle.sim_report.specs.declared.tallies.Key.TheVariants.{All, Socket, Prio, Class}
 use Rattle.sim_report.specs.declared.tallies.Tally.{Tally}
-use Rattle.sim_report.specs.Reports.{end_of, cut_of, time_of}
-use Rattle.sim_report.specs.Tallies.{tally_in, values_of, rising, half_of, most_of}
+use Rattle.sim_report.specs.Endings.{EndedModel, ended}
+use Rattle.sim_report.specs.Tallies.{tally_in, values_of, half_of, most_of}
 
--- gains, reads, steals, and those of the socket of the gain before
-unfoldable pub gains_figures : Tally → Order → List ℕ
-gains_figures t o = o.gained ∷ t.reads ∷ t.stolen ∷ o.same ∷ []
+-- ---- the list
 
--- what the lock did
-unfoldable pub work_figures : Counts → List ℕ
-work_figures c = c.steps ∷ c.rounds ∷ c.asked ∷ c.yes ∷ c.insns ∷ c.relinks ∷ c.parks ∷ c.rings ∷ []
+-- what each is called
+abbrev pub name_of : Figure → List ℕ
+name_of figure.Gained = codes "gained"
+name_of figure.Reads = codes "reads"
+name_of figure.Stolen = codes "stolen"
+name_of figure.Same = codes "same"
+name_of figure.Steps = codes "steps"
+name_of figure.Rounds = codes "rounds"
+name_of figure.Asked = codes "asked"
+name_of figure.Yes = codes "yes"
+name_of figure.Insns = codes "insns"
+name_of figure.Relinks = codes "relinks"
+name_of figure.Parks = codes "parks"
+name_of figure.Rings = codes "rings"
+name_of figure.Hits = codes "hits"
+name_of figure.Near = codes "near"
+name_of figure.Far = codes "far"
+name_of figure.Waited = codes "waited"
+name_of figure.Half = codes "half"
+name_of figure.Most = codes "most"
+name_of figure.Longest = codes "longest"
+name_of figure.Overtaken = codes "overtaken"
+name_of figure.Cut = codes "cut"
 
--- from how far the lines came of some accesses
-unfoldable pub reaches_figures : Reaches → List ℕ
-reaches_figures r = r.hits ∷ r.near ∷ r.far ∷ []
+-- how each is read off what its line tells of; the cut is 1 for a run that had turns left
+abbrev pub value_of : Told → Figure → ℕ
+value_of t figure.Gained = t.tally.gained
+value_of t figure.Reads = t.tally.reads
+value_of t figure.Stolen = t.tally.stolen
+value_of t figure.Same = t.same
+value_of t figure.Steps = t.counts.steps
+value_of t figure.Rounds = t.counts.rounds
+value_of t figure.Asked = t.counts.asked
+value_of t figure.Yes = t.counts.yes
+value_of t figure.Insns = t.counts.insns
+value_of t figure.Relinks = t.counts.relinks
+value_of t figure.Parks = t.counts.parks
+value_of t figure.Rings = t.counts.rings
+value_of t figure.Hits = t.accesses.hits
+value_of t figure.Near = t.accesses.near
+value_of t figure.Far = t.accesses.far
+value_of t figure.Waited = t.tally.waited
+value_of t figure.Half = t.half
+value_of t figure.Most = t.most
+value_of t figure.Longest = t.tally.longest
+value_of t figure.Overtaken = t.tally.overtaken
+value_of t figure.Cut = cond t.cut 1 0
 
-unfoldable pub counts_figures : Counts → List ℕ
-counts_figures c = work_figures c ++ reaches_figures c.lock ++ reaches_figures c.tail ++ reaches_figures c.node ++ reaches_figures c.«data»
+-- in which line each stands, and in which order
+abbrev pub figures_of : Line → List Figure
+figures_of line.Gains = figure.Gained ∷ figure.Reads ∷ figure.Stolen ∷ figure.Same ∷ []
+figures_of line.Work = figure.Steps ∷ figure.Rounds ∷ figure.Asked ∷ figure.Yes ∷ figure.Insns ∷ figure.Relinks ∷ figure.Parks ∷ figure.Rings ∷ []
+figures_of line.Lock = figure.Hits ∷ figure.Near ∷ figure.Far ∷ []
+figures_of line.Tail = figure.Hits ∷ figure.Near ∷ figure.Far ∷ []
+figures_of line.Node = figure.Hits ∷ figure.Near ∷ figure.Far ∷ []
+figures_of line.Data = figure.Hits ∷ figure.Near ∷ figure.Far ∷ []
+figures_of line.Waits = figure.Waited ∷ figure.Half ∷ figure.Most ∷ figure.Longest ∷ []
+figures_of line.Ends = figure.Cut ∷ []
+figures_of (line.Passes key value) = figure.Gained ∷ figure.Waited ∷ figure.Longest ∷ figure.Overtaken ∷ []
 
--- the waits, in rising order, and 1 for a run that had turns left
-unfoldable pub waits_figures : Tally → List ℕ → Bool → List ℕ
-waits_figures t waits cut = t.waited ∷ half_of waits ∷ most_of waits ∷ t.longest ∷ cond cut 1 0 ∷ []
+-- a line for each value that passes have, in rising order
+abbrev pub passes_lines : Key → List Attr → List Line
+passes_lines key attrs = map (λ value. line.Passes key value) (values_of key attrs)
 
--- of the passes with one value
-abbrev pub tally_figures : Tally → List ℕ
-tally_figures t = t.gained ∷ t.waited ∷ t.longest ∷ t.overtaken ∷ []
+-- the lines of passes with these attributes
+abbrev pub lines_of : List Attr → List Line
+lines_of attrs = (line.Gains ∷ line.Work ∷ line.Lock ∷ line.Tail ∷ line.Node ∷ line.Data ∷ line.Waits ∷ line.Ends ∷ [])
+    ++ passes_lines Socket attrs ++ passes_lines Prio attrs ++ passes_lines Class attrs
 
-abbrev pub values_figures : Key → ℕ → List Attr → List Served → List ℕ
-values_figures key until attrs served = flat_map (λ value. tally_figures (tally_in key value until attrs served)) (values_of key attrs)
+-- ---- what a line tells of
 
--- what a run came to up to a time, of passes with these attributes
-unfoldable pub bench_figures : ℕ → List Attr → Bench → List ℕ → Bool → List ℕ
-bench_figures time attrs b waits cut = let t = tally_in All 0 time attrs b.served in
-    gains_figures t b.order ++ counts_figures b.counts ++ waits_figures t waits cut
-    ++ values_figures Socket time attrs b.served ++ values_figures Prio time attrs b.served ++ values_figures Class time attrs b.served
+-- all passes together, whose gains are those of the order
+abbrev pub all_told : EndedModel → List Attr → Tally
+all_told e attrs = let t = tally_in All 0 e.time attrs e.bench.served in
+    record { gained = e.bench.order.gained; reads = t.reads; stolen = t.stolen; waited = t.waited; longest = t.longest; overtaken = t.overtaken }
 
--- the figures of a policy's run with one seed
+-- the passes that a line tells of: those with its value, else all
+abbrev pub tally_told : EndedModel → List Attr → Line → Tally
+tally_told e attrs (line.Passes key value) = tally_in key value e.time attrs e.bench.served
+tally_told e attrs _ = all_told e attrs
+
+abbrev pub no_accesses : Reaches
+no_accesses = record { hits = 0; near = 0; far = 0 }
+
+-- the accesses that a line tells of
+abbrev pub accesses_told : Counts → Line → Reaches
+accesses_told c line.Lock = c.lock
+accesses_told c line.Tail = c.tail
+accesses_told c line.Node = c.node
+accesses_told c line.Data = c.«data»
+accesses_told c _ = no_accesses
+
+abbrev pub told_of : EndedModel → List Attr → Line → Told
+told_of e attrs line = record {
+  tally = tally_told e attrs line;
+  accesses = accesses_told e.bench.counts line;
+  same = e.bench.order.same;
+  counts = e.bench.counts;
+  half = half_of e.waits;
+  most = most_of e.waits;
+  cut = e.cut;
+}
+
+-- ---- the figures of a policy's runs
+
+unfoldable pub line_figures : EndedModel → List Attr → Line → List ℕ
+line_figures e attrs line = map (value_of (told_of e attrs line)) (figures_of line)
+
+-- those of its run with one seed
 unfoldable pub run_figures : SetupModel → Rule → ℕ → List ℕ
-run_figures s rule seed = let e = end_of s seed rule in bench_figures (time_of s seed rule) s.passes e.bench (rising e.waits) (cut_of s seed rule)
+run_figures s rule seed = flat_map (line_figures (ended s seed rule) s.passes) (lines_of s.passes)
 
 -- those of its runs with so many seeds, from the first on
 abbrev pub figures_below : SetupModel → Rule → ℕ → List (List ℕ)

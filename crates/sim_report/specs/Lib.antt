@@ -1,6 +1,7 @@
 pub mod Tallies
-pub mod Reports
+pub mod Endings
 pub mod Figures
+pub mod Reports
 pub mod Spreads
 pub mod Whole
 pub mod Sums

@@ -1,5 +1,5 @@
 -- The report of a setup: a heading, and for each policy what its run came to.
-use Rattle.std.specs.Prelude.{ℕ, List, [], ◌∷◌, ◌++◌, Bool, cond, length, map, min, take, codes}
+use Rattle.std.specs.Prelude.{ℕ, List, [], ◌∷◌, ◌++◌, Bool, true, false, cond, length, map, min, take, codes}
 use Rattle.std.specs.List.{flat_map}
 use Rattle.std.specs.Fmt.{decimal}
 use Rattle.std.specs.Int.{w64, to_be_bytes}
@@ -7,50 +7,16 @@ use Rattle.hex.specs.Hex.{encode_lower}
 use Rattle.lock_words.specs.Forms.{form_text}
 use Rattle.shfl_line.specs.declared.events.Form.{Form}
 use Rattle.shfl_line.specs.declared.words.Attr.{Attr}
-use Rattle.sim_model.specs.declared.bench.Bench.{Bench}
-use Rattle.sim_model.specs.declared.counts.Counts.{Counts}
 use Rattle.sim_model.specs.declared.counts.Order.{Order}
-use Rattle.sim_model.specs.declared.counts.Reaches.{Reaches}
-use Rattle.sim_model.specs.declared.counts.Served.{Served}
-use Rattle.sim_model.specs.declared.setup.Setup.{Setup}
-use Rattle.sim_model.specs.Openings.{cores_below}
-use Rattle.sim_model.specs.Runs.{State, ran, opening_state, is_cut, time_reached}
-use Rattle.sim_text.specs.declared.setup.Rule.{Rule}
+use Rattle.sim_report.specs.declared.figures.Figure.{Figure}
+use Rattle.sim_report.specs.declared.figures.Line.{Line}
+use Rattle.sim_report.specs.declared.figures.Line.TheVariants as line
+use Rattle.sim_report.specs.declared.figures.Told.{Told}
 use Rattle.sim_report.specs.declared.tallies.Key.{Key}
 use Rattle.sim_report.specs.declared.tallies.Key.TheVariants.{All, Socket, Prio, Class}
-use Rattle.sim_report.specs.declared.tallies.Tally.{Tally}
-use Rattle.sim_text.specs.Answering.{rule_advice}
 use Rattle.sim_text.specs.Setups.{CandidateModel, SetupModel}
-use Rattle.sim_report.specs.Tallies.{tally_in, values_of, rising, half_of, most_of}
-
--- ---- the run of a policy
-
--- what a run with this seed is set up with
-abbrev pub run_setup : SetupModel → ℕ → Setup
-run_setup s seed = record {
-  rules = record { limit = s.machine.limit; form = s.machine.form };
-  layout = s.machine.layout;
-  costs = s.machine.costs;
-  work = s.load.work;
-  until = s.load.until;
-  seed = seed;
-  passes = length s.passes;
-  cores = cores_below s.passes (length s.passes);
-}
-
--- how the run of a policy with this seed ends
-unfoldable pub end_of : SetupModel → ℕ → Rule → State
-end_of s seed rule = ran (run_setup s seed) (rule_advice rule) s.load.turns (opening_state (run_setup s seed) s.passes)
-
--- whether it had turns left then
-unfoldable pub cut_of : SetupModel → ℕ → Rule → Bool
-cut_of s seed rule = is_cut (run_setup s seed) (end_of s seed rule).bench
-
--- up to when it had come: a run without turns left to its end
-unfoldable pub time_of : SetupModel → ℕ → Rule → ℕ
-time_of s seed rule = time_reached (run_setup s seed) (end_of s seed rule).bench
-
--- ---- the lines
+use Rattle.sim_report.specs.Endings.{EndedModel, ended}
+use Rattle.sim_report.specs.Figures.{name_of, value_of, figures_of, lines_of, told_of}
 
 abbrev pub title_text : List ℕ
 title_text = codes "syncord-sim 1"
@@ -69,32 +35,11 @@ heading_text s = title_text ++ sizes_text s.machine.form s.machine.limit (length
 unfoldable pub name_text : List ℕ → List ℕ
 name_text name = codes "policy " ++ name ++ codes "\n"
 
--- `gained G reads R stolen S same M`: all gains, those that read, those past the queue, and those of the socket of the gain before
-unfoldable pub gains_text : Tally → Order → List ℕ
-gains_text t o = codes "gained " ++ decimal o.gained ++ codes " reads " ++ decimal t.reads ++ codes " stolen " ++ decimal t.stolen
-    ++ codes " same " ++ decimal o.same ++ codes "\n"
+-- `cut after N turns at T`, where a run had turns left: the next would have come at T
+unfoldable pub cut_text : Bool → ℕ → ℕ → List ℕ
+cut_text cut turns time = cond cut (codes "cut after " ++ decimal turns ++ codes " turns at " ++ decimal time ++ codes "\n") []
 
-unfoldable pub asked_text : Counts → List ℕ
-asked_text c = codes "steps " ++ decimal c.steps ++ codes " rounds " ++ decimal c.rounds ++ codes " asked " ++ decimal c.asked
-    ++ codes " yes " ++ decimal c.yes
-
-unfoldable pub moved_text : Counts → List ℕ
-moved_text c = codes " insns " ++ decimal c.insns ++ codes " relinks " ++ decimal c.relinks ++ codes " parks " ++ decimal c.parks
-    ++ codes " rings " ++ decimal c.rings ++ codes "\n"
-
--- `WORDS hits H near N far F`
-unfoldable pub reaches_text : List ℕ → Reaches → List ℕ
-reaches_text label r = label ++ codes " hits " ++ decimal r.hits ++ codes " near " ++ decimal r.near ++ codes " far " ++ decimal r.far ++ codes "\n"
-
--- `steps N rounds R asked Q yes Y insns I relinks K parks P rings W`, and the accesses to the words and to the data
-unfoldable pub counts_text : Counts → List ℕ
-counts_text c = asked_text c ++ moved_text c ++ reaches_text (codes "lock") c.lock ++ reaches_text (codes "tail") c.tail
-    ++ reaches_text (codes "node") c.node ++ reaches_text (codes "data") c.«data»
-
--- `waited W half H most M longest L`, of waits in rising order
-unfoldable pub waits_text : Tally → List ℕ → List ℕ
-waits_text t waits = codes "waited " ++ decimal t.waited ++ codes " half " ++ decimal (half_of waits) ++ codes " most " ++ decimal (most_of waits)
-    ++ codes " longest " ++ decimal t.longest ++ codes "\n"
+-- ---- the lines of figures
 
 abbrev pub key_text : Key → List ℕ
 key_text All = codes "all"
@@ -103,19 +48,38 @@ key_text Prio = codes "prio"
 key_text Class = codes "class"
 
 unfoldable pub value_text : Key → ℕ → List ℕ
-value_text key value = key_text key ++ codes " " ++ decimal value
+value_text key value = key_text key ++ codes " " ++ decimal value ++ codes " "
 
-unfoldable pub served_text : Tally → List ℕ
-served_text t = codes " gained " ++ decimal t.gained ++ codes " waited " ++ decimal t.waited
-    ++ codes " longest " ++ decimal t.longest ++ codes " overtaken " ++ decimal t.overtaken ++ codes "\n"
+-- what a line begins with, before its figures: of which word, or of which passes it tells
+abbrev pub lead_text : Line → List ℕ
+lead_text line.Lock = codes "lock "
+lead_text line.Tail = codes "tail "
+lead_text line.Node = codes "node "
+lead_text line.Data = codes "data "
+lead_text (line.Passes key value) = value_text key value
+lead_text _ = []
 
--- `socket N gained G waited W longest L overtaken O`, and the same for a priority or a class
-abbrev pub tally_text : Key → ℕ → Tally → List ℕ
-tally_text key value t = value_text key value ++ served_text t
+-- `NAME N`
+unfoldable pub figure_text : Told → Figure → List ℕ
+figure_text t f = name_of f ++ codes " " ++ decimal (value_of t f)
 
--- a line for each value that passes have, in rising order
-abbrev pub values_text : Key → ℕ → List Attr → List Served → List ℕ
-values_text key until attrs served = flat_map (λ value. tally_text key value (tally_in key value until attrs served)) (values_of key attrs)
+-- figures parted by blanks
+abbrev pub figures_text : Told → List Figure → List ℕ
+figures_text t [] = []
+figures_text t (f ∷ fs) = figure_text t f ++ flat_map (λ f. 32 ∷ figure_text t f) fs
+
+unfoldable pub line_text : Told → Line → List ℕ
+line_text t line = lead_text line ++ figures_text t (figures_of line) ++ codes "\n"
+
+-- that a run was cut stands at its head, so its line is one of the table over several seeds alone
+abbrev pub is_of_table : Line → Bool
+is_of_table line.Ends = true
+is_of_table _ = false
+
+abbrev pub told_text : EndedModel → List Attr → Line → List ℕ
+told_text e attrs line = cond (is_of_table line) [] (line_text (told_of e attrs line) line)
+
+-- ---- the order
 
 -- the parts behind the first, each behind a comma
 abbrev pub more_parts : List (List ℕ) → List ℕ
@@ -130,25 +94,15 @@ listed (part ∷ parts) = part ++ more_parts parts
 unfoldable pub order_text : Order → List ℕ
 order_text o = codes "order " ++ encode_lower (to_be_bytes w64 o.hash) ++ codes " " ++ listed (map decimal (take (min 16 o.gained) o.first)) ++ codes "\n"
 
--- `cut after N turns at T`, where a run had turns left: the next would have come at T
-unfoldable pub cut_text : Bool → ℕ → ℕ → List ℕ
-cut_text cut turns time = cond cut (codes "cut after " ++ decimal turns ++ codes " turns at " ++ decimal time ++ codes "\n") []
-
 -- ---- the whole
 
--- what a run came to up to a time, of passes with these attributes
-unfoldable pub bench_text : ℕ → List Attr → Bench → List ℕ → List ℕ
-bench_text time attrs b waits = let t = tally_in All 0 time attrs b.served in
-    gains_text t b.order ++ counts_text b.counts ++ waits_text t waits
-    ++ values_text Socket time attrs b.served ++ values_text Prio time attrs b.served ++ values_text Class time attrs b.served ++ order_text b.order
+-- a policy's name, whether its run was cut, and what it came to
+unfoldable pub run_text : SetupModel → List ℕ → EndedModel → List ℕ
+run_text s name e = name_text name ++ cut_text e.cut s.load.turns e.time ++ flat_map (told_text e s.passes) (lines_of s.passes)
+    ++ order_text e.bench.order
 
--- a policy's name, whether its run was cut, and what it came to up to a time
-unfoldable pub run_text : SetupModel → List ℕ → Bool → ℕ → Bench → List ℕ → List ℕ
-run_text s name cut time b waits = name_text name ++ cut_text cut s.load.turns time ++ bench_text time s.passes b waits
-
-unfoldable pub policy_text : SetupModel → CandidateModel → List ℕ
-policy_text s c = let first = s.load.seeds.first in let e = end_of s first c.rule in
-    run_text s c.name (cut_of s first c.rule) (time_of s first c.rule) e.bench (rising e.waits)
+abbrev pub policy_text : SetupModel → CandidateModel → List ℕ
+policy_text s c = run_text s c.name (ended s s.load.seeds.first c.rule)
 
 -- the report of a setup, of several seeds with the first
 unfoldable pub single_text : SetupModel → List ℕ

@@ -1,14 +1,13 @@
 -- The report of a setup over several seeds: how far each figure spreads, and how each policy fares beside the first.
-use Rattle.std.specs.Prelude.{ℕ, ◌+◌, ◌-◌, ◌*◌, List, [], ◌∷◌, ◌++◌, length, map, codes, nat_lt, count_by, zip, slice_index_or}
+use Rattle.std.specs.Prelude.{ℕ, ◌+◌, ◌-◌, List, [], ◌∷◌, ◌++◌, length, map, codes, nat_lt, count_by, zip, slice_index_or}
 use Rattle.std.specs.List.{flat_map}
 use Rattle.std.specs.Fmt.{decimal}
-use Rattle.shfl_line.specs.declared.words.Attr.{Attr}
 use Rattle.sim_text.specs.Setups.{CandidateModel, SetupModel}
-use Rattle.sim_report.specs.declared.tallies.Key.{Key}
-use Rattle.sim_report.specs.declared.tallies.Key.TheVariants.{Socket, Prio, Class}
-use Rattle.sim_report.specs.Figures.{all_figures}
-use Rattle.sim_report.specs.Reports.{title_text, sizes_text, name_text, value_text}
-use Rattle.sim_report.specs.Tallies.{values_of, rising, half_of}
+use Rattle.sim_report.specs.declared.figures.Figure.{Figure}
+use Rattle.sim_report.specs.declared.figures.Line.{Line}
+use Rattle.sim_report.specs.Figures.{name_of, figures_of, lines_of, all_figures}
+use Rattle.sim_report.specs.Reports.{title_text, sizes_text, name_text, lead_text}
+use Rattle.sim_report.specs.Tallies.{rising, half_of}
 
 -- ---- one figure of several runs
 
@@ -22,69 +21,28 @@ least_of ns = slice_index_or ns 0 0
 abbrev pub last_of : List ℕ → ℕ
 last_of ns = slice_index_or ns (length ns - 1) 0
 
--- `NAME least A middle B most C`, of numbers in rising order
-unfoldable pub spread_text : List ℕ → List ℕ → List ℕ
-spread_text name ns = name ++ codes " least " ++ decimal (least_of ns) ++ codes " middle " ++ decimal (half_of ns)
-    ++ codes " most " ++ decimal (last_of ns) ++ codes "\n"
+-- ` least A middle B most C`, of numbers in rising order
+unfoldable pub spread_text : List ℕ → List ℕ
+spread_text ns = codes " least " ++ decimal (least_of ns) ++ codes " middle " ++ decimal (half_of ns) ++ codes " most " ++ decimal (last_of ns)
+    ++ codes "\n"
 
--- the line of a figure
-abbrev pub figure_text : List ℕ → List (List ℕ) → ℕ → List ℕ
-figure_text name runs i = spread_text name (rising (column runs i))
+-- `NAME least A middle B most C`: the figure that stands there
+unfoldable pub figure_spread : Line → Figure → List (List ℕ) → ℕ → List ℕ
+figure_spread line f runs at = lead_text line ++ name_of f ++ spread_text (rising (column runs at))
 
--- ---- all figures
+-- ---- all figures, one behind the other
 
-unfoldable pub gains_spread : List (List ℕ) → List ℕ
-gains_spread runs = figure_text (codes "gained") runs 0 ++ figure_text (codes "reads") runs 1 ++ figure_text (codes "stolen") runs 2
-    ++ figure_text (codes "same") runs 3
+abbrev pub figures_spread : Line → List (List ℕ) → ℕ → List Figure → List ℕ
+figures_spread line runs at [] = []
+figures_spread line runs at (f ∷ fs) = figure_spread line f runs at ++ figures_spread line runs (at + 1) fs
 
-unfoldable pub asked_spread : List (List ℕ) → List ℕ
-asked_spread runs = figure_text (codes "steps") runs 4 ++ figure_text (codes "rounds") runs 5 ++ figure_text (codes "asked") runs 6
-    ++ figure_text (codes "yes") runs 7
-
-unfoldable pub moved_spread : List (List ℕ) → List ℕ
-moved_spread runs = figure_text (codes "insns") runs 8 ++ figure_text (codes "relinks") runs 9 ++ figure_text (codes "parks") runs 10
-    ++ figure_text (codes "rings") runs 11
-
-unfoldable pub reaches_spread : List ℕ → List (List ℕ) → ℕ → List ℕ
-reaches_spread label runs at = label ++ figure_text (codes " hits") runs at ++ label ++ figure_text (codes " near") runs (at + 1)
-    ++ label ++ figure_text (codes " far") runs (at + 2)
-
-unfoldable pub lines_spread : List (List ℕ) → List ℕ
-lines_spread runs = reaches_spread (codes "lock") runs 12 ++ reaches_spread (codes "tail") runs 15
-    ++ reaches_spread (codes "node") runs 18 ++ reaches_spread (codes "data") runs 21
-
-unfoldable pub waits_spread : List (List ℕ) → List ℕ
-waits_spread runs = figure_text (codes "waited") runs 24 ++ figure_text (codes "half") runs 25 ++ figure_text (codes "most") runs 26
-    ++ figure_text (codes "longest") runs 27 ++ figure_text (codes "cut") runs 28
-
--- the figures of the passes with one value, from this one on
-unfoldable pub tally_spread : Key → ℕ → List (List ℕ) → ℕ → List ℕ
-tally_spread key value runs at = value_text key value ++ figure_text (codes " gained") runs at
-    ++ value_text key value ++ figure_text (codes " waited") runs (at + 1)
-    ++ value_text key value ++ figure_text (codes " longest") runs (at + 2)
-    ++ value_text key value ++ figure_text (codes " overtaken") runs (at + 3)
-
--- those of several values, one behind the other
-abbrev pub values_spread : Key → List (List ℕ) → ℕ → List ℕ → List ℕ
-values_spread key runs at [] = []
-values_spread key runs at (value ∷ values) = tally_spread key value runs at ++ values_spread key runs (at + 4) values
-
--- behind the 29 figures of all passes those of the sockets, the priorities and the classes
-abbrev pub first_value : ℕ
-first_value = 29
-
-unfoldable pub keys_spread : List Attr → List (List ℕ) → List ℕ
-keys_spread attrs runs =
-    let sockets = values_of Socket attrs in
-    let prios = values_of Prio attrs in
-    values_spread Socket runs first_value sockets
-    ++ values_spread Prio runs (first_value + 4 * length sockets) prios
-    ++ values_spread Class runs (first_value + 4 * length sockets + 4 * length prios) (values_of Class attrs)
+abbrev pub lines_spread : List (List ℕ) → ℕ → List Line → List ℕ
+lines_spread runs at [] = []
+lines_spread runs at (line ∷ lines) = figures_spread line runs at (figures_of line) ++ lines_spread runs (at + length (figures_of line)) lines
 
 -- the runs of a policy
-unfoldable pub runs_text : List ℕ → List Attr → List (List ℕ) → List ℕ
-runs_text name attrs runs = name_text name ++ gains_spread runs ++ asked_spread runs ++ moved_spread runs ++ lines_spread runs
-    ++ waits_spread runs ++ keys_spread attrs runs
+unfoldable pub runs_text : List ℕ → List Line → List (List ℕ) → List ℕ
+runs_text name lines runs = name_text name ++ lines_spread runs 0 lines
 
 -- ---- the verdict
 
@@ -92,7 +50,7 @@ runs_text name attrs runs = name_text name ++ gains_spread runs ++ asked_spread 
 abbrev pub wins : List ℕ → List ℕ → ℕ
 wins own other = count_by (λ pair. nat_lt pair.1 pair.0) (zip own other)
 
--- `better K worse L of S`: in how many of the runs it gains more than the first policy, and in how many less
+-- `better K worse L of S`: in how many of the runs it gains more than the first policy, and in how many less; the gains are the first figure
 unfoldable pub verdict_text : List (List ℕ) → List (List ℕ) → List ℕ
 verdict_text base own = codes "better " ++ decimal (wins (column own 0) (column base 0))
     ++ codes " worse " ++ decimal (wins (column base 0) (column own 0)) ++ codes " of " ++ decimal (length own) ++ codes "\n"
@@ -109,11 +67,11 @@ spread_heading s = title_text ++ sizes_text s.machine.form s.machine.limit (leng
 
 -- the runs of a policy beside those of the first
 unfoldable pub beside_text : SetupModel → List (List ℕ) → CandidateModel → List ℕ
-beside_text s base c = runs_text c.name s.passes (all_figures s c.rule) ++ verdict_text base (all_figures s c.rule)
+beside_text s base c = runs_text c.name (lines_of s.passes) (all_figures s c.rule) ++ verdict_text base (all_figures s c.rule)
 
 abbrev pub policies_text : SetupModel → List CandidateModel → List ℕ
 policies_text s [] = []
-policies_text s (c ∷ cs) = runs_text c.name s.passes (all_figures s c.rule) ++ flat_map (beside_text s (all_figures s c.rule)) cs
+policies_text s (c ∷ cs) = runs_text c.name (lines_of s.passes) (all_figures s c.rule) ++ flat_map (beside_text s (all_figures s c.rule)) cs
 
 unfoldable pub spreads_text : SetupModel → List ℕ
 spreads_text s = spread_heading s ++ policies_text s s.policies ++ codes "end\n"

@@ -1,159 +1,210 @@
-//! The figures of a run, and of all runs of a policy.
-ghost use Rattle.std.specs.Prelude.{◌≡◌, ◌≤◌, ◌++◌, ◌∷◌, [], length, map, IfOk, OnOk};
+//! The figures of a run: the one list of them, from which the report, the table over several seeds and the picture are made.
+ghost use Rattle.std.specs.Prelude.{◌≡◌, ◌≤◌, length};
 ghost use Rattle.sim_report.specs.Figures as figures;
-ghost use Rattle.sim_text.specs.Setups.{IsWithin};
 
-use crate::report::{Ended, run_of};
-use crate::report_parts::{half_of, most_of};
-use crate::tallies::{Key, Tally, tally_of, values_of};
-use shfl_line::{Attr, NoMemory};
-use sim_model::{Counts, Order, PASSES, Reaches, Served};
-use sim_text::{Rule, SimSetup};
-use std::alloc::{AllocError, Global};
+use crate::endings::Ended;
+use crate::tallies::{Key, Tally, half_of, most_of, tally_of};
+use shfl_line::Attr;
+use sim_model::{Counts, Reaches};
 
-#[tactic(auto, unfolding(crate::specs::Figures::gains_figures))]
-fn push_gains(out: &mut Vec<u64>, tally: &Tally, order: &Order) -> Result<(), AllocError>
-    ensures { OnOk result (out.new.items
-        ≡ out.old.items ++ figures.gains_figures tally.now order.now) }
-{
-    out.extend_from_slice(&[order.gained, tally.reads, tally.stolen, order.same])
+/// A figure: a number that is read off what a line tells of.
+#[derive(Clone, Copy, Drop)]
+pub enum Figure {
+    Gained,
+    Reads,
+    Stolen,
+    Same,
+    Steps,
+    Rounds,
+    Asked,
+    Yes,
+    Insns,
+    Relinks,
+    Parks,
+    Rings,
+    Hits,
+    Near,
+    Far,
+    Waited,
+    Half,
+    Most,
+    Longest,
+    Overtaken,
+    Cut,
 }
 
-#[tactic(auto, unfolding(crate::specs::Figures::work_figures))]
-fn push_work(out: &mut Vec<u64>, counts: &Counts) -> Result<(), AllocError>
-    ensures { OnOk result (out.new.items ≡ out.old.items ++ figures.work_figures counts.now) }
-{
-    out.extend_from_slice(&[
-        counts.steps,
-        counts.rounds,
-        counts.asked,
-        counts.yes,
-        counts.insns,
-        counts.relinks,
-        counts.parks,
-        counts.rings,
-    ])
+/// A line of figures: of all passes, of the accesses to a word or to the data, or of the passes with one value of a key.
+#[derive(Clone, Copy, Drop)]
+pub enum Line {
+    Gains,
+    Work,
+    Lock,
+    Tail,
+    Node,
+    Data,
+    Waits,
+    Ends,
+    Passes(Key, u32),
 }
 
-#[tactic(auto, unfolding(crate::specs::Figures::reaches_figures))]
-fn push_reaches(out: &mut Vec<u64>, reaches: &Reaches) -> Result<(), AllocError>
-    ensures { OnOk result (out.new.items ≡ out.old.items ++ figures.reaches_figures reaches.now) }
-{
-    out.extend_from_slice(&[reaches.hits, reaches.near, reaches.far])
+/// What a line tells of: passes, accesses, and what is counted of all.
+#[derive(Clone, Copy, Drop)]
+pub struct Told {
+    pub tally: Tally,
+    pub accesses: Reaches,
+    pub same: u64,
+    pub counts: Counts,
+    pub half: u64,
+    pub most: u64,
+    pub cut: bool,
 }
 
-#[tactic(auto, unfolding(crate::specs::Figures::counts_figures))]
-fn push_counts(out: &mut Vec<u64>, counts: &Counts) -> Result<(), AllocError>
-    ensures { OnOk result (out.new.items ≡ out.old.items ++ figures.counts_figures counts.now) }
+/// What a figure is called.
+pub fn name_of(figure: Figure) -> &'static [u8]
+    ensures { result.now ≡ figures.name_of figure }
 {
-    push_work(out, counts)?;
-    push_reaches(out, &counts.lock)?;
-    push_reaches(out, &counts.tail)?;
-    push_reaches(out, &counts.node)?;
-    push_reaches(out, &counts.data)
-}
-
-#[tactic(auto, unfolding(crate::specs::Figures::waits_figures))]
-fn push_waits(out: &mut Vec<u64>, tally: &Tally, waits: &[u64], cut: bool) -> Result<(), AllocError>
-    ensures { OnOk result (out.new.items
-        ≡ out.old.items ++ figures.waits_figures tally.now waits.now cut) }
-{
-    let left = if cut { 1 } else { 0 };
-    out.extend_from_slice(&[
-        tally.waited,
-        half_of(waits),
-        most_of(waits),
-        tally.longest,
-        left,
-    ])
-}
-
-fn push_tally(out: &mut Vec<u64>, tally: &Tally) -> Result<(), AllocError>
-    ensures { OnOk result (out.new.items ≡ out.old.items ++ figures.tally_figures tally.now) }
-{
-    out.extend_from_slice(&[tally.gained, tally.waited, tally.longest, tally.overtaken])
-}
-
-// Those of the passes with each value, in rising order.
-fn push_values(
-    alloc: Global,
-    out: &mut Vec<u64>,
-    key: Key,
-    until: u64,
-    attrs: &[Attr],
-    served: &[Served; PASSES],
-) -> Result<(), AllocError>
-    requires { length attrs.now ≤ 1024 }
-    ensures { OnOk result (out.new.items
-        ≡ out.old.items ++ figures.values_figures key until attrs.now served.now) }
-{
-    let values = values_of(alloc, key, attrs)?;
-    for value in &values {
-        push_tally(out, &tally_of(key, *value, until, attrs, served))?;
+    match figure {
+        Figure::Gained => b"gained",
+        Figure::Reads => b"reads",
+        Figure::Stolen => b"stolen",
+        Figure::Same => b"same",
+        Figure::Steps => b"steps",
+        Figure::Rounds => b"rounds",
+        Figure::Asked => b"asked",
+        Figure::Yes => b"yes",
+        Figure::Insns => b"insns",
+        Figure::Relinks => b"relinks",
+        Figure::Parks => b"parks",
+        Figure::Rings => b"rings",
+        Figure::Hits => b"hits",
+        Figure::Near => b"near",
+        Figure::Far => b"far",
+        Figure::Waited => b"waited",
+        Figure::Half => b"half",
+        Figure::Most => b"most",
+        Figure::Longest => b"longest",
+        Figure::Overtaken => b"overtaken",
+        Figure::Cut => b"cut",
     }
-    Ok(())
 }
 
-// Those of a run that has ended so.
-#[tactic(auto, unfolding(crate::specs::Figures::bench_figures))]
-fn push_ended(
-    alloc: Global,
-    out: &mut Vec<u64>,
-    attrs: &[Attr],
-    ended: &Ended,
-) -> Result<(), AllocError>
-    requires { length attrs.now ≤ 1024 }
-    ensures { OnOk result (out.new.items ≡ out.old.items ++ figures.bench_figures ended.now.time
-        attrs.now ended.now.bench ended.now.waits.items ended.now.cut) }
+/// A figure, read off what its line tells of; the cut is 1 for a run that had turns left.
+pub fn value_of(told: &Told, figure: Figure) -> u64
+    ensures { result ≡ figures.value_of told.now figure }
 {
-    let time = ended.time;
-    let served = &ended.bench.served;
-    let tally = tally_of(Key::All, 0, time, attrs, served);
-    push_gains(out, &tally, &ended.bench.order)?;
-    push_counts(out, &ended.bench.counts)?;
-    push_waits(out, &tally, ended.waits.as_slice(), ended.cut)?;
-    push_values(alloc, out, Key::Socket, time, attrs, served)?;
-    push_values(alloc, out, Key::Prio, time, attrs, served)?;
-    push_values(alloc, out, Key::Class, time, attrs, served)
-}
-
-// The figures of a policy's run with one seed.
-#[tactic(auto, unfolding(crate::specs::Figures::run_figures))]
-fn run_figures(
-    alloc: Global,
-    setup: &SimSetup,
-    rule: &Rule,
-    seed: u64,
-) -> Result<Vec<u64>, NoMemory>
-    requires { IsWithin setup.now }
-    ensures { IfOk result (λ v. v.items ≡ figures.run_figures setup.now rule.now seed) }
-{
-    let ended = run_of(alloc, setup, seed, rule)?;
-    let mut out = Vec::new(alloc);
-    push_ended(alloc, &mut out, setup.passes.as_slice(), &ended)?;
-    Ok(out)
-}
-
-// One run more.
-fn keep(runs: &mut Vec<Vec<u64>>, run: Vec<u64>) -> Result<(), AllocError>
-    ensures { OnOk result (map (λ r. r.items) runs.new.items
-        ≡ map (λ r. r.items) runs.old.items ++ run.items ∷ []) }
-{
-    runs.push(run)?;
-    Ok(())
-}
-
-/// The figures of a policy's runs, one with each seed.
-pub fn all_figures(alloc: Global, setup: &SimSetup, rule: &Rule) -> Result<Vec<Vec<u64>>, NoMemory>
-    requires { IsWithin setup.now }
-    ensures { IfOk result (λ v. map (λ r. r.items) v.items
-        ≡ figures.all_figures setup.now rule.now) }
-{
-    let seeds = setup.load.seeds;
-    let mut runs = Vec::new(alloc);
-    for run in 0..seeds.count {
-        let figures = run_figures(alloc, setup, rule, seeds.first + u64::from(run))?;
-        keep(&mut runs, figures)?;
+    match figure {
+        Figure::Gained => told.tally.gained,
+        Figure::Reads => told.tally.reads,
+        Figure::Stolen => told.tally.stolen,
+        Figure::Same => told.same,
+        Figure::Steps => told.counts.steps,
+        Figure::Rounds => told.counts.rounds,
+        Figure::Asked => told.counts.asked,
+        Figure::Yes => told.counts.yes,
+        Figure::Insns => told.counts.insns,
+        Figure::Relinks => told.counts.relinks,
+        Figure::Parks => told.counts.parks,
+        Figure::Rings => told.counts.rings,
+        Figure::Hits => told.accesses.hits,
+        Figure::Near => told.accesses.near,
+        Figure::Far => told.accesses.far,
+        Figure::Waited => told.tally.waited,
+        Figure::Half => told.half,
+        Figure::Most => told.most,
+        Figure::Longest => told.tally.longest,
+        Figure::Overtaken => told.tally.overtaken,
+        Figure::Cut => u64::from(told.cut),
     }
-    Ok(runs)
+}
+
+/// The figures of a line, in their order.
+pub fn figures_of(line: Line) -> &'static [Figure]
+    ensures list { result.now ≡ figures.figures_of line }
+    ensures few { length result.now ≤ 8 }
+{
+    match line {
+        Line::Gains => &[Figure::Gained, Figure::Reads, Figure::Stolen, Figure::Same],
+        Line::Work => &[
+            Figure::Steps,
+            Figure::Rounds,
+            Figure::Asked,
+            Figure::Yes,
+            Figure::Insns,
+            Figure::Relinks,
+            Figure::Parks,
+            Figure::Rings,
+        ],
+        Line::Lock | Line::Tail | Line::Node | Line::Data => {
+            &[Figure::Hits, Figure::Near, Figure::Far]
+        }
+        Line::Waits => &[Figure::Waited, Figure::Half, Figure::Most, Figure::Longest],
+        Line::Ends => &[Figure::Cut],
+        Line::Passes(_, _) => &[
+            Figure::Gained,
+            Figure::Waited,
+            Figure::Longest,
+            Figure::Overtaken,
+        ],
+    }
+}
+
+const NO_ACCESSES: Reaches = Reaches {
+    hits: 0,
+    near: 0,
+    far: 0,
+};
+
+fn accesses_told(counts: &Counts, line: Line) -> Reaches
+    ensures { result ≡ figures.accesses_told counts.now line }
+{
+    match line {
+        Line::Lock => counts.lock,
+        Line::Tail => counts.tail,
+        Line::Node => counts.node,
+        Line::Data => counts.data,
+        _ => NO_ACCESSES,
+    }
+}
+
+// All passes together, whose gains are those of the order.
+fn all_told(ended: &Ended, attrs: &[Attr]) -> Tally
+    requires { length attrs.now ≤ 1024 }
+    ensures { result ≡ figures.all_told ended.now attrs.now }
+{
+    let tally = tally_of(Key::All, 0, ended.time, attrs, &ended.bench.served);
+    Tally {
+        gained: ended.bench.order.gained,
+        reads: tally.reads,
+        stolen: tally.stolen,
+        waited: tally.waited,
+        longest: tally.longest,
+        overtaken: tally.overtaken,
+    }
+}
+
+fn tally_told(ended: &Ended, attrs: &[Attr], line: Line) -> Tally
+    requires { length attrs.now ≤ 1024 }
+    ensures { result ≡ figures.tally_told ended.now attrs.now line }
+{
+    match line {
+        Line::Passes(key, value) => tally_of(key, value, ended.time, attrs, &ended.bench.served),
+        _ => all_told(ended, attrs),
+    }
+}
+
+/// What a line tells of a run that ended so, of passes with these attributes.
+pub fn told_of(ended: &Ended, attrs: &[Attr], line: Line) -> Told
+    requires { length attrs.now ≤ 1024 }
+    ensures { result ≡ figures.told_of ended.now attrs.now line }
+{
+    let counts = ended.bench.counts;
+    Told {
+        tally: tally_told(ended, attrs, line),
+        accesses: accesses_told(&counts, line),
+        same: ended.bench.order.same,
+        counts,
+        half: half_of(ended.waits.as_slice()),
+        most: most_of(ended.waits.as_slice()),
+        cut: ended.cut,
+    }
 }

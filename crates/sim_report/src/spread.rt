@@ -1,15 +1,16 @@
 //! The report of a setup over several seeds.
 ghost use Rattle.std.specs.Prelude.{◌≡◌, ◌≤◌, ◌<◌, ◌++◌, length, map, IfOk, OnOk};
+ghost use Rattle.sim_report.specs.Figures as figures;
 ghost use Rattle.sim_report.specs.Spreads as spreads;
 ghost use Rattle.sim_text.specs.Setups.{IsWithin};
 
-use crate::figures::all_figures;
+use crate::columns::{all_figures, column};
+use crate::figures::Line;
+use crate::lines::lines_of;
 use crate::report::{push_sizes, title};
 use crate::report_parts::{push_figure, push_name};
-use crate::spread_parts::{
-    column, push_asked, push_gains, push_keys, push_lines, push_moved, push_waits,
-};
-use shfl_line::{Attr, NoMemory};
+use crate::spread_parts::push_lines;
+use shfl_line::NoMemory;
 use sim_text::{Candidate, SimSetup};
 use std::alloc::{AllocError, Global};
 
@@ -19,20 +20,15 @@ fn push_runs(
     alloc: Global,
     out: &mut Vec<u8>,
     name: &[u8],
-    attrs: &[Attr],
+    lines: &[Line],
     runs: &[Vec<u64>],
 ) -> Result<(), NoMemory>
-    requires { length attrs.now ≤ 1024 }
+    requires { length lines.now ≤ 3080 }
     ensures { OnOk result (out.new.items ≡ out.old.items
-        ++ spreads.runs_text name.now attrs.now (map (λ r. r.items) runs.now)) }
+        ++ spreads.runs_text name.now lines.now (map (λ r. r.items) runs.now)) }
 {
     push_name(out, name)?;
-    push_gains(alloc, out, runs)?;
-    push_asked(alloc, out, runs)?;
-    push_moved(alloc, out, runs)?;
-    push_lines(alloc, out, runs)?;
-    push_waits(alloc, out, runs)?;
-    push_keys(alloc, out, attrs, runs)
+    push_lines(alloc, out, runs, lines)
 }
 
 // In how many runs the one gains more than the other.
@@ -94,16 +90,24 @@ fn push_beside(
     alloc: Global,
     out: &mut Vec<u8>,
     setup: &SimSetup,
+    lines: &[Line],
     base: &[Vec<u64>],
     candidate: &Candidate,
 ) -> Result<(), NoMemory>
-    requires { IsWithin setup.now }
+    requires within { IsWithin setup.now }
+    requires lines { lines.now ≡ figures.lines_of setup.now.passes }
+    requires few { length lines.now ≤ 3080 }
     ensures { OnOk result (out.new.items ≡ out.old.items
         ++ spreads.beside_text setup.now (map (λ r. r.items) base.now) candidate.now) }
 {
-    let runs = all_figures(alloc, setup, &candidate.rule)?;
-    let name = candidate.name.as_slice();
-    push_runs(alloc, out, name, setup.passes.as_slice(), runs.as_slice())?;
+    let runs = all_figures(alloc, setup, &candidate.rule, lines)?;
+    push_runs(
+        alloc,
+        out,
+        candidate.name.as_slice(),
+        lines,
+        runs.as_slice(),
+    )?;
     push_verdict(alloc, out, base, runs.as_slice())?;
     Ok(())
 }
@@ -117,11 +121,24 @@ fn push_policies(alloc: Global, out: &mut Vec<u8>, setup: &SimSetup) -> Result<(
     let Some((first, others)) = setup.policies.as_slice().split_first() else {
         return Ok(());
     };
-    let base = all_figures(alloc, setup, &first.rule)?;
-    let name = first.name.as_slice();
-    push_runs(alloc, out, name, setup.passes.as_slice(), base.as_slice())?;
+    let lines = lines_of(alloc, setup.passes.as_slice())?;
+    let base = all_figures(alloc, setup, &first.rule, lines.as_slice())?;
+    push_runs(
+        alloc,
+        out,
+        first.name.as_slice(),
+        lines.as_slice(),
+        base.as_slice(),
+    )?;
     for candidate in others {
-        push_beside(alloc, out, setup, base.as_slice(), candidate)?;
+        push_beside(
+            alloc,
+            out,
+            setup,
+            lines.as_slice(),
+            base.as_slice(),
+            candidate,
+        )?;
     }
     Ok(())
 }

@@ -145,3 +145,24 @@ pub fn values_of(alloc: Global, key: Key, attrs: &[Attr]) -> Result<Vec<u32>, Al
     }
     Ok(values)
 }
+
+/// The number at the half of the way through numbers in rising order; 0 where there is none.
+pub fn half_of(waits: &[u64]) -> u64
+    ensures { result ≡ tallies.half_of waits.now }
+{
+    if waits.is_empty() {
+        return 0;
+    }
+    waits[(waits.len() - 1) / 2]
+}
+
+/// That behind 99 of a hundred.
+pub fn most_of(waits: &[u64]) -> u64
+    ensures { result ≡ tallies.most_of waits.now }
+{
+    if waits.is_empty() {
+        return 0;
+    }
+    let last = waits.len() - 1;
+    waits[last / 100 * 99 + last % 100 * 99 / 100]
+}

@@ -43,6 +43,10 @@ pub fn read_all<R: Source>(alloc: Global, src: &mut R, limit: usize) -> Result<V
 
     ensures fault { IsErrOf result ReadError.ReadFault
         → Rose (R.faults src.old) (R.faults src.new) }
+    // Where a read failed, that is the answer.
+    ensures no_fault { OnOk result (R.faults src.new ≡ R.faults src.old) }
+    ensures other { IfErr result (λ e. e ≢ ReadError.ReadFault
+        → R.faults src.new ≡ R.faults src.old) }
     ensures later { R.faults src.old ≤ R.faults src.new }
     ensures calls { CallsAtMost (limit + 1) (R.calls src.old) (R.calls src.new) }
 {

@@ -22,28 +22,34 @@ status_of TooLarge = 1
 status_of ReadFault = 3
 status_of (WriteFault written) = 4
 
-abbrev pub refused : ℕ → List ℕ
-refused number = codes "syncord: refused " ++ decimal number
+-- a refusal's line begins with the name of the program
+abbrev pub refused : List ℕ → ℕ → List ℕ
+refused program number = program ++ codes ": refused " ++ decimal number
 
-abbrev pub at_slot : ℕ → List ℕ
-at_slot slot = codes " at slot " ++ decimal slot
+abbrev pub at_slot : List ℕ → ℕ → List ℕ
+at_slot text slot = text ++ codes " at slot " ++ decimal slot
 
-abbrev pub refusal_message : Refusal → List ℕ
-refusal_message (Line line what) =
-    codes "syncord: line " ++ decimal line ++ codes ": fault " ++ decimal what ++ codes "\n"
-refusal_message (Program number) = refused number ++ codes "\n"
-refusal_message (Slot number slot) = refused number ++ at_slot slot ++ codes "\n"
-refusal_message (Register number slot register) =
-    refused number ++ at_slot slot ++ codes " register " ++ decimal register ++ codes "\n"
-refusal_message NoMemory = []
+abbrev pub refusal_message : List ℕ → Refusal → List ℕ
+refusal_message program (Line line what) =
+    program ++ codes ": line " ++ decimal line ++ codes ": fault " ++ decimal what ++ codes "\n"
+refusal_message program (Program number) = refused program number ++ codes "\n"
+refusal_message program (Slot number slot) = at_slot (refused program number) slot ++ codes "\n"
+refusal_message program (Register number slot register) =
+    at_slot (refused program number) slot ++ codes " register " ++ decimal register ++ codes "\n"
+refusal_message program NoMemory = []
 
--- the line on the error stream
+-- the line on the error stream, of a program of this name
+abbrev pub message_by : List ℕ → Ending → List ℕ
+message_by program Done = []
+message_by program (NoReport refusal) = refusal_message program refusal
+message_by program TooLarge = program ++ codes ": input too large\n"
+message_by program ReadFault = program ++ codes ": read fault\n"
+message_by program (WriteFault written) =
+    program ++ codes ": write fault after " ++ decimal written ++ codes " bytes\n"
+
+-- the same of `syncord`
 abbrev pub message_of : Ending → List ℕ
-message_of Done = []
-message_of (NoReport refusal) = refusal_message refusal
-message_of TooLarge = codes "syncord: input too large\n"
-message_of ReadFault = codes "syncord: read fault\n"
-message_of (WriteFault written) = codes "syncord: write fault after " ++ decimal written ++ codes " bytes\n"
+message_of ending = message_by (codes "syncord") ending
 
 -- the largest input
 abbrev pub most_bytes : ℕ
@@ -73,10 +79,16 @@ Ends reports refuses input output ReadFault = Failed input × Takes output []
 Ends reports refuses input output (WriteFault written) = (bytes : List ℕ) × (text : List ℕ) × Reads input bytes
     × reports bytes text × Takes output (take written text) × (written < length text) × Failed output
 
--- a status has an ending behind it, and the error stream was told that
+-- a status has an ending behind it, and the error stream was told that by a program of this name
+abbrev pub AnswersAs : List ℕ → (List ℕ → List ℕ → Type 0) → (List ℕ → Refusal → Type 0)
+    → Traffic → Traffic → Traffic → ℕ → Type 0
+AnswersAs program reports refuses input output error status =
+    (e : Ending) × (status ≡ status_of e) × Ends reports refuses input output e × Told error (message_by program e)
+
+-- the same of `syncord`
 abbrev pub Answers : (List ℕ → List ℕ → Type 0) → (List ℕ → Refusal → Type 0) → Traffic → Traffic → Traffic → ℕ → Type 0
 Answers reports refuses input output error status =
-    (e : Ending) × (status ≡ status_of e) × Ends reports refuses input output e × Told error (message_of e)
+    AnswersAs (codes "syncord") reports refuses input output error status
 
 -- where nothing fails and there is no more than the limit, the bytes are reported or refused, or memory runs out
 abbrev pub Decides : (List ℕ → Refusal → Type 0) → Traffic → Traffic → ℕ → Type 0

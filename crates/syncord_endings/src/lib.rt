@@ -6,5 +6,5 @@ mod telling;
 mod work;
 
 pub use ending::{Ending, Refusal};
-pub use telling::{tell, tell_ending};
-pub use work::{MOST_BYTES, Work, perform};
+pub use telling::{tell, tell_ending, tell_ending_as};
+pub use work::{MOST_BYTES, Work, perform, perform_as};

@@ -3,10 +3,10 @@ ghost use Rattle.std.specs.Prelude.{◌≤◌, ◌+◌, List, ℕ, length, IfOk,
 ghost use Rattle.syncord_endings.specs.declared.ending.Refusal.{Refusal};
 ghost use Rattle.syn_outer.specs.Causes.{CallsAtMost};
 ghost use Rattle.syncord_endings.specs.Traffic.{through};
-ghost use Rattle.syncord_endings.specs.Endings.{Due, Ends, Answers, Decides, most_bytes};
+ghost use Rattle.syncord_endings.specs.Endings.{Due, Ends, Answers, AnswersAs, Decides, most_bytes};
 
 use crate::ending::{Ending, Refusal};
-use crate::telling::tell_ending;
+use crate::telling::tell_ending_as;
 use std::alloc::Global;
 use syn_outer::{ReadError, Sink, Source, read_all, write_all};
 
@@ -51,7 +51,31 @@ fn ending<K: Work, R: Source, W: Sink>(work: &K, alloc: Global, src: &mut R, out
     }
 }
 
-/// Does all of a command that follows its words, and answers the status.
+/// Does all of a command that follows its words, and answers the status. What is told begins with the program's name.
+pub fn perform_as<K: Work, R: Source, W: Sink, E: Sink>(
+    program: &[u8],
+    work: &K,
+    alloc: Global,
+    src: &mut R,
+    out: &mut W,
+    err: &mut E,
+) -> u8
+    ensures answer { AnswersAs program.now (K.reports work.now) (K.refuses work.now)
+        (through R.left R.faults src.old src.new)
+        (through W.held W.faults out.old out.new)
+        (through E.held E.faults err.old err.new) result }
+    ensures complete { Decides (K.refuses work.now)
+        (through R.left R.faults src.old src.new)
+        (through W.held W.faults out.old out.new) result }
+    // It reads at most once a byte and once for the end, which a source that counts its calls tells.
+    ensures reads { CallsAtMost (most_bytes + 1) (R.calls src.old) (R.calls src.new) }
+{
+    let ending = ending(work, alloc, src, out);
+    tell_ending_as(err, program, ending);
+    ending.status()
+}
+
+/// The same of a command of `syncord`.
 pub fn perform<K: Work, R: Source, W: Sink, E: Sink>(
     work: &K,
     alloc: Global,
@@ -66,10 +90,7 @@ pub fn perform<K: Work, R: Source, W: Sink, E: Sink>(
     ensures complete { Decides (K.refuses work.now)
         (through R.left R.faults src.old src.new)
         (through W.held W.faults out.old out.new) result }
-    // It reads at most once a byte and once for the end, which a source that counts its calls tells.
     ensures reads { CallsAtMost (most_bytes + 1) (R.calls src.old) (R.calls src.new) }
 {
-    let ending = ending(work, alloc, src, out);
-    tell_ending(err, ending);
-    ending.status()
+    perform_as(b"syncord", work, alloc, src, out, err)
 }

@@ -9,7 +9,7 @@ use Rattle.dir_table.specs.Numbers.{call_numbers}
 use Rattle.dir_table.specs.Meanings.{Admits}
 use Rattle.shfl_cell.specs.Cells.{number}
 use Rattle.call_pool.specs.Pools.{PoolPassModel, IsPassOf, AreNumbered}
-use Rattle.call_pool.proofs.Crossing.{dir_send, dir_sync}
+use Rattle.call_pool.proofs.Crossing.{cell_sync, queue_sync}
 use Rattle.call_pool.proofs.Running.{numbered}
 use Rattle.call_pool.proofs.run.run_pool.Goals as goal
 
@@ -17,7 +17,7 @@ abbrev P : Type 0
 P = PoolPassModel DirCall
 
 pub take_in_threads-requires-sync-P : goal.take_in_threads-requires-sync-P
-take_in_threads-requires-sync-P g c κs within = search (sendable, crosses, dir_send, dir_sync, shared.the_sync, lease.the_sync) depth 60 fits 20000
+take_in_threads-requires-sync-P g c κs within = search (sendable, crosses, cell_sync, queue_sync) depth 60 fits 20000
 
 pub take_in_threads-requires-clause-numbered : goal.take_in_threads-requires-clause-numbered
 take_in_threads-requires-clause-numbered g c κs within =

@@ -17,7 +17,7 @@ pub returns-clause-in_round : goal.returns-clause-in_round
 returns-clause-in_round g c still = let p = c.args.pass.now in let rules = p.board.rules in let choice = c.answer-choice.result in
     let row = (c.advance-outcome.ensures.row c.requires.moving).0 in
     let last : c.ends_round.result ≡ is_last_of_round p.own.phase p.own.nap = c.ends_round.ensures ∙ (λ j. is_last_of_round (c.phase-before.ensures j) (c.nap-nap.ensures j)) in
-    let kept : opens_round (ask rules p.own) ≡ false → g.C.Chooser.in_round c.answer-choice.new.chooser ≡ g.C.Chooser.in_round c.args.chooser.now = λ e. c.answer-choice.ensures.in_round (ap opens_round c.ask-ask.ensures ∙ e) in
+    let kept : opens_round (ask rules p.own) ≡ false → g.C.Chooser.in_round c.answer-choice.new.chooser ≡ g.C.Chooser.in_round c.args.chooser.now = λ e. c.answer-choice.ensures.in_round (ap opens_round c.ask-ask.ensures.answer ∙ e) in
     subst (λ (q : PassState). IsOpenInRounds (g.C.Chooser.in_round c.close_round.new.chooser) q) (sym (ap (λ (z : PassModel _). z.own) row.row))
     (open-step rules row.found choice (g.C.Chooser.in_round c.args.chooser.now) (g.C.Chooser.in_round c.answer-choice.new.chooser) (g.C.Chooser.in_round c.close_round.new.chooser) p.own kept
     (λ e. c.close_round.ensures.ended (last ∙ e)) (λ e. c.close_round.ensures.going_on (last ∙ e)) still)
@@ -28,7 +28,7 @@ returns-clause-row g c = let a = c.answer-choice.ensures in let p = c.args.pass.
   (c.advance-outcome.ensures.row c.requires.moving).0,
   subst (λ (z : Option (List Answer)). Tells (told c.args.chooser.now) z (answers_of c.args.anchor.now (step_decisions p.board.rules p.own choice))) (sym c.close_round.ensures.told)
       (subst (λ (l : List Answer). Tells (told c.args.chooser.now) (told c.answer-choice.new.chooser) l)
-      (ap (λ (k : Ask). answer_of c.args.anchor.now k choice) c.ask-ask.ensures ∙ sym (answers-entry c.args.anchor.now choice (ask p.board.rules p.own))) a.told),
+      (ap (λ (k : Ask). answer_of c.args.anchor.now k choice) c.ask-ask.ensures.answer ∙ sym (answers-entry c.args.anchor.now choice (ask p.board.rules p.own))) a.told),
 )
 
 pub park_or_wake-requires : goal.park_or_wake-requires

@@ -1,4 +1,4 @@
-use Rattle.std.proofs.Common.{rules, length-append, ◌++◌, ◌∷◌, [], arith, ◌≡◌, ℕ, ◌+◌, ◌<◌, ◌≤◌, length, vec_len, vec_capacity, slice_get, slice_index, Some, sym, ap, ◌∙◌, subst}
+use Rattle.std.proofs.Common.{rules, length-append, ◌++◌, ◌∷◌, [], arith, ◌≡◌, ◌+◌, ◌<◌, ◌≤◌, length, vec_len, vec_capacity, slice_index, sym, ◌∙◌, subst}
 use Rattle.shfl_line.specs.Words.{attr_of}
 use Rattle.shfl_ticket.specs.Tickets.{fresh_ticket}
 use Rattle.shfl_ticket.proofs.EachTicket.{each-more}

@@ -1,4 +1,4 @@
-use Rattle.std.proofs.Common.{◌≡◌, ℕ, ◌+◌, ◌<◌, ◌≤◌, length, vec_len, vec_capacity, slice_get, slice_index, Some}
+use Rattle.std.proofs.Common.{◌≡◌, ℕ, ◌<◌, ◌≤◌, length, vec_len, vec_capacity, slice_get, slice_index, Some}
 use Rattle.shfl_line.specs.Words.{attr_of}
 use Rattle.shfl_ticket.specs.Tickets.{fresh_ticket}
 use Rattle.shfl_ticket.proofs.opening.deal.Given as goal

@@ -2,7 +2,7 @@ use Rattle.std.proofs.Common.{◌≡◌, ℕ, ◌<◌, List, length, sym, ap, �
 use Rattle.std.proofs.lemmas.List.{length-map, length-replicate, get_or-replicate}
 use Rattle.shfl_cell.specs.Cells.{AreInOrder}
 use Rattle.call_pool.specs.Pools.{PoolPassModel}
-use Rattle.call_pool.proofs.Openings.{all_own, all_unused}
+use Rattle.call_pool.proofs.Openings.{all_own, all_unused, all_attrs}
 use Rattle.call_pool.proofs.opening.PoolOf+O+Call+Book+Numbered+O.open.Given as given_here
 use Rattle.call_pool.proofs.opening.PoolOf+O+Call+Book+Numbered+O.open.Goals as goal
 use Rattle.call_pool.proofs.opening.PoolOf+O+Call+Book+Numbered+O.open.Goals.{In_ok-passes}
@@ -32,6 +32,11 @@ returns-clause-passes g c = let d = (goal.at.returns-clause-passes g c).In_ok-pa
 pub returns-clause-unused : goal.returns-clause-unused
 returns-clause-unused g c = let d = (goal.at.returns-clause-unused g c).In_ok-passes in
     all_unused c.in_ok-queue.queue c.in_ok-cell.cell c.args.attrs.now c.as_slice.result.now c.in_ok-passes.passes.items c.in_ok-cell.cells.items
+    c.in_ok-passes.ensures.paired.0 c.in_ok-passes.ensures.rest (many g d) c.in_ok-passes.ensures.paired.1 (long g d) c.in_ok-cell.ensures.passes
+
+pub returns-clause-attrs : goal.returns-clause-attrs
+returns-clause-attrs g c = let d = (goal.at.returns-clause-attrs g c).In_ok-passes in
+    all_attrs c.in_ok-queue.queue c.in_ok-cell.cell c.args.attrs.now c.as_slice.result.now c.in_ok-passes.passes.items c.in_ok-cell.cells.items
     c.in_ok-passes.ensures.paired.0 c.in_ok-passes.ensures.rest (many g d) c.in_ok-passes.ensures.paired.1 (long g d) c.in_ok-cell.ensures.passes
 
 pub returns-clause-in_order : goal.returns-clause-in_order

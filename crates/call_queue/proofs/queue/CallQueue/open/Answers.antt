@@ -2,9 +2,9 @@ use Rattle.std.proofs.Common.{◌≡◌, ◌++◌, length, ap, ◌∙◌, sym, r
 use Rattle.crossbeam_queue.specs.Passes.{view, Pass}
 use Rattle.call_queue.specs.declared.rule.Ticket.{Ticket}
 use Rattle.call_queue.specs.declared.rule.Share.{Share}
-use Rattle.call_queue.specs.Tickets.{bare, calls_in, calls_from, ends_from, tickets_of, AreWhole}
+use Rattle.call_queue.specs.Tickets.{bare, calls_in, ends_in, calls_from, ends_from, tickets_of, AreWhole}
 use Rattle.call_queue.proofs.Moves.{begins}
-use Rattle.call_queue.proofs.Filled.{length-calls_from, tickets-whole, bare-tickets_of}
+use Rattle.call_queue.proofs.Filled.{length-calls_from, tickets-whole, bare-tickets_of, ends-tickets_of}
 use Rattle.call_queue.proofs.queue.CallQueue.open.Goals as goal
 
 pub ruled-requires-clause-rule : goal.ruled-requires-clause-rule
@@ -24,3 +24,9 @@ returns-clause-queue g c =
     let all : (view c.push_ends.new.pass).all ≡ tickets_of c.args.calls.now c.args.takers = ap (λ (h : Share _). h.all) (c.push_ends.ensures.full c.if-not-push_ends.false)
     ∙ ap (λ (h : Share _). h.all ++ ends_from (length c.args.calls.now) c.args.takers) (c.push_calls.ensures.full c.if-not-push_calls.false) in
     (ap (λ (p : Pass (Ticket _) (Share _)). bare (calls_in (view p).all)) c.of-filled.ensures ∙ (ap (λ l. bare (calls_in l)) all ∙ bare-tickets_of c.args.calls.now c.args.takers), refl)
+
+pub returns-clause-ends : goal.returns-clause-ends
+returns-clause-ends g c =
+    let all : (view c.push_ends.new.pass).all ≡ tickets_of c.args.calls.now c.args.takers = ap (λ (h : Share _). h.all) (c.push_ends.ensures.full c.if-not-push_ends.false)
+    ∙ ap (λ (h : Share _). h.all ++ ends_from (length c.args.calls.now) c.args.takers) (c.push_calls.ensures.full c.if-not-push_calls.false) in
+    ap (λ (p : Pass (Ticket _) (Share _)). ends_in (view p).all) c.of-filled.ensures ∙ (ap ends_in all ∙ ends-tickets_of c.args.calls.now c.args.takers)

@@ -1,0 +1,9 @@
+//! Tests of many locks on one set of nodes, by their public calls.
+#![tactic(auto)]
+
+#[cfg(test)]
+mod draws;
+#[cfg(test)]
+mod sizes;
+#[cfg(test)]
+mod threads;

@@ -1,0 +1,194 @@
+//! A thread's right to lock mutexes.
+ghost use Rattle.std.specs.Prelude.{◌≡◌, ◌<◌, ◌≤◌, ◌∷◌, [], IfOk, IfErr, IfSome, IsNone, true, false, Some, Err, length};
+ghost use Rattle.shfl_arena.specs.SeatModels.{IsNewAt};
+ghost use Rattle.shfl_mutex.specs.Held.{is_among};
+ghost use Rattle.shfl_mutex.specs.MutexSeats.{Refuses};
+
+use crate::guard::MutexGuard;
+use shfl_arena::{Arena, ArenaSeat};
+use shfl_line::{Attr, Chooser, Mode};
+use std::alloc::Global;
+use std::marker::Model;
+use std::sync::Wait;
+
+/// Why a mutex isn't locked.
+#[derive(Clone, Copy, Debug, PartialEq, Eq, Drop)]
+pub enum LockError {
+    /// There are fewer mutexes.
+    NoSuchLock,
+    /// This seat has locked it.
+    Held,
+    /// This seat has locked as many as it may at the same time.
+    Full,
+    /// Another seat has it, or is to have it. Only an attempt answers so.
+    Busy,
+}
+
+/// A thread's right to lock mutexes, some at the same time.
+#[derive(Drop)]
+pub struct MutexSeat<'a, T: Drop> {
+    arena: &'a Arena<T>,
+    locks: u32,
+    seat: ArenaSeat<T>,
+    attr: Attr,
+    most: usize,
+    // The locks that it has, the one taken last at the end.
+    held: Vec<u32>,
+}
+
+impl<'a, T: Drop> Model for MutexSeat<'a, T> {
+    ghost use Rattle.std.specs.Prelude.{◌≡◌, ◌≤◌, vec_capacity, reverse};
+    ghost use Rattle.shfl_mutex.specs.MutexSeats.{MutexSeatModel, HoldsJust};
+
+    ghost Value = { MutexSeatModel };
+
+    ghost view = { λ s. record {
+      locks = s.locks;
+      most = s.most;
+      held = reverse s.held.items;
+    } };
+
+    ghost invariant = { λ s. HoldsJust s.arena.now.id (reverse s.held.items) s.seat
+        × (s.locks ≡ s.arena.now.id.shape.locks) × (s.most ≤ vec_capacity s.held) };
+}
+
+impl<'a, T: Drop> MutexSeat<'a, T> {
+    pub(crate) fn new(
+        alloc: Global,
+        arena: &'a Arena<T>,
+        locks: u32,
+        seat: ArenaSeat<T>,
+        attr: Attr,
+        most: usize,
+    ) -> Result<MutexSeat<'a, T>, ArenaSeat<T>>
+        requires seat { IsNewAt arena.now.id seat }
+        requires slots { arena.now.id.table.slots ≡ arena.now.id.shape.locks }
+        requires locks { locks ≡ arena.now.id.shape.locks }
+        ensures ok { IfOk result (λ s. (s.locks ≡ locks) × (s.held ≡ [])
+            × (s.most ≡ most)) }
+        ensures err { IfErr result (λ s. s ≡ seat) }
+    {
+        let Ok(held) = Vec::with_capacity(alloc, most) else {
+            return Err(seat);
+        };
+        Ok(MutexSeat {
+            arena,
+            locks,
+            seat,
+            attr,
+            most,
+            held,
+        })
+    }
+
+    /// Whether it has locked this mutex.
+    pub fn is_held(&self, lock: u32) -> bool
+        ensures { result ≡ is_among lock self.now.held }
+    {
+        self.held.contains(&lock)
+    }
+
+    // Why it may not lock this mutex, if it may not.
+    fn refusal(&self, lock: u32) -> Option<LockError>
+        ensures some { IfSome result (λ e. Refuses self.now lock e) }
+        ensures inside { IsNone result → lock < self.now.locks }
+        ensures free { IsNone result → is_among lock self.now.held ≡ false }
+        ensures room { IsNone result → length self.now.held < self.now.most }
+    {
+        if lock >= self.locks {
+            return Some(LockError::NoSuchLock);
+        }
+        if self.is_held(lock) {
+            return Some(LockError::Held);
+        }
+        if self.held.len() >= self.most {
+            return Some(LockError::Full);
+        }
+        None
+    }
+
+    // Waits for the lock, and has its value out.
+    fn take<C: Chooser, Rt: Wait>(&mut self, rt: &Rt, lock: u32, chooser: &mut C) -> T
+        requires inside { lock < self.old.locks }
+        requires free { is_among lock self.old.held ≡ false }
+        requires room { length self.old.held < self.old.most }
+        ensures home { C.home chooser.new ≡ C.home chooser.old }
+        ensures held { self.new ≡ record self.old { held = lock ∷ self.old.held } }
+    {
+        let attr = self.attr;
+        let value = self.seat.lock_value(rt, self.arena, lock, &attr, chooser);
+        self.held.push_reserved(lock);
+        value
+    }
+
+    // Has the value out, where the lock is free.
+    fn try_take(&mut self, lock: u32) -> Option<T>
+        requires inside { lock < self.old.locks }
+        requires free { is_among lock self.old.held ≡ false }
+        requires room { length self.old.held < self.old.most }
+        ensures some { IfSome result (λ _. self.new ≡ record self.old {
+          held = lock ∷ self.old.held;
+        }) }
+        ensures none { IsNone result → self.new ≡ self.old }
+    {
+        if self.seat.attempt(self.arena, lock, Mode::Write).is_err() {
+            return None;
+        }
+        let value = self.seat.take_value(self.arena, lock);
+        self.held.push_reserved(lock);
+        Some(value)
+    }
+
+    // Puts the value back and unlocks, where this is the lock taken last; else the value is dropped, and the lock stays locked.
+    pub(crate) fn put_back(&mut self, lock: u32, value: T)
+        ensures last { (rest : _) → self.old.held ≡ lock ∷ rest
+            → self.new ≡ record self.old { held = rest } }
+    {
+        match self.held.pop() {
+            Some(last) if last == lock => self.seat.unlock_value(self.arena, lock, value),
+            Some(other) => self.held.push_reserved(other),
+            None => {}
+        }
+    }
+
+    /// Locks a mutex, and waits for it as `wait_for` of `shfl_arena` does. The guard has the value that the last one left, and no other seat has it
+    /// before the guard ends.
+    pub fn lock<C: Chooser, Rt: Wait>(
+        &mut self,
+        rt: &Rt,
+        lock: u32,
+        chooser: &mut C,
+    ) -> Result<MutexGuard<'_, 'a, T>, LockError>
+        ensures home { C.home chooser.new ≡ C.home chooser.old }
+        ensures lock { IfOk result (λ g. g.lock ≡ lock) }
+        ensures held { IfOk result (λ g. g.seat.now ≡ record self.old {
+          held = lock ∷ self.old.held;
+        }) }
+        ensures same_reference { IfOk result (λ g. g.seat.ghost_name ≡ self.entry.ghost_name) }
+        ensures refused { IfErr result (λ e. Refuses self.old lock e) }
+    {
+        if let Some(refusal) = self.refusal(lock) {
+            return Err(refusal);
+        }
+        let value = self.take(rt, lock, chooser);
+        Ok(MutexGuard::new(self, lock, value))
+    }
+
+    /// Locks a mutex by one operation, where it is free.
+    pub fn try_lock(&mut self, lock: u32) -> Result<MutexGuard<'_, 'a, T>, LockError>
+        ensures lock { IfOk result (λ g. g.lock ≡ lock) }
+        ensures held { IfOk result (λ g. g.seat.now ≡ record self.old {
+          held = lock ∷ self.old.held;
+        }) }
+        ensures same_reference { IfOk result (λ g. g.seat.ghost_name ≡ self.entry.ghost_name) }
+        ensures refused { IfErr result (λ e. Refuses self.old lock e) }
+    {
+        if let Some(refusal) = self.refusal(lock) {
+            return Err(refusal);
+        }
+        match self.try_take(lock) {
+            Some(value) => Ok(MutexGuard::new(self, lock, value)),
+            None => Err(LockError::Busy),
+        }
+    }
+}

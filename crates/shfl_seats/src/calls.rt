@@ -1,0 +1,147 @@
+//! What a caller does with a seat. Each argument is judged when it runs: what doesn't fit is an answer, and then nothing changes.
+ghost use Rattle.std.specs.Prelude.{◌≡◌, ◌≢◌, ◌↔◌, ◌<◌, ℕ, true, false, not, IsTrue, IsSome, Some, None};
+ghost use Rattle.shfl_core.specs.Plan as plan;
+ghost use Rattle.shfl_arena.specs.SeatModels.{entering};
+ghost use Rattle.shfl_arena.specs.SeatSteps.{TakesStep, WinsAttempt, LosesAttempt};
+ghost use Rattle.shfl_arena.specs.Threads.{mode_held};
+ghost use Rattle.shfl_arena.specs.Waits.{Frees};
+ghost use Rattle.shfl_line.specs.declared.events.Mode.{Mode};
+ghost use Rattle.shfl_line.specs.declared.events.Mode.TheVariants.{Write};
+ghost use Rattle.shfl_seats.specs.Tickets.{MayUseLock};
+ghost use Rattle.shfl_seats.specs.Told.{came_of};
+ghost use Rattle.shfl_seats.specs.declared.answers.Answer.TheVariants.{Done, Busy, Held, NotHeld, Bad, NoMemory as NoRoom};
+ghost use Rattle.shfl_seats.specs.declared.answers.Progress.TheVariants.{Rests};
+
+use crate::answers::{Answer, Progress, came_of};
+use crate::kept::Tried;
+use crate::ticket::SeatTicket;
+use shfl_core::found::shares;
+use shfl_line::{Attr, Mode};
+
+impl SeatTicket {
+    // Whether there is such a lock that may be taken in this mode, and the seat has no step to make.
+    fn may_use(&self, lock: u32, mode: Mode) -> bool
+        ensures { IsTrue result ↔ MayUseLock lock mode self.now }
+    {
+        !self.moving()
+            && lock < self.share.locks
+            && (matches!(mode, Mode::Write) || shares(self.seat.form()))
+    }
+
+    /// Takes a lock by one operation, or finds a word that refuses it. It waits for nobody.
+    pub fn attempt(&mut self, lock: u32, mode: Mode) -> Answer
+        ensures bad { (result ≡ Bad) ↔ ¬ (MayUseLock lock mode self.old) }
+        ensures held { result ≡ Held → IsSome (mode_held lock self.old.seat.holds) }
+        ensures done { result ≡ Done → WinsAttempt lock mode self.old.seat self.new.seat }
+        ensures busy { result ≡ Busy
+            → (word : ℕ) × LosesAttempt lock mode word self.old.seat self.new.seat }
+        ensures others { result ≢ NotHeld }
+        ensures refused { result ≢ Done → result ≢ Busy → self.new ≡ self.old }
+        ensures kept { self.new ≡ record self.old { seat = self.new.seat } }
+    {
+        if !self.may_use(lock, mode) {
+            return Answer::Bad;
+        }
+        if self.hold(lock).is_some() {
+            return Answer::Held;
+        }
+        match self.seat.attempt(&self.share.arena, lock, mode) {
+            Tried::Won => Answer::Done,
+            Tried::Lost => Answer::Busy,
+            Tried::NoMemory => Answer::NoMemory,
+        }
+    }
+
+    /// Begins to take a lock: steps follow until it is held.
+    pub fn acquire(&mut self, lock: u32, mode: Mode) -> Answer
+        ensures bad { (result ≡ Bad) ↔ ¬ (MayUseLock lock mode self.old) }
+        ensures held { result ≡ Held → IsSome (mode_held lock self.old.seat.holds) }
+        ensures free { result ≡ Done → mode_held lock self.old.seat.holds ≡ None }
+        ensures done { result ≡ Done → self.new ≡ record self.old {
+          seat = record self.old.seat {
+            lock = lock;
+            own = entering self.old.seat.own.reg.me mode;
+          };
+        } }
+        ensures others { (result ≢ NotHeld) × (result ≢ Busy) }
+        ensures refused { result ≢ Done → self.new ≡ self.old }
+    {
+        if !self.may_use(lock, mode) {
+            return Answer::Bad;
+        }
+        if self.hold(lock).is_some() {
+            return Answer::Held;
+        }
+        match self.seat.acquire(lock, mode) {
+            Ok(()) => Answer::Done,
+            Err(_) => Answer::NoMemory,
+        }
+    }
+
+    /// Makes one step, which is one atomic operation on one word, and tells what came of it. `choice` answers what it asks. It waits for
+    /// nobody, and takes no memory.
+    #[inline(always)]
+    pub fn step(&mut self, choice: bool) -> Progress
+        ensures rests { plan.moving self.old.seat.own ≡ false
+            → (result ≡ Rests) × (self.new ≡ self.old) }
+        ensures row { plan.moving self.old.seat.own ≡ true
+            → TakesStep self.old.seat choice self.new.seat }
+        ensures told { plan.moving self.old.seat.own ≡ true → result
+            ≡ came_of self.old.seat.own.nap self.old.seat.own.phase self.new.seat.own.phase }
+        ensures kept { self.new ≡ record self.old { seat = self.new.seat } }
+    {
+        let nap = self.seat.nap();
+        let before = self.seat.phase();
+        if !self.seat.step(&self.share.arena, choice) {
+            return Progress::Rests;
+        }
+        came_of(nap, before, self.seat.phase())
+    }
+
+    /// Gives a lock back, in the mode in which the seat holds it, by one operation.
+    pub fn release(&mut self, lock: u32) -> Answer
+        ensures bad { (result ≡ Bad) ↔ ¬ (MayUseLock lock Write self.old) }
+        ensures not_held { result ≡ NotHeld → mode_held lock self.old.seat.holds ≡ None }
+        ensures done { result ≡ Done → (mode : Mode)
+            × (mode_held lock self.old.seat.holds ≡ Some mode)
+            × Frees lock mode self.old.seat self.new.seat }
+        ensures others { (result ≢ Held) × (result ≢ Busy) × (result ≢ NoRoom) }
+        ensures refused { result ≢ Done → self.new ≡ self.old }
+        ensures kept { self.new ≡ record self.old { seat = self.new.seat } }
+    {
+        if !self.may_use(lock, Mode::Write) {
+            return Answer::Bad;
+        }
+        let Some(mode) = self.hold(lock) else {
+            return Answer::NotHeld;
+        };
+        self.seat.release(&self.share.arena, lock, mode);
+        Answer::Done
+    }
+
+    /// Disables stealing at a lock, beside the steps: for the queue's head, which looked in vain. False where there is no such lock.
+    pub fn disable_stealing(&mut self, lock: u32) -> bool
+        ensures answer { IsTrue result ↔ (lock < self.old.seat.arena.shape.locks) }
+        ensures same { self.new ≡ self.old }
+    {
+        if lock >= self.share.locks {
+            return false;
+        }
+        self.seat.disable_stealing(&self.share.arena, lock);
+        true
+    }
+
+    /// Gives the thread other attributes. False, and nothing changes, where it has a step to make.
+    pub fn set_attr(&mut self, attr: Attr) -> bool
+        ensures answer { result ≡ not (plan.moving self.old.seat.own) }
+        ensures refused { result ≡ false → self.new ≡ self.old }
+        ensures after { result ≡ true → self.new ≡ record self.old { attr = attr } }
+    {
+        if self.moving() {
+            return false;
+        }
+        self.seat.set_attr(&self.share.arena, &attr);
+        self.attr = attr;
+        true
+    }
+}

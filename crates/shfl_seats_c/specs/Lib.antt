@@ -1,0 +1,4 @@
+pub mod Handles
+pub mod Opened
+pub mod Calls
+pub mod Verdicts

@@ -1,7 +1,0 @@
-use Rattle.std.proofs.Common.{rules, ap}
-use Rattle.shfl_line.specs.declared.events.Form.TheVariants.{Park}
-use Rattle.shfl_core.specs.Runner.{Lock}
-use Rattle.shfl_table.proofs.tests.alike.parked.Goals as goal
-
-pub runs_as-requires-clause-form : goal.runs_as-requires-clause-form
-runs_as-requires-clause-form c = ap (λ (l : Lock). l.rules.form) (c.in_ok-plain.ensures Park (search rules))

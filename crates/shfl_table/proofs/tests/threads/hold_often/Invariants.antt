@@ -1,5 +1,0 @@
-use Rattle.shfl_table.specs.PassModel.{IsIdleAt}
-use Rattle.shfl_table.proofs.tests.threads.hold_often.Given as goal
-
-abbrev pub invariant-loop-hold : goal.invariant-loop-hold
-invariant-loop-hold g l = IsIdleAt l.board.id l.pass

@@ -1,0 +1,5 @@
+pub mod Through
+pub mod Standing
+pub mod Passing
+pub mod MayMove
+pub mod Queued

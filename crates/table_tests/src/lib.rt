@@ -1,0 +1,19 @@
+//! Tests of the lock on words that threads share, by its public calls.
+#![tactic(auto)]
+
+#[cfg(test)]
+mod alike;
+#[cfg(test)]
+mod boards;
+#[cfg(test)]
+mod crowd;
+#[cfg(test)]
+mod draws;
+#[cfg(test)]
+mod driven;
+#[cfg(test)]
+mod rounds;
+#[cfg(test)]
+mod threads;
+#[cfg(test)]
+mod turns;

@@ -1,0 +1,82 @@
+/* Policies of classes. Proved is that a policy is used only after its programs were accepted, and answers what they mean
+ * (crates/shfl_policy). That a class's threads follow its policy, from their next round on, is this file's. */
+#include "inside.h"
+
+/* Goes over to the class's policy as it is now, where the seat follows another one. */
+static void follow(struct shfl_thread *me, struct shfl_class *its) {
+    uint32_t which = (uint32_t)(its - shfl_process.classes) + 1;
+    shfl_store(&me->in_round, which);
+    if (me->follows == which && me->version == shfl_load(&its->version)) return;
+    shfl_guard_lock(&its->guard);
+    bool done = shfl_seat_follow(&me->seat, &its->seat);
+    shfl_store(&me->version, shfl_load(&its->version));
+    shfl_guard_unlock(&its->guard);
+    if (!done) shfl_seat_detach(&me->seat);
+    shfl_store(&me->follows, done ? which : 0);
+}
+
+/* The first question of a round is whether to skip it: the whole round goes by one version. */
+bool shfl_answer(struct shfl_thread *me, uint32_t lock, struct shfl_class *its) {
+    struct shfl_ask ask = shfl_seat_ask(&me->seat);
+    if (ask.kind == SHFL_ASK_NOTHING) return false;
+    if (ask.kind == SHFL_ASK_SKIP) follow(me, its);
+    bool yes = shfl_seat_answer(&me->seat);
+    struct shfl_stat *counts = shfl_counts_of(me, lock);
+    shfl_more(&counts->questions, 1);
+    shfl_more(&counts->yes, yes);
+    shfl_more(&counts->skipped, yes && ask.kind == SHFL_ASK_SKIP);
+    return yes;
+}
+
+/* The class goes over to the policy that was loaded. */
+static int publish(struct shfl_class *its, bool attached) {
+    shfl_guard_lock(&its->guard);
+    bool done = shfl_seat_follow(&its->seat, &shfl_process.loading);
+    if (done) {
+        __atomic_fetch_add(&its->version, 1, __ATOMIC_SEQ_CST);
+        shfl_store(&its->attached, attached);
+    }
+    shfl_guard_unlock(&its->guard);
+    return done ? 0 : EAGAIN;
+}
+
+int shfl_class_policy(unsigned class_of, unsigned profile, const uint8_t *should, size_t should_length, const uint8_t *skip,
+                      size_t skip_length, struct shfl_fault *fault) {
+    static const uint8_t none;
+    if (class_of >= SHFL_CLASSES || profile < 1 || profile > 2) return EINVAL;
+    if ((!should && should_length) || (!skip && skip_length)) return EINVAL;
+    int error = shfl_open_process();
+    if (error) return error;
+    shfl_guard_lock(&shfl_process.is_loading);
+    struct shfl_verdict verdict = shfl_seat_attach(&shfl_process.loading, (uint8_t)profile, should ? should : &none, should_length,
+                                                   skip ? skip : &none, skip_length);
+    if (verdict.fault == 0) error = publish(shfl_class_at(class_of), should_length + skip_length > 0);
+    else error = verdict.fault == 255 ? ENOMEM : EINVAL;
+    shfl_seat_detach(&shfl_process.loading);
+    shfl_guard_unlock(&shfl_process.is_loading);
+    if (fault) *fault = (struct shfl_fault){verdict.slot, verdict.fault, verdict.hook, verdict.reg};
+    return error;
+}
+
+int shfl_class_detach(unsigned class_of) { return shfl_class_policy(class_of, 1, NULL, 0, NULL, 0, NULL); }
+
+/* Whether no thread is in a round that an older version answers. A thread says that it is in a round before it looks for the version. */
+static bool is_drained(uint32_t which, uint32_t version) {
+    for (uint32_t k = 0; k < shfl_load(&shfl_process.threads_seen); k++) {
+        struct shfl_thread *thread = &shfl_process.threads[k];
+        if (shfl_load(&thread->in_round) != which) continue;
+        if (shfl_load(&thread->follows) != which || shfl_load(&thread->version) != version) return false;
+    }
+    return true;
+}
+
+int shfl_class_stat(unsigned class_of, struct shfl_class_stat *out) {
+    if (class_of >= SHFL_CLASSES || !out) return EINVAL;
+    int error = shfl_open_process();
+    if (error) return error;
+    struct shfl_class *its = shfl_class_at(class_of);
+    *out = (struct shfl_class_stat){.version = shfl_load(&its->version), .attached = (uint8_t)shfl_load(&its->attached)};
+    out->drained = is_drained(class_of + 1, out->version);
+    shfl_sum_class(class_of, out);
+    return 0;
+}

@@ -1,0 +1,192 @@
+/* The control socket: where the environment asks for it, one thread answers requests of the same user at a Unix socket. It takes no lock of
+ * the program's, and the threads of the program don't wait for it: a client that hangs is dropped after a second, one that asks without end
+ * waits for its turn, and what a request is answered stands in requests.c.
+ *
+ * SHFL_CONTROL names the directory of the socket, which is the user's own and open to nobody else; 1 stands for XDG_RUNTIME_DIR/shfl. */
+#define _GNU_SOURCE
+#include <fcntl.h>
+#include <poll.h>
+#include <pthread.h>
+#include <signal.h>
+#include <stdio.h>
+#include <stdlib.h>
+#include <string.h>
+#include <sys/mman.h>
+#include <sys/socket.h>
+#include <sys/stat.h>
+#include <sys/un.h>
+#include "control.h"
+
+/* So many clients at a time, each for so many nanoseconds. */
+#define CLIENTS 8
+#define CLIENT_NS 1000000000u
+
+/* A client: its request as far as it came, then what it is answered as far as that went. */
+struct client {
+    int socket; /* -1: there is none */
+    uint64_t until;
+    size_t read, sent;
+    struct shfl_reply reply; /* its length is 0 until the request is whole */
+    char request[SHFL_REQUEST_MOST + 1];
+};
+
+static struct sockaddr_un place = {.sun_family = AF_UNIX};
+static int listening = -1;
+static pid_t owner; /* the process that listens; a child of it doesn't */
+
+static void complain(const char *what, const char *where) { fprintf(stderr, "libshfl: no control socket: %s: %s\n", where, what); }
+
+/* The directory, made where it isn't there, unless it isn't the user's own. */
+static bool directory(char *room, size_t size) {
+    const char *told = secure_getenv("SHFL_CONTROL"), *run = secure_getenv("XDG_RUNTIME_DIR");
+    if (!told || !*told || strcmp(told, "0") == 0) return false;
+    bool usual = strcmp(told, "1") == 0;
+    if (usual && (!run || !*run)) return complain("XDG_RUNTIME_DIR isn't set", "SHFL_CONTROL=1"), false;
+    int length = usual ? snprintf(room, size, "%s/shfl", run) : snprintf(room, size, "%s", told);
+    if (length < 0 || (size_t)length >= size) return complain("the name is too long", told), false;
+    struct stat it;
+    if (mkdir(room, 0700) && errno != EEXIST) return complain(strerror(errno), room), false;
+    if (lstat(room, &it)) return complain(strerror(errno), room), false;
+    if (!S_ISDIR(it.st_mode) || it.st_uid != geteuid() || (it.st_mode & 077)) return complain("it isn't a directory of this user alone (mode 0700)", room), false;
+    return true;
+}
+
+static bool open_socket(void) {
+    char room[sizeof place.sun_path];
+    if (!directory(room, sizeof room - 20)) return false;
+    snprintf(place.sun_path, sizeof place.sun_path, "%.*s/shfl-%ld", (int)(sizeof room - 20), room, (long)getpid());
+    listening = socket(AF_UNIX, SOCK_STREAM | SOCK_CLOEXEC | SOCK_NONBLOCK, 0);
+    if (listening < 0) return complain(strerror(errno), room), false;
+    unlink(place.sun_path);
+    if (bind(listening, (struct sockaddr *)&place, sizeof place) == 0 && listen(listening, 64) == 0) return true;
+    complain(strerror(errno), place.sun_path);
+    shfl_control_forked();
+    return false;
+}
+
+/* The user of the process, or root. */
+static bool may_ask(int socket) {
+    struct ucred peer;
+    socklen_t size = sizeof peer;
+    if (getsockopt(socket, SOL_SOCKET, SO_PEERCRED, &peer, &size)) return false;
+    return peer.uid == geteuid() || peer.uid == 0;
+}
+
+static void drop(struct client *client) {
+    close(client->socket);
+    client->socket = -1;
+}
+
+static void take_in(struct client *clients, uint64_t now) {
+    for (int k = 0; k < CLIENTS; k++) {
+        struct client *client = &clients[k];
+        if (client->socket >= 0) continue;
+        client->socket = accept4(listening, NULL, NULL, SOCK_CLOEXEC | SOCK_NONBLOCK);
+        if (client->socket < 0) {
+            /* where the program has no descriptor left, the one that asks is left to wait */
+            if (errno != EAGAIN) usleep(100000);
+            return;
+        }
+        client->until = now + CLIENT_NS;
+        client->read = client->sent = client->reply.length = 0;
+        if (!may_ask(client->socket)) drop(client);
+    }
+}
+
+/* Reads on; a whole line, or more than a request has, is answered. */
+static void hear(struct client *client) {
+    ssize_t came = read(client->socket, client->request + client->read, SHFL_REQUEST_MOST - client->read);
+    if (came < 0 && (errno == EAGAIN || errno == EINTR)) return;
+    if (came <= 0) return drop(client);
+    client->read += (size_t)came;
+    char *end = memchr(client->request, '\n', client->read);
+    if (!end && client->read < SHFL_REQUEST_MOST) return;
+    bool whole = end && end + 1 == client->request + client->read && !memchr(client->request, 0, client->read);
+    if (end) *end = 0;
+    if (!whole) client->request[0] = 0;
+    shfl_reply_to(client->request, &client->reply);
+}
+
+static void tell(struct client *client) {
+    ssize_t went = send(client->socket, client->reply.text + client->sent, client->reply.length - client->sent, MSG_NOSIGNAL);
+    if (went < 0 && (errno == EAGAIN || errno == EINTR)) return;
+    if (went <= 0) return drop(client);
+    client->sent += (size_t)went;
+    if (client->sent == client->reply.length) drop(client);
+}
+
+/* One look at all sockets, for as long as no client's time is over. */
+static void look(struct client *clients, struct pollfd *at) {
+    int free_places = 0, wait = -1;
+    uint64_t now = shfl_clock();
+    for (int k = 0; k < CLIENTS; k++) {
+        struct client *client = &clients[k];
+        if (client->socket >= 0 && now >= client->until) drop(client);
+        free_places += client->socket < 0;
+        at[k] = (struct pollfd){client->socket, client->reply.length ? POLLOUT : POLLIN, 0};
+        if (client->socket < 0) continue;
+        int left = (int)((client->until - now) / 1000000) + 1;
+        if (wait < 0 || left < wait) wait = left;
+    }
+    at[CLIENTS] = (struct pollfd){free_places ? listening : -1, POLLIN, 0};
+    if (poll(at, CLIENTS + 1, wait) <= 0) return;
+    for (int k = 0; k < CLIENTS; k++) {
+        if (clients[k].socket < 0 || !at[k].revents) continue;
+        if (clients[k].reply.length) tell(&clients[k]);
+        else hear(&clients[k]);
+    }
+    if (at[CLIENTS].revents) take_in(clients, shfl_clock());
+}
+
+static void *serve(void *room) {
+    struct client *clients = room;
+    struct pollfd at[CLIENTS + 1];
+    for (int k = 0; k < CLIENTS; k++) clients[k].socket = -1;
+    for (;;) look(clients, at);
+    return NULL;
+}
+
+/* The thread takes none of the program's signals. */
+static bool begin(void *room) {
+    pthread_attr_t attr;
+    pthread_t thread;
+    sigset_t all, before;
+    sigfillset(&all);
+    if (pthread_attr_init(&attr)) return false;
+    pthread_attr_setdetachstate(&attr, PTHREAD_CREATE_DETACHED);
+    pthread_attr_setstacksize(&attr, 256 * 1024);
+    pthread_sigmask(SIG_SETMASK, &all, &before);
+    bool done = pthread_create(&thread, &attr, serve, room) == 0;
+    pthread_sigmask(SIG_SETMASK, &before, NULL);
+    pthread_attr_destroy(&attr);
+    return done;
+}
+
+/* Begins to listen, once for each process: a thread that takes its seat comes here. */
+SHFL_COLD void shfl_control(void) {
+    static pid_t begun;
+    pid_t before = __atomic_load_n(&begun, __ATOMIC_SEQ_CST), now = getpid();
+    if (before == now || !__atomic_compare_exchange_n(&begun, &before, now, false, __ATOMIC_SEQ_CST, __ATOMIC_SEQ_CST)) return;
+    int error = errno;
+    if (open_socket()) {
+        size_t size = CLIENTS * sizeof(struct client);
+        void *room = mmap(NULL, size, PROT_READ | PROT_WRITE, MAP_PRIVATE | MAP_ANONYMOUS | MAP_NORESERVE, -1, 0);
+        owner = now;
+        if (room == MAP_FAILED || !begin(room)) {
+            complain("no thread or no memory", place.sun_path);
+            unlink(place.sun_path);
+            owner = 0;
+        }
+    }
+    errno = error;
+}
+
+/* The socket is the parent's; the child has one of its own as soon as a new thread of it uses a lock. */
+void shfl_control_forked(void) {
+    if (listening >= 0) close(listening);
+    listening = -1;
+}
+
+__attribute__((destructor)) static void end_socket(void) {
+    if (owner != 0 && owner == getpid()) unlink(place.sun_path);
+}

@@ -1,0 +1,227 @@
+/* What the files of the library share: the process's arena, its threads, and where they sleep. */
+#ifndef SHFL_INSIDE_H
+#define SHFL_INSIDE_H
+#include <errno.h>
+#include "futex.h"
+#include "include/libshfl.h"
+#include "seats.h"
+
+#define SHFL_LOCKS_USUAL 65536
+#define SHFL_THREADS_USUAL 4096
+#define SHFL_MOST_THREADS (65535 - SHFL_CLASSES - 1)
+
+#define SHFL_COLD __attribute__((noinline, cold))
+#define SHFL_LIKELY(x) __builtin_expect(!!(x), 1)
+
+/* A heap of the library's own waits while the process forks; malloc does so by itself. */
+#ifndef SHFL_HEAP_H
+static inline void shfl_heap_stop(void) {}
+static inline void shfl_heap_go_on(void) {}
+#endif
+
+/* A lock for C's own lists, over a futex: 0 free, 1 held, 2 held and somebody sleeps. */
+typedef uint32_t shfl_guard;
+void shfl_guard_lock(shfl_guard *guard);
+void shfl_guard_unlock(shfl_guard *guard);
+
+/* Where the threads of a lock sleep. It decides nothing about who holds the lock: a word of it that is wrong costs time. It is all
+ * zero while nobody waits, but for what was counted. What each unlock reads stands first. */
+struct shfl_parking {
+    uint32_t head_asleep; /* 1 while the queue's head sleeps or is about to */
+    uint32_t outside; /* how many sleep outside the queue, or are about to */
+    uint32_t inside; /* how many wait otherwise, while somebody sleeps outside; those who queue always count */
+    uint32_t queued; /* how many queue */
+    uint32_t wakeups; /* changes with each wakeup outside */
+    uint32_t promoted; /* 1 from the wakeup of one that is to queue until that one knows */
+    uint32_t holds; /* that passed those outside */
+    uint32_t next_free; /* of a lock's number that is free */
+    uint64_t woken_at, promoted_at; /* when one outside was last woken, and to queue */
+    uint32_t generation; /* which lock has this number: changes where it comes back */
+    uint32_t class_of;
+    uint32_t last; /* the mark of the thread that took it last alone, or 0 */
+    uint32_t stale; /* 1 where the thread that forked has it, in the child */
+};
+
+_Static_assert(sizeof(struct shfl_parking) == 64, "a cache line");
+
+/* What a thread counted at a lock: written by the thread alone, read by all. */
+struct shfl_counted {
+    uint64_t tag; /* the lock's generation and its number plus one, or 0 */
+    uint64_t class_of; /* as it was when the thread came to it */
+    struct shfl_stat counts;
+};
+
+/* How many locks a thread counts at a time. Where it comes to another one in a place, it adds what stands there to the lock's own. */
+#define SHFL_COUNTED_BITS 6
+#define SHFL_COUNTED (1u << SHFL_COUNTED_BITS)
+
+/* What threads have given over to a lock, and where that is. */
+struct shfl_total {
+    struct shfl_stat counts;
+    const void *address; /* null where the number is free */
+    uint32_t moves; /* odd while a thread gives over */
+};
+
+/* A read lock that a thread took again. */
+struct shfl_again { uint32_t lock, times; };
+
+/* A thread, or a place for one. The first line is written by those who wake it, too. */
+struct shfl_thread {
+    uint32_t asleep; /* 1 while it sleeps in the queue, or is about to */
+    uint32_t unused[31];
+    struct shfl_seat seat;
+    uint32_t number;
+    uint32_t holding; /* how many locks it has */
+    uint32_t held_room;
+    const void **held; /* where they are: in the checked build alone */
+    uint32_t follows, version; /* the class whose policy its seat follows, plus one; and which version of it */
+    uint32_t in_round; /* the class whose policy answers its round, plus one */
+    uint32_t mark; /* its number plus one, and in the low half its socket */
+    struct shfl_counted *counts;
+    uint32_t again_count, again_room;
+    struct shfl_again *again;
+    struct shfl_thread *next_free;
+    uint8_t aside; /* it lets others go first, once */
+} __attribute__((aligned(128)));
+
+/* A class of locks. Its seat takes no lock: it has the policy, which the threads' seats share. */
+struct shfl_class {
+    shfl_guard guard;
+    uint32_t version; /* changes with each policy */
+    uint32_t attached; /* whether there is one */
+    struct shfl_seat seat;
+} __attribute__((aligned(64)));
+
+struct shfl_process {
+    struct shfl_thread *threads;
+    struct shfl_parking *parkings;
+    struct shfl_counted *counts;
+    struct shfl_total *totals;
+    uint32_t threads_seen; /* no thread with this number or a higher one was ever there */
+    struct shfl_class classes[SHFL_CLASSES];
+    struct shfl_stat ended[SHFL_CLASSES]; /* what was counted of locks that aren't any more */
+    shfl_guard moving[SHFL_COUNTED]; /* of totals, by the lock's number */
+    shfl_guard ending; /* of `ended`; taken after another */
+    shfl_guard is_loading;
+    struct shfl_seat loading; /* where a policy is judged before its class has it */
+    uint32_t lock_count, thread_count;
+    uint32_t has_stale; /* whether a lock is stale */
+};
+
+extern struct shfl_process shfl_process;
+extern __thread struct shfl_thread *shfl_me __attribute__((tls_model("initial-exec")));
+
+/* What the process does where a thread ends, and where it forks; that, and its arena. */
+int shfl_begin_process(void);
+int shfl_open_process(void);
+bool shfl_set_attr(struct shfl_thread *me, uint16_t prio, uint16_t class_of, uint16_t kind);
+
+/* This thread with its seat. Null where it can't have one, and then `error` says why. */
+struct shfl_thread *shfl_take_seat(int *error);
+static inline struct shfl_thread *shfl_self(int *error) {
+    struct shfl_thread *me = shfl_me;
+    return SHFL_LIKELY(me != NULL) ? me : shfl_take_seat(error);
+}
+
+/* The lock's number in the arena. Its class is taken over at the first use. */
+int shfl_give_number(uint32_t *word, uint32_t class_of, uint32_t *lock);
+void shfl_take_number_back(uint32_t lock);
+void shfl_leave_number(uint32_t lock);
+static inline int shfl_number(uint32_t *word, uint32_t class_of, uint32_t *lock) {
+    uint32_t number = __atomic_load_n(word, __ATOMIC_ACQUIRE);
+    if (!SHFL_LIKELY(number != 0)) return shfl_give_number(word, class_of, lock);
+    *lock = number - 1;
+    return 0;
+}
+
+/* The class stands behind the number; in a pthread object what stands there is libc's, and the class is 0. */
+static inline uint32_t shfl_class_behind(const uint32_t *word) {
+#ifdef SHFL_HEAP_H
+    (void)word;
+    return 0;
+#else
+    return word[1];
+#endif
+}
+
+static inline struct shfl_parking *shfl_parking_of(uint32_t lock) { return &shfl_process.parkings[lock]; }
+static inline struct shfl_class *shfl_class_at(uint32_t class_of) { return &shfl_process.classes[class_of % SHFL_CLASSES]; }
+
+/* The k-th number that was given, and how many were. */
+uint32_t shfl_number_at(uint32_t k);
+uint32_t shfl_numbers_given(void);
+int shfl_put_into(uint32_t lock, const void *address, uint32_t class_of);
+
+/* counts.c */
+struct shfl_stat *shfl_count_anew(struct shfl_counted *at, uint32_t lock, uint64_t tag);
+void shfl_count_hand_over(struct shfl_parking *parking, struct shfl_stat *counts, uint32_t mark);
+void shfl_count_waited(struct shfl_thread *me, uint32_t lock, uint64_t since);
+void shfl_count_end(uint32_t lock);
+void shfl_sum_lock(uint32_t lock, struct shfl_stat *out);
+void shfl_sum_class(uint32_t class_of, struct shfl_class_stat *out);
+
+static inline void shfl_more(uint64_t *count, uint64_t more) {
+    __atomic_store_n(count, __atomic_load_n(count, __ATOMIC_RELAXED) + more, __ATOMIC_RELAXED);
+}
+
+static inline uint64_t shfl_tag(uint32_t lock) {
+    return (uint64_t)__atomic_load_n(&shfl_parking_of(lock)->generation, __ATOMIC_RELAXED) << 32 | (lock + 1);
+}
+
+static inline uint32_t shfl_counted_at(uint32_t lock) { return lock * 2654435761u >> (32 - SHFL_COUNTED_BITS); }
+
+/* Where this thread counts what it does at a lock. */
+static inline struct shfl_stat *shfl_counts_of(struct shfl_thread *me, uint32_t lock) {
+    struct shfl_counted *at = &me->counts[shfl_counted_at(lock)];
+    uint64_t tag = shfl_tag(lock);
+    return SHFL_LIKELY(at->tag == tag) ? &at->counts : shfl_count_anew(at, lock, tag);
+}
+
+static inline void shfl_count_taken(struct shfl_thread *me, uint32_t lock, bool shared) {
+    struct shfl_parking *parking = shfl_parking_of(lock);
+    struct shfl_stat *counts = shfl_counts_of(me, lock);
+    shfl_more(&counts->taken, 1);
+    if (!shared && !SHFL_LIKELY(__atomic_load_n(&parking->last, __ATOMIC_RELAXED) == me->mark)) shfl_count_hand_over(parking, counts, me->mark);
+}
+
+static inline void shfl_count_contended(struct shfl_thread *me, uint32_t lock) { shfl_more(&shfl_counts_of(me, lock)->contended, 1); }
+
+/* waiting.c: takes the lock, which an attempt found taken; and what a thread does that gives it back. */
+int shfl_wait(struct shfl_thread *me, uint32_t lock, bool shared);
+int shfl_wait_until(struct shfl_thread *me, uint32_t lock, bool shared, clockid_t clock, const struct timespec *deadline);
+void shfl_wake_next(struct shfl_thread *me, struct shfl_parking *parking);
+
+/* class.c: what the class's policy answers to what the next step asks. */
+bool shfl_answer(struct shfl_thread *me, uint32_t lock, struct shfl_class *its);
+
+/* control.c: begins to listen where the environment asks for it, once a process; and in the child of a fork ends to. */
+void shfl_control(void);
+void shfl_control_forked(void);
+
+/* locking.c: what mutexes and locks for readers and writers have in common. */
+int shfl_take(uint32_t *word, bool shared);
+int shfl_try(uint32_t *word, bool shared);
+int shfl_take_until(uint32_t *word, bool shared, clockid_t clock, const struct timespec *deadline);
+int shfl_give_back(uint32_t *word);
+int shfl_end(uint32_t *word);
+
+/* checked.c: in the checked build a call that no right program makes ends it, and a thread knows where the locks are that it has. */
+int shfl_refuse(int error, const void *lock, const char *what);
+void shfl_note_taken(struct shfl_thread *me, const void *lock);
+void shfl_note_given(struct shfl_thread *me, const void *lock);
+static inline void shfl_taken(struct shfl_thread *me, const void *lock) {
+#ifdef SHFL_CHECKED
+    shfl_note_taken(me, lock);
+#endif
+    (void)lock;
+    me->holding++;
+}
+
+static inline void shfl_given(struct shfl_thread *me, const void *lock) {
+    me->holding--;
+#ifdef SHFL_CHECKED
+    shfl_note_given(me, lock);
+#endif
+    (void)lock;
+}
+#endif

@@ -1,0 +1,149 @@
+/* What mutexes and locks for readers and writers have in common: the errors, the locks that a thread took again, the counts. Proved is that
+ * a seat takes no lock that it holds, gives none back that it doesn't, and that a writer holds alone (crates/shfl_seats). */
+#include <stdlib.h>
+#include "inside.h"
+
+/* A place for one more lock that this thread takes again. */
+static struct shfl_again *room_for_again(struct shfl_thread *me) {
+    if (me->again_count == me->again_room) {
+        uint32_t room = me->again_room ? 2 * me->again_room : 8;
+        struct shfl_again *again = realloc(me->again, room * sizeof *again);
+        if (!again) return NULL;
+        me->again = again;
+        me->again_room = room;
+    }
+    return &me->again[me->again_count++];
+}
+
+/* A reader takes its lock again: that is counted here, and the seat holds it once. */
+static int take_again(struct shfl_thread *me, uint32_t lock) {
+    for (uint32_t k = 0; k < me->again_count; k++) {
+        if (me->again[k].lock != lock) continue;
+        if (me->again[k].times == UINT32_MAX) return EAGAIN;
+        me->again[k].times++;
+        return 0;
+    }
+    struct shfl_again *place = room_for_again(me);
+    if (!place) return ENOMEM;
+    *place = (struct shfl_again){lock, 1};
+    return 0;
+}
+
+static bool give_again(struct shfl_thread *me, uint32_t lock) {
+    for (uint32_t k = 0; k < me->again_count; k++) {
+        if (me->again[k].lock != lock) continue;
+        if (--me->again[k].times == 0) me->again[k] = me->again[--me->again_count];
+        return true;
+    }
+    return false;
+}
+
+/* What an attempt that neither won nor lost is answered. */
+static SHFL_COLD int other_answer(struct shfl_thread *me, uint32_t *word, uint32_t lock, bool shared, uint8_t answer, int held) {
+    if (answer == SHFL_HELD && shared && shfl_seat_hold(&me->seat, lock) == 2) return take_again(me, lock);
+    if (answer == SHFL_HELD) return held == EBUSY ? held : shfl_refuse(held, word, "a thread takes a lock that it has");
+    return answer == SHFL_NO_MEMORY ? ENOMEM : EINVAL;
+}
+
+int shfl_take(uint32_t *word, bool shared) {
+    int error = 0;
+    uint32_t lock;
+    struct shfl_thread *me = shfl_self(&error);
+    if (!me) return error;
+    error = shfl_number(word, shfl_class_behind(word), &lock);
+    if (error) return error;
+    uint8_t answer = shfl_seat_attempt(&me->seat, lock, shared);
+    if (!SHFL_LIKELY(answer == SHFL_DONE)) {
+        if (answer != SHFL_BUSY) return other_answer(me, word, lock, shared, answer, EDEADLK);
+        if (shared) shfl_ring(&shfl_parking_of(lock)->head_asleep);
+        shfl_count_contended(me, lock);
+        uint64_t since = shfl_clock();
+        error = shfl_wait(me, lock, shared);
+        shfl_count_waited(me, lock, since);
+        if (error) return error;
+    }
+    shfl_count_taken(me, lock, shared);
+    shfl_taken(me, word);
+    return 0;
+}
+
+int shfl_try(uint32_t *word, bool shared) {
+    int error = 0;
+    uint32_t lock;
+    struct shfl_thread *me = shfl_self(&error);
+    if (!me) return error;
+    error = shfl_number(word, shfl_class_behind(word), &lock);
+    if (error) return error;
+    uint8_t answer = shfl_seat_attempt(&me->seat, lock, shared);
+    if (answer == SHFL_DONE) {
+        shfl_count_taken(me, lock, shared);
+        shfl_taken(me, word);
+        return 0;
+    }
+    if (answer != SHFL_BUSY) return other_answer(me, word, lock, shared, answer, EBUSY);
+    shfl_count_contended(me, lock);
+    if (shared) shfl_ring(&shfl_parking_of(lock)->head_asleep);
+    return EBUSY;
+}
+
+int shfl_take_until(uint32_t *word, bool shared, clockid_t clock, const struct timespec *deadline) {
+    int error = 0;
+    uint32_t lock;
+    struct shfl_thread *me = shfl_self(&error);
+    if (!me) return error;
+    error = shfl_number(word, shfl_class_behind(word), &lock);
+    if (error) return error;
+    uint8_t answer = shfl_seat_attempt(&me->seat, lock, shared);
+    if (answer == SHFL_BUSY) {
+        if (shared) shfl_ring(&shfl_parking_of(lock)->head_asleep);
+        if (!deadline || deadline->tv_nsec < 0 || deadline->tv_nsec > 999999999) return EINVAL;
+        if (clock != CLOCK_MONOTONIC && clock != CLOCK_REALTIME) return EINVAL;
+        shfl_count_contended(me, lock);
+        uint64_t since = shfl_clock();
+        error = shfl_wait_until(me, lock, shared, clock, deadline);
+        shfl_count_waited(me, lock, since);
+        if (error) return error;
+    } else if (answer != SHFL_DONE) {
+        return other_answer(me, word, lock, shared, answer, EDEADLK);
+    }
+    shfl_count_taken(me, lock, shared);
+    shfl_taken(me, word);
+    return 0;
+}
+
+/* In the child of a fork a lock is given back, in whose words threads may stand that aren't there: the seat keeps that number, and the lock's
+ * next use gives it another. */
+static SHFL_COLD bool leave_number(struct shfl_thread *me, uint32_t *word, uint32_t lock) {
+    if (!shfl_parking_of(lock)->stale || shfl_seat_hold(&me->seat, lock) == 0) return false;
+    shfl_given(me, word);
+    shfl_leave_number(lock);
+    __atomic_store_n(word, 0, __ATOMIC_SEQ_CST);
+    return true;
+}
+
+/* After the release the lock's own memory isn't touched: whoever takes the lock next may free it. */
+int shfl_give_back(uint32_t *word) {
+    struct shfl_thread *me = shfl_me;
+    uint32_t number = __atomic_load_n(word, __ATOMIC_ACQUIRE);
+    if (!me || number == 0) return shfl_refuse(EPERM, word, "a thread gives a lock back that it doesn't have");
+    uint32_t lock = number - 1;
+    if (me->again_count > 0 && give_again(me, lock)) return 0;
+    if (shfl_process.has_stale && lock < shfl_process.lock_count && leave_number(me, word, lock)) return 0;
+    if (shfl_seat_release(&me->seat, lock) != SHFL_DONE) return shfl_refuse(EPERM, word, "a thread gives a lock back that it doesn't have");
+    shfl_given(me, word);
+    shfl_wake_next(me, shfl_parking_of(lock));
+    return 0;
+}
+
+/* Gives the lock's number back, where nobody has the lock. */
+int shfl_end(uint32_t *word) {
+    if (__atomic_load_n(word, __ATOMIC_ACQUIRE) == 0) return 0;
+    int error = shfl_try(word, false);
+    if (error == EBUSY) return shfl_refuse(EBUSY, word, "a lock is destroyed that somebody has");
+    if (error) return error;
+    uint32_t number = __atomic_exchange_n(word, 0, __ATOMIC_SEQ_CST);
+    shfl_seat_release(&shfl_me->seat, number - 1);
+    shfl_given(shfl_me, word);
+    shfl_take_number_back(number - 1);
+    return 0;
+}

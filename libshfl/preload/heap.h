@@ -1,0 +1,22 @@
+/* The memory of the preload library, which every file of it is compiled with (cc -include): never from malloc, since a program's malloc may
+ * take a mutex, which would be the library's. */
+#ifndef SHFL_HEAP_H
+#define SHFL_HEAP_H
+#define _GNU_SOURCE
+#include <stdlib.h>
+
+void *shfl_heap_take(size_t size);
+void *shfl_heap_zero(size_t count, size_t size);
+void *shfl_heap_resize(void *at, size_t size);
+void shfl_heap_give(void *at);
+int shfl_heap_aligned(void **at, size_t align, size_t size);
+
+/* While a process forks. */
+void shfl_heap_stop(void);
+void shfl_heap_go_on(void);
+
+#define calloc(count, size) shfl_heap_zero(count, size)
+#define realloc(at, size) shfl_heap_resize(at, size)
+#define free(at) shfl_heap_give(at)
+#define posix_memalign(at, align, size) shfl_heap_aligned(at, align, size)
+#endif

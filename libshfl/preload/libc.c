@@ -1,0 +1,37 @@
+/* libc's own calls, which the library's stand before. */
+#include <dlfcn.h>
+#include "inside.h"
+
+static struct shfl_libc calls;
+static uint32_t are_found;
+
+/* The one that programs of today mean: glibc has condition variables of an older shape too, under the same names. */
+static void *found(const char *name) {
+    void *at = dlvsym(RTLD_NEXT, name, "GLIBC_2.3.2");
+    return at ? at : dlsym(RTLD_NEXT, name);
+}
+
+/* Several threads may do this at once, and write the same. */
+static SHFL_COLD void find(void) {
+    int before = errno;
+#define FIND(call) calls.call = (__typeof__(calls.call))found("pthread_" #call)
+    FIND(mutex_lock), FIND(mutex_trylock), FIND(mutex_timedlock), FIND(mutex_clocklock), FIND(mutex_unlock), FIND(mutex_destroy);
+    FIND(rwlock_rdlock), FIND(rwlock_wrlock), FIND(rwlock_tryrdlock), FIND(rwlock_trywrlock), FIND(rwlock_timedrdlock);
+    FIND(rwlock_timedwrlock), FIND(rwlock_clockrdlock), FIND(rwlock_clockwrlock), FIND(rwlock_unlock), FIND(rwlock_destroy);
+    FIND(cond_wait), FIND(cond_timedwait), FIND(cond_clockwait), FIND(cond_signal), FIND(cond_broadcast), FIND(cond_destroy);
+#undef FIND
+    __atomic_store_n(&are_found, 1, __ATOMIC_RELEASE);
+    errno = before;
+}
+
+const struct shfl_libc *shfl_libc(void) {
+    if (!__atomic_load_n(&are_found, __ATOMIC_ACQUIRE)) find();
+    return &calls;
+}
+
+/* Early, so that the threads' key is among those for which libc takes no memory, and the handlers of a program's forks come before the
+ * library's. Who locks before this finds both as well. */
+__attribute__((constructor)) static void begin(void) {
+    shfl_libc();
+    shfl_begin_process();
+}

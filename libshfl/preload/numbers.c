@@ -1,0 +1,67 @@
+/* What an unmodified program can't be told: that there is no number for a lock, which then is libc's, or no seat for a thread, which then
+ * waits for one. */
+#include "inside.h"
+
+#define NAP_NS 1000000
+
+static void nap(void) {
+    static uint32_t never;
+    shfl_sleep(&never, 0, NAP_NS);
+}
+
+static SHFL_COLD void say_once(void) {
+    static const char words[] = "libshfl_preload: more threads than SHFL_THREADS use locks; one waits until another has ended\n";
+    static uint32_t said;
+    int before = errno;
+    if (!__atomic_exchange_n(&said, 1, __ATOMIC_SEQ_CST) && write(2, words, sizeof words - 1) < 0) errno = before;
+    errno = before;
+}
+
+/* Takes a seat for this thread, if it has to wait for one. */
+static void sit(void) {
+    int error = 0;
+    while (!shfl_self(&error)) {
+        say_once();
+        nap();
+    }
+}
+
+/* A lock whose number isn't there yet gets one, or goes to libc for as long as it lives. A lock that is used while this very thread opens
+ * the arena goes there too. Answers whether it is the library's; then this thread has a seat. */
+SHFL_COLD bool shfl_adopt(uint32_t *word) {
+    static __thread bool opens __attribute__((tls_model("initial-exec")));
+    uint32_t lock, none = 0;
+    int error = EAGAIN;
+    if (!opens) {
+        opens = true;
+        error = shfl_number(word, 0, &lock);
+        opens = false;
+    }
+    if (error && __atomic_compare_exchange_n(word, &none, SHFL_LIBC, false, __ATOMIC_SEQ_CST, __ATOMIC_SEQ_CST)) return false;
+    if (__atomic_load_n(word, __ATOMIC_ACQUIRE) == SHFL_LIBC) return false;
+    sit();
+    return true;
+}
+
+/* Goes on where a thread that has to queue found no memory. */
+SHFL_COLD int shfl_take_at_last(uint32_t *word, bool shared, int error) {
+    while (error == ENOMEM) {
+        nap();
+        error = shfl_take(word, shared);
+    }
+    return error;
+}
+
+int shfl_take_until_at_last(uint32_t *word, bool shared, clockid_t clock, const struct timespec *deadline) {
+    if (!shfl_is_clock(clock)) return EINVAL;
+    int error = shfl_take_until(word, shared, clock, deadline);
+    while (error == ENOMEM) {
+        if (!shfl_is_time(deadline)) return EINVAL;
+        struct timespec now;
+        clock_gettime(clock, &now);
+        if (now.tv_sec > deadline->tv_sec || (now.tv_sec == deadline->tv_sec && now.tv_nsec >= deadline->tv_nsec)) return ETIMEDOUT;
+        nap();
+        error = shfl_take_until(word, shared, clock, deadline);
+    }
+    return error;
+}

@@ -1,0 +1,96 @@
+#!/usr/bin/env bash
+# libshfl as its document says: installed into an empty prefix, docs/LIBSHFL.md's program built by pkg-config's words alone, against the shared
+# library and the static one; each call and each error (tests/libshfl/posix.c), exact counts under 16 and 64 threads (storm.c), what
+# shfl_stat counts (counts.c), the C++ classes (locks.cpp), the checked build's messages, and no visible name but those that begin with shfl_.
+# The preload library under programs that know pthread alone (pthreads.c, conditions.c, standard.cpp), which are first run with libc's own
+# locks, in an arena that is too small, in one that can't be, and with a malloc that takes a mutex (heap.c). Under valgrind where it is there, and with
+# gcc's address and undefined-behaviour checks. An argument is how many rounds each thread of a storm makes. Where there is no C compiler it
+# says so, and passes.
+set -u
+top="$(cd "$(dirname "$(readlink -f "${BASH_SOURCE[0]}")")/.." && pwd)"
+rounds="${1:-2000}"
+cc="${CC:-cc}"
+command -v "$cc" >/dev/null || { echo "tests/libshfl.sh: no C compiler is there, so nothing was built"; exit 0; }
+room="$(mktemp -d)"
+trap 'rm -rf "$room"' EXIT
+failed=0
+complain() { echo "tests/libshfl.sh: $*" >&2; failed=1; }
+run() {
+    local what="$1"
+    shift
+    if timeout 300 "$@" >"$room/got" 2>&1; then sed "s,^,tests/libshfl.sh: $what: ," "$room/got"; else complain "$what, status $?: $(tail -n 20 "$room/got")"; fi
+}
+
+for kind in "" checked; do
+    CHECKED="$kind" "$top/libshfl/install" "$room/prefix$kind" >"$room/got" 2>&1 || { complain "install: $(tail -n 20 "$room/got")"; exit 1; }
+done
+export PKG_CONFIG_PATH="$room/prefix/lib/pkgconfig" LD_LIBRARY_PATH="$room/prefix/lib"
+read -ra words <<<"$(pkg-config --cflags --libs shfl 2>/dev/null || echo "-I$room/prefix/include -L$room/prefix/lib -lshfl -pthread")"
+[ -z "$(nm -D --defined-only "$room/prefix/lib/libshfl.so.1" | awk '$2 != "A" && $3 !~ /^shfl_/')" ] || complain "libshfl.so.1 shows other names"
+[ -z "$(nm -g --defined-only "$room/prefix/lib/libshfl.a" | awk 'NF == 3 && $3 !~ /^shfl_/')" ] || complain "libshfl.a shows other names"
+
+# the document's program, shared and static
+awk '/^```c/ { code = 1; next } /^```/ { code = 0 } code' "$top/docs/LIBSHFL.md" >"$room/program.c"
+"$cc" -Wall -Wextra -Werror "$room/program.c" "${words[@]}" -o "$room/program" || exit 1
+[ "$("$room/program")" = 400000 ] || complain "the document's program"
+"$cc" -I "$room/prefix/include" "$room/program.c" "$room/prefix/lib/libshfl.a" -lpthread -o "$room/static" || exit 1
+[ "$("$room/static")" = 400000 ] || complain "the document's program, static"
+
+for name in posix storm counts; do
+    "$cc" -std=gnu11 -O2 -g -Wall -Wextra -Werror "$top/tests/libshfl/$name.c" "${words[@]}" -o "$room/$name" || exit 1
+done
+run "calls" "$room/posix"
+run "counts" "$room/counts"
+run "storm" "$room/storm" 16 "$rounds" 120
+run "storm" "$room/storm" 64 "$((rounds / 4))" 120
+run "storm in a small arena" env SHFL_LOCKS=8 SHFL_THREADS=66 "$room/storm" 64 100 120
+if command -v c++ >/dev/null; then
+    c++ -std=c++17 -O2 -g -Wall -Wextra -Werror "$top/tests/libshfl/locks.cpp" "${words[@]}" -o "$room/locks" && run "C++" "$room/locks" || failed=1
+fi
+
+# an arena that is too small, and one that can't be
+"$cc" -std=gnu11 -O2 -Wall -Wextra -Werror "$top/tests/libshfl/room.c" "${words[@]}" -o "$room/room" || exit 1
+run "room" env SHFL_LOCKS=3 SHFL_THREADS=2 "$room/room" full
+run "room" env SHFL_LOCKS=0 "$room/room" refused
+run "room" env SHFL_THREADS=65535 "$room/room" refused
+
+# unmodified programs, by themselves and under the preload library
+shown="$(nm -D --defined-only "$room/prefix/lib/libshfl_preload.so" | awk '$3 !~ /^(__)?pthread_(mutex|rwlock|cond)_/')"
+[ -z "$shown" ] || complain "libshfl_preload.so shows other names: $shown"
+nm -D --undefined-only "$room/prefix/lib/libshfl_preload.so" | grep -E 'pthread_(mutex|rwlock|cond)_|alloc' && complain "libshfl_preload.so calls libc's locks or heap"
+for name in pthreads conditions; do "$cc" -std=gnu11 -O2 -g -Wall -Wextra -Werror "$top/tests/libshfl/$name.c" -pthread -o "$room/$name" || exit 1; done
+"$cc" -std=gnu11 -O2 -fno-builtin -Wall -Wextra -Werror -shared -fPIC "$top/tests/libshfl/heap.c" -pthread -o "$room/heap.so" || exit 1
+preload="$room/prefix/lib/libshfl_preload.so"
+run "libc's locks" "$room/pthreads"
+run "libc's condition variables" "$room/conditions" "$((rounds / 8))"
+run "preloaded locks" env LD_PRELOAD="$preload" "$room/pthreads" preloaded
+run "preloaded condition variables" env LD_PRELOAD="$preload" "$room/conditions" "$((rounds / 8))" preloaded
+run "preloaded with a malloc that takes a mutex" env LD_PRELOAD="$room/heap.so:$preload" "$room/pthreads" preloaded
+if command -v c++ >/dev/null; then
+    c++ -std=c++17 -O2 -Wall -Wextra -Werror "$top/tests/libshfl/standard.cpp" -pthread -o "$room/standard" && run "libc's locks in C++" "$room/standard" &&
+        run "preloaded C++" env LD_PRELOAD="$preload" "$room/standard" || failed=1
+fi
+for locks in 8 0; do run "preloaded with $locks locks" env SHFL_LOCKS="$locks" LD_PRELOAD="$preload" "$room/pthreads"; done
+run "preloaded with four seats" env SHFL_THREADS=4 LD_PRELOAD="$preload" "$room/pthreads" preloaded
+
+# misuse ends a program of the checked build with a message
+"$cc" -std=gnu11 -O2 -Wall -Wextra -Werror "$top/tests/libshfl/misuse.c" "${words[@]}" -o "$room/misuse" || exit 1
+for what in unlocks twice destroys ends; do
+    { LD_LIBRARY_PATH="$room/prefixchecked/lib" "$room/misuse" "$what" >"$room/got" 2>&1; } 2>/dev/null
+    [ $? -eq 134 ] && grep -q '^libshfl: .*0x' "$room/got" || complain "misuse, $what: $(cat "$room/got")"
+    "$room/misuse" "$what" >/dev/null 2>&1 || complain "misuse outside the checked build, $what"
+done
+
+if command -v valgrind >/dev/null; then
+    run "valgrind on the calls" valgrind -q --error-exitcode=9 --fair-sched=yes "$room/posix"
+    run "valgrind on a storm" valgrind -q --error-exitcode=9 --fair-sched=yes "$room/storm" 4 50 250
+fi
+CFLAGS="-O1 -g -fsanitize=address,undefined" "$top/libshfl/install" "$room/prefixsan" >"$room/got" 2>&1 || complain "install with checks: $(tail -n 5 "$room/got")"
+for name in posix storm counts; do
+    "$cc" -std=gnu11 -O1 -g -fsanitize=address,undefined -I "$room/prefixsan/include" "$top/tests/libshfl/$name.c" -L "$room/prefixsan/lib" \
+        -lshfl -pthread -o "$room/$name.san" || exit 1
+done
+run "checked by gcc" env LD_LIBRARY_PATH="$room/prefixsan/lib" "$room/posix.san"
+run "checked by gcc" env LD_LIBRARY_PATH="$room/prefixsan/lib" "$room/counts.san"
+run "checked by gcc" env LD_LIBRARY_PATH="$room/prefixsan/lib" "$room/storm.san" 16 "$((rounds / 4))" 120
+exit "$failed"

@@ -1,0 +1,30 @@
+/* What the tests of pthread's calls share: a call's answer, and times. */
+#ifndef ANSWERS_H
+#define ANSWERS_H
+#include <stdio.h>
+#include <stdlib.h>
+#include <string.h>
+#include <time.h>
+
+#define IS(call, wanted) is(#call, __FILE__, __LINE__, (call), (wanted))
+static inline void is(const char *call, const char *file, int line, int told, int wanted) {
+    if (told == wanted) return;
+    fprintf(stderr, "%s, line %d: %s is %d (%s), not %d\n", file, line, call, told, strerror(told), wanted);
+    exit(1);
+}
+
+static inline double now(clockid_t clock) {
+    struct timespec t;
+    clock_gettime(clock, &t);
+    return (double)t.tv_sec + (double)t.tv_nsec / 1e9;
+}
+
+static inline struct timespec in_ms(clockid_t clock, long ms) {
+    struct timespec t;
+    clock_gettime(clock, &t);
+    t.tv_nsec += ms * 1000000;
+    t.tv_sec += t.tv_nsec / 1000000000;
+    t.tv_nsec %= 1000000000;
+    return t;
+}
+#endif

@@ -1,0 +1,61 @@
+/* What a process is answered whose arena has three locks and two seats (full), or can't be opened (refused). */
+#include <errno.h>
+#include <libshfl.h>
+#include <pthread.h>
+#include <stdio.h>
+#include <string.h>
+
+static shfl_mutex_t locks[4];
+static pthread_barrier_t both;
+
+static void *takes(void *told) {
+    *(int *)told = shfl_mutex_lock(&locks[3]);
+    if (*(int *)told == 0) shfl_mutex_unlock(&locks[3]);
+    return NULL;
+}
+
+static void *stays(void *told) {
+    takes(told);
+    pthread_barrier_wait(&both);
+    pthread_barrier_wait(&both);
+    return NULL;
+}
+
+static int beside(void *(*run)(void *)) {
+    pthread_t thread;
+    int told = -1;
+    pthread_create(&thread, NULL, run, &told);
+    pthread_join(thread, NULL);
+    return told;
+}
+
+static int full(void) {
+    int told = -1;
+    pthread_t thread;
+    for (int k = 0; k < 3; k++)
+        if (shfl_mutex_lock(&locks[k]) || shfl_mutex_unlock(&locks[k])) return 2;
+    if (shfl_mutex_lock(&locks[3]) != EAGAIN) return 3;
+    if (shfl_mutex_destroy(&locks[0]) || shfl_mutex_lock(&locks[3]) || shfl_mutex_unlock(&locks[3])) return 4;
+    if (shfl_mutex_lock(&locks[0]) != EAGAIN) return 5;
+    for (int k = 0; k < 100; k++)
+        if (beside(takes)) return 6; /* each gives its seat back */
+    pthread_barrier_init(&both, NULL, 2);
+    pthread_create(&thread, NULL, stays, &told);
+    pthread_barrier_wait(&both);
+    int third = beside(takes);
+    pthread_barrier_wait(&both);
+    pthread_join(thread, NULL);
+    if (told != 0 || third != EAGAIN) return 7;
+    return beside(takes) ? 8 : 0;
+}
+
+int main(int count, char **words) {
+    int told;
+    if (count > 1 && strcmp(words[1], "full") == 0) {
+        told = full();
+    } else {
+        told = shfl_mutex_lock(&locks[0]) != EINVAL || shfl_class_policy(0, 1, NULL, 0, NULL, 0, NULL) != EINVAL || shfl_thread_attr(0, 0, 0) != EINVAL;
+    }
+    puts(told ? "another answer" : "locks and threads without room are refused");
+    return told;
+}
