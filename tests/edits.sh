@@ -5,7 +5,7 @@
 set -u
 top="$(cd "$(dirname "$(readlink -f "${BASH_SOURCE[0]}")")/.." && pwd)"
 names=("$@")
-[ "${#names[@]}" -gt 0 ] || for folder in "$top"/crates/*/more-edits; do names+=("$(basename "$(dirname "$folder")")"); done
+[ "${#names[@]}" -gt 0 ] || mapfile -t names < <(cd "$top/crates" && printf '%s\n' */must-fail */more-edits | cut -d / -f 1 | sort -u)
 room="$(mktemp -d)"
 trap 'rm -rf "$room"' EXIT
 python3 -B "$top/bin/crates.py" "$room/copy" "${names[@]}" || exit 2
