@@ -78,7 +78,10 @@ static void open_all_by(int form, uint16_t limit) {
     uint64_t attrs[PASSES];
     for (int k = 0; k < PASSES; k++) attrs[k] = shfl_attr(sockets[k], 0, 0, 0);
     if (!shfl_open(attrs, PASSES, (uint8_t)form, limit, passes, PASSES)) exit(2);
-    for (int k = 0; k < PASSES; k++) vain[k] = 0, ready_at[k] = 0;
+    for (int k = 0; k < PASSES; k++) {
+        vain[k] = 0;
+        ready_at[k] = 0;
+    }
     head_vain = alone = 0;
 }
 
