@@ -1,5 +1,5 @@
 /* Mutexes, and locks for readers and writers: the names of locking.c's calls. */
-#include "inside.h"
+#include "locking.h"
 
 static int init(uint32_t *number, uint32_t *its, unsigned class_of) {
     if (class_of >= SHFL_CLASSES) return EINVAL;

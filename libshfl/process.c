@@ -84,7 +84,7 @@ static void in_child(void) {
         struct shfl_parking *parking = shfl_parking_of(shfl_number_at(k));
         parking->head_asleep = parking->outside = parking->inside = parking->queued = parking->promoted = 0;
         parking->stale = me && shfl_seat_hold(&me->seat, shfl_number_at(k)) != 0;
-        if (parking->stale) shfl_process.has_stale = 1;
+        if (parking->stale) me->stale = 1;
     }
     seated = me != NULL;
     after_fork();
