@@ -58,12 +58,14 @@ run "room" env SHFL_THREADS=65535 "$room/room" refused
 shown="$(nm -D --defined-only "$room/prefix/lib/libshfl_preload.so" | awk '$3 !~ /^(__)?pthread_(mutex|rwlock|cond)_/')"
 [ -z "$shown" ] || complain "libshfl_preload.so shows other names: $shown"
 nm -D --undefined-only "$room/prefix/lib/libshfl_preload.so" | grep -E 'pthread_(mutex|rwlock|cond)_|alloc' && complain "libshfl_preload.so calls libc's locks or heap"
-for name in pthreads conditions; do "$cc" -std=gnu11 -O2 -g -Wall -Wextra -Werror "$top/tests/libshfl/$name.c" -pthread -o "$room/$name" || exit 1; done
+for name in pthreads conditions errors; do "$cc" -std=gnu11 -O2 -g -Wall -Wextra -Werror "$top/tests/libshfl/$name.c" -pthread -o "$room/$name" || exit 1; done
 "$cc" -std=gnu11 -O2 -fno-builtin -Wall -Wextra -Werror -shared -fPIC "$top/tests/libshfl/heap.c" -pthread -o "$room/heap.so" || exit 1
 preload="$room/prefix/lib/libshfl_preload.so"
 run "libc's locks" "$room/pthreads"
+run "libc's errors" "$room/errors"
 run "libc's condition variables" "$room/conditions" "$((rounds / 8))"
 run "preloaded locks" env LD_PRELOAD="$preload" "$room/pthreads" preloaded
+run "preloaded errors" env LD_PRELOAD="$preload" "$room/errors" preloaded
 run "preloaded condition variables" env LD_PRELOAD="$preload" "$room/conditions" "$((rounds / 8))" preloaded
 run "preloaded with a malloc that takes a mutex" env LD_PRELOAD="$room/heap.so:$preload" "$room/pthreads" preloaded
 if command -v c++ >/dev/null; then
