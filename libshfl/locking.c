@@ -2,6 +2,7 @@
  * a seat takes no lock that it holds, gives none back that it doesn't, and that a writer holds alone (crates/shfl_seats). */
 #include <stdlib.h>
 #include "locking.h"
+#include "races.h"
 
 /* A place for one more lock that this thread takes again. */
 static struct shfl_again *room_for_again(struct shfl_thread *me) {
@@ -150,6 +151,7 @@ int shfl_end(uint32_t *word) {
     uint32_t number = __atomic_exchange_n(word, 0, __ATOMIC_SEQ_CST);
     shfl_seat_release(&shfl_me->seat, number - 1);
     shfl_given(shfl_me, word);
+    shfl_races_ended(word);
     shfl_take_number_back(number - 1);
     return 0;
 }
