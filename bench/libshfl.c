@@ -1,0 +1,157 @@
+/* libshfl's locks beside pthread's, in one process. Words:
+ *   free                                the best and the median of 300 short runs of a lock and unlock with nobody else there, in nanoseconds, each
+ *                                       lock in turn; the process has another thread, which sleeps
+ *   crowd LOCK THREADS HOLD THINK MS    threads that take one lock again and again: holds a second, Jain's index of the threads' holds, the longest
+ *                                       wait in milliseconds, and the processors used. HOLD and THINK are nanoseconds, by turns of a loop that is
+ *                                       timed first
+ * LOCK is shfl, shfl-read, mutex or rwlock-read. Status 1: two were in the section that may not be. */
+#define _GNU_SOURCE
+#include <libshfl.h>
+#include <pthread.h>
+#include <stdbool.h>
+#include <stdio.h>
+#include <stdlib.h>
+#include <string.h>
+#include <sys/resource.h>
+
+enum { LINE = 128, MOST_THREADS = 64, RUNS = 300, ROUNDS = 10000 };
+static _Alignas(LINE) shfl_mutex_t ours;
+static _Alignas(LINE) shfl_rwlock_t ours_shared;
+static _Alignas(LINE) pthread_mutex_t mutex = PTHREAD_MUTEX_INITIALIZER;
+static _Alignas(LINE) pthread_rwlock_t rwlock = PTHREAD_RWLOCK_INITIALIZER;
+
+enum kind { SHFL, SHFL_READ, MUTEX, RWLOCK_READ, KINDS };
+static const char *const names[KINDS] = {"shfl", "shfl-read", "mutex", "rwlock-read"};
+
+static uint64_t now(void) {
+    struct timespec t;
+    clock_gettime(CLOCK_MONOTONIC, &t);
+    return (uint64_t)t.tv_sec * 1000000000 + (uint64_t)t.tv_nsec;
+}
+
+static inline void take(enum kind kind) {
+    if (kind == SHFL) shfl_mutex_lock(&ours);
+    else if (kind == SHFL_READ) shfl_rwlock_rdlock(&ours_shared);
+    else if (kind == MUTEX) pthread_mutex_lock(&mutex);
+    else pthread_rwlock_rdlock(&rwlock);
+}
+
+static inline void give(enum kind kind) {
+    if (kind == SHFL) shfl_mutex_unlock(&ours);
+    else if (kind == SHFL_READ) shfl_rwlock_unlock(&ours_shared);
+    else if (kind == MUTEX) pthread_mutex_unlock(&mutex);
+    else pthread_rwlock_unlock(&rwlock);
+}
+
+static inline void turns(uint64_t count) {
+    for (; count > 0; count--) __asm__ volatile("");
+}
+
+static double per_pair(enum kind kind) {
+    uint64_t began = now();
+    for (int k = 0; k < ROUNDS; k++) take(kind), give(kind);
+    return (double)(now() - began) / ROUNDS;
+}
+
+static int by_size(const void *a, const void *b) {
+    double x = *(const double *)a, y = *(const double *)b;
+    return (x > y) - (x < y);
+}
+
+static void *sleeps(void *until) {
+    pthread_mutex_lock(until);
+    pthread_mutex_unlock(until);
+    return NULL;
+}
+
+static int alone(void) {
+    static pthread_mutex_t until = PTHREAD_MUTEX_INITIALIZER;
+    static double took[KINDS][RUNS];
+    pthread_t other;
+    pthread_mutex_lock(&until);
+    if (pthread_create(&other, NULL, sleeps, &until)) return 2;
+    for (int run = 0; run < RUNS; run++)
+        for (enum kind kind = 0; kind < KINDS; kind++) took[kind][run] = per_pair(kind);
+    pthread_mutex_unlock(&until);
+    pthread_join(other, NULL);
+    for (enum kind kind = 0; kind < KINDS; kind++) {
+        qsort(took[kind], RUNS, sizeof took[kind][0], by_size);
+        printf("%s %.1f %.1f\n", names[kind], took[kind][0], took[kind][RUNS / 2]);
+    }
+    return 0;
+}
+
+struct worker { pthread_t thread; uint64_t holds, longest; double processor; char apart[LINE]; };
+static struct worker workers[MOST_THREADS];
+static enum kind crowded;
+static uint64_t hold, think;
+static _Alignas(LINE) int going;
+static _Alignas(LINE) volatile uint64_t begun, ended;
+static bool torn;
+
+static void *work(void *at) {
+    struct worker *own = at;
+    while (__atomic_load_n(&going, __ATOMIC_ACQUIRE) == 0) {}
+    while (__atomic_load_n(&going, __ATOMIC_RELAXED) == 1) {
+        uint64_t came = now();
+        take(crowded);
+        uint64_t waited = now() - came, seen = begun;
+        if (seen != ended) torn = true;
+        bool writes = crowded == SHFL || crowded == MUTEX;
+        begun = seen + writes;
+        turns(hold);
+        if (begun != seen + writes) torn = true;
+        ended = seen + writes;
+        give(crowded);
+        own->holds++;
+        if (waited > own->longest) own->longest = waited;
+        turns(think);
+    }
+    struct rusage used;
+    getrusage(RUSAGE_THREAD, &used);
+    own->processor = (double)(used.ru_utime.tv_sec + used.ru_stime.tv_sec) + (double)(used.ru_utime.tv_usec + used.ru_stime.tv_usec) * 1e-6;
+    return NULL;
+}
+
+/* How many turns take so long. */
+static uint64_t turns_in(uint64_t ns) {
+    double best = 1e9;
+    for (int run = 0; run < 50; run++) {
+        uint64_t began = now();
+        turns(20000);
+        double took = (double)(now() - began) / 20000;
+        if (took < best) best = took;
+    }
+    return (uint64_t)((double)ns / best);
+}
+
+static int crowd(int count, uint64_t ms) {
+    double all = 0, squares = 0, processor = 0;
+    uint64_t longest = 0;
+    for (int k = 0; k < count; k++)
+        if (pthread_create(&workers[k].thread, NULL, work, &workers[k])) return 2;
+    uint64_t began = now();
+    __atomic_store_n(&going, 1, __ATOMIC_RELEASE);
+    nanosleep(&(struct timespec){(time_t)(ms / 1000), (long)(ms % 1000 * 1000000)}, NULL);
+    __atomic_store_n(&going, 2, __ATOMIC_RELEASE);
+    double took = (double)(now() - began) * 1e-9;
+    for (int k = 0; k < count; k++) {
+        pthread_join(workers[k].thread, NULL);
+        double holds = (double)workers[k].holds;
+        all += holds, squares += holds * holds, processor += workers[k].processor;
+        if (workers[k].longest > longest) longest = workers[k].longest;
+    }
+    printf("%.0f %.3f %.3f %.2f\n", all / took, squares > 0 ? all * all / (count * squares) : 0, (double)longest * 1e-6, processor / took);
+    return torn;
+}
+
+int main(int n, char **word) {
+    if (n == 2 && strcmp(word[1], "free") == 0) return alone();
+    if (n != 7 || strcmp(word[1], "crowd") != 0) return 2;
+    for (crowded = 0; crowded < KINDS && strcmp(names[crowded], word[2]) != 0; crowded++) {}
+    int count = atoi(word[3]);
+    if (crowded == KINDS || count < 1 || count > MOST_THREADS) return 2;
+    hold = turns_in(strtoull(word[4], NULL, 10));
+    think = turns_in(strtoull(word[5], NULL, 10));
+    return crowd(count, strtoull(word[6], NULL, 10));
+}
