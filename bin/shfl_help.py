@@ -44,6 +44,13 @@ waited for longest. The text ends after N events, 200,000 where nothing is said.
 While it is recorded the lock is slower. Where events are missing, it says so.
 
 """ + SELECTOR),
+    "compare": ("compare PID CLASS FILE [skip] [--profile 2] [--seconds N] [--rounds R]\n             [--json] [--html FILE]",
+                "a class without the policy and with it, in turns",
+            """Off, on, off, on: N seconds each (5), R times (2). Tells the holds a second and
+the waits of each, and says `no difference seen` of what overlaps. At the end
+the class has the policy that it had before. --html writes a page.
+
+""" + FILE),
 }
 
 

@@ -120,19 +120,63 @@ def ends_by_itself():
     must(" 2 " in refused("events", number, "0"), "it can be read still")
 
 
+def compares():
+    """A policy that always says no, at a lock that is taken so often by the clock; before it the class has another policy, which it has again."""
+    with open(f"{room}/no.hex", "w", encoding="ascii") as file:
+        file.write(NO)
+    shfl("attach", pid, "9", f"{TOP}/examples/policies/socket.hex")
+    before = ask(pid, "policy", "9")
+    told = json.loads(shfl("compare", pid, "9", f"{room}/no.hex", "--seconds", "1", "--rounds", "3", "--html", f"{room}/page.html", "--json"))
+    must([it["policy"] for it in told["turns"]] == ["off", "on"] * 3 and all(it["taken"] > 0 for it in told["turns"]), f"the turns: {told}")
+    must(told["verdict"] == "no difference seen", f"a difference where there is none: {told}")
+    must(ask(pid, "policy", "9") == before and before[0].split()[2] != "-", "the class doesn't have its policy again")
+    shfl("detach", pid, "9")
+    must("no difference seen" in shfl("compare", pid, "9", f"{room}/no.hex", "--seconds", "0.3", "--rounds", "2"), "the table")
+    must(ask(pid, "policy", "9") == ["profile 1 - -"], "the class has a policy")
+    with open(f"{room}/page.html", encoding="utf-8") as file:
+        page = file.read()
+    must(page.count("<svg") == 2 and page.count("http") == 2 and "<script" not in page and page.count('class="bar on"') == 9, "the page")
+    verdict = runpy.run_path(f"{TOP}/bin/shfl_compare.py")["verdict_of"]
+    for off, on, wanted in (((100, 101), (90, 91), "less with the policy"), ((100, 101), (120, 121), "more with the policy"),
+                            ((100, 110), (105, 115), "no difference seen"), ((100, 110), (112, 115), "no difference seen"), ((100, 101), (101.5, 102), "no difference seen")):
+        found = [{"policy": word, "throughput": it, "waits": 0} for word, both in (("off", off), ("on", on)) for it in both]
+        must(verdict(found, "throughput") == wanted, f"{off} and {on}: {verdict(found, 'throughput')}")
+
+
+def is_put_back():
+    """Who is ended in the middle leaves no policy behind; somebody else's stays."""
+    for word, other in ((signal.SIGINT, None), (signal.SIGTERM, None), (None, "7")):
+        client = subprocess.Popen([sys.executable, "-B", f"{TOP}/bin/shfl", "compare", pid, "9", f"{room}/no.hex", "--seconds", "1"],
+                                  stdout=subprocess.DEVNULL, stderr=subprocess.DEVNULL)
+        until = time.monotonic() + 60
+        while ask(pid, "policy", "9") == ["profile 1 - -"]:
+            must(time.monotonic() < until, "it doesn't begin")
+            time.sleep(0.01)
+        if other:
+            ask(pid, "attach", "9", "1", "-", NO)
+        else:
+            client.send_signal(word)
+        status = client.wait(60)
+        must(status == 1, f"compare, ended: {status}")
+        must(ask(pid, "policy", "9") == [f"profile 1 - {NO}" if other else "profile 1 - -"], "what stands behind it")
+
+
 def helps():
     for word in tool["COMMANDS"]:
         must(shfl(word, "--help").startswith(f"shfl {word}"), f"help of {word}")
-    for words in ((), ("none",), ("record", pid), ("record", pid, "x", "601"), ("stat",)):
+    must("compare PID" in shfl("--help"), "help")
+    for words in ((), ("none",), ("record", pid), ("record", pid, "x", "601"), ("compare", pid, "9"), ("compare", pid, "64", "x"), ("stat",)):
         shfl(*words, status=2)
     shfl("record", pid, "nobody", "1", status=1)
+    shfl("compare", pid, "9", f"{room}/none.hex", status=3)
+    shfl("compare", pid, "9", f"{TOP}/examples/loop.hex", status=6)
     shfl("stat", "1", status=3)
 
 
 starts()
 waits()
 found = records()
-for step in (ends_by_itself, helps):
+for step in (ends_by_itself, compares, is_put_back, helps):
     step()
 target.stdin.write("\n")
 target.stdin.flush()
