@@ -16,6 +16,7 @@
 #include <sys/stat.h>
 #include <sys/un.h>
 #include "control.h"
+#include "record.h"
 
 /* So many clients at a time, each for so many nanoseconds. */
 #define CLIENTS 8
@@ -117,8 +118,8 @@ static void tell(struct client *client) {
 
 /* One look at all sockets, for as long as no client's time is over. */
 static void look(struct client *clients, struct pollfd *at) {
-    int free_places = 0, wait = -1;
     uint64_t now = shfl_clock();
+    int free_places = 0, wait = shfl_record_left(now);
     for (int k = 0; k < CLIENTS; k++) {
         struct client *client = &clients[k];
         if (client->socket >= 0 && now >= client->until) drop(client);
@@ -185,6 +186,7 @@ SHFL_COLD void shfl_control(void) {
 void shfl_control_forked(void) {
     if (listening >= 0) close(listening);
     listening = -1;
+    shfl_record_forked();
 }
 
 __attribute__((destructor)) static void end_socket(void) {

@@ -62,11 +62,13 @@ SHFL_COLD int shfl_take_first(uint32_t *word, bool shared) {
     return error ? error : shfl_take(word, shared);
 }
 
-int shfl_take_after(struct shfl_thread *me, uint32_t *word, uint32_t lock, bool shared, uint8_t answer) {
+int shfl_take_after(struct shfl_thread *me, uint32_t *word, uint32_t lock, bool shared, uint8_t answer, const void *caller) {
     if (answer != SHFL_BUSY) return other_answer(me, word, lock, shared, answer, EDEADLK);
     if (shared) shfl_ring(&shfl_parking_of(lock)->head_asleep);
+    if (!caller) return EBUSY;
     uint64_t since = shfl_clock();
     shfl_count_contended(me, lock);
+    shfl_begins_to_wait(me, lock, shared, caller);
     int error = shfl_wait(me, lock, shared);
     shfl_count_waited(me, lock, since);
     if (error) return error;
@@ -108,8 +110,10 @@ int shfl_take_until(uint32_t *word, bool shared, clockid_t clock, const struct t
         if (clock != CLOCK_MONOTONIC && clock != CLOCK_REALTIME) return EINVAL;
         uint64_t since = shfl_clock();
         shfl_count_contended(me, lock);
+        shfl_begins_to_wait(me, lock, shared, SHFL_CALLER(me));
         error = shfl_wait_until(me, lock, shared, clock, deadline);
         shfl_count_waited(me, lock, since);
+        if (error) shfl_happens(me, lock, SHFL_GIVES_UP);
         if (error) return error;
     } else if (answer != SHFL_DONE) {
         return other_answer(me, word, lock, shared, answer, EDEADLK);
@@ -131,11 +135,12 @@ static SHFL_COLD bool leave_number(struct shfl_thread *me, uint32_t *word, uint3
 
 SHFL_COLD int shfl_not_given_back(uint32_t *word) { return shfl_refuse(EPERM, word, "a thread gives a lock back that it doesn't have"); }
 
-/* A lock that was taken again, or one that is stale; or another one of a thread that has such a lock. */
+/* A lock that was taken again, or one that is stale or recorded; or another one of a thread that has such a lock. */
 int shfl_give_back_other(struct shfl_thread *me, uint32_t *word, uint32_t number) {
     uint32_t lock = number - 1;
     if (me->again_count > 0 && give_again(me, lock)) return 0;
     if (me->stale && lock < shfl_process.lock_count && leave_number(me, word, lock)) return 0;
+    shfl_happens(me, lock, SHFL_FREES);
     if (shfl_seat_release(&me->seat, lock) != SHFL_DONE) return shfl_not_given_back(word);
     shfl_given(me, word);
     shfl_wake_next(me, shfl_parking_of(lock));
