@@ -15,11 +15,13 @@ static void follow(struct shfl_thread *me, struct shfl_class *its) {
     shfl_store(&me->follows, done ? which : 0);
 }
 
-/* The first question of a round is whether to skip it: the whole round goes by one version. */
+/* The first question of a round is whether to skip it: the whole round goes by one version, or by none where the class has none then. */
 bool shfl_answer(struct shfl_thread *me, uint32_t lock, struct shfl_class *its) {
     struct shfl_ask ask = shfl_seat_ask(&me->seat);
     if (ask.kind == SHFL_ASK_NOTHING) return false;
-    if (ask.kind == SHFL_ASK_SKIP) follow(me, its);
+    if (ask.kind == SHFL_ASK_SKIP && shfl_load(&its->attached)) follow(me, its);
+    else if (ask.kind == SHFL_ASK_SKIP) __atomic_store_n(&me->in_round, 0, __ATOMIC_RELEASE);
+    if (me->in_round == 0) return false;
     bool yes = shfl_seat_answer(&me->seat);
     struct shfl_stat *counts = shfl_counts_of(me, lock);
     shfl_more(&counts->questions, 1);
