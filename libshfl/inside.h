@@ -194,9 +194,12 @@ void shfl_wake_next(struct shfl_thread *me, struct shfl_parking *parking);
 /* class.c: what the class's policy answers to what the next step asks. */
 bool shfl_answer(struct shfl_thread *me, uint32_t lock, struct shfl_class *its);
 
-/* control.c: begins to listen where the environment asks for it, once a process; and in the child of a fork ends to. */
+/* control.c: begins to listen where the environment asks for it, once a process; and in the child of a fork ends to. Between stop and go_on
+ * no descriptor of it comes or goes. */
 void shfl_control(void);
 void shfl_control_forked(void);
+void shfl_control_stop(void);
+void shfl_control_go_on(void);
 
 /* locking.c: what mutexes and locks for readers and writers have in common. */
 int shfl_take(uint32_t *word, bool shared);
