@@ -1,12 +1,12 @@
 """What bin/shfl asks a process at its control socket, and where the addresses of a process lie."""
-import os, re, socket, struct
+import os, re, socket, struct, time
 
 COUNTS = ("taken", "contended", "queued", "waited_ns", "longest_ns", "within", "across", "questions", "yes", "skipped")
 # what docs/ERRORS.md says of the faults of programs
 FAULTS = {
     1: "no bytes", 2: "a length that isn't a multiple of 8", 3: "more than 4,096 bytes",
     4: "an opcode that the profile doesn't have (a call, an atomic, a store or the stack among them)", 5: "a register above 9",
-    6: "a field that must be 0", 7: "half of a wide load", 8: "a jump that doesn't lead forward (a loop)",
+    6: "a field that must be 0", 7: "half of a wide load, at the end or as a jump's target", 8: "a jump that doesn't lead forward (a loop)",
     9: "a way that leaves the program", 10: "a register is read that has no value on some way",
     11: "the context's pointer is used as a number",
     12: "a load outside the forty bytes, not aligned to its size, or whose base is a number"}
@@ -28,24 +28,54 @@ def directory():
     return room
 
 
+def connected(place):
+    """(A timeout of Python's own would refuse to stand in line where many ask.)"""
+    at = socket.socket(socket.AF_UNIX, socket.SOCK_STREAM)
+    for it in (socket.SO_SNDTIMEO, socket.SO_RCVTIMEO):
+        at.setsockopt(socket.SOL_SOCKET, it, struct.pack("@ll", 10, 0))
+    try:
+        at.connect(place)
+    except OSError:
+        at.close()
+        raise
+    return at
+
+
 def answer(place, request):
     """What a process answers; a request that it dropped unread, since its time was over, is sent again."""
-    for last in (False, False, True):
+    until = time.monotonic() + 10
+    while True:
         text = b""
         try:
-            with socket.socket(socket.AF_UNIX, socket.SOCK_STREAM) as at:
-                at.settimeout(10)
-                at.connect(place)
+            with connected(place) as at:
                 at.sendall(request)
                 while not re.search(rb"\A(error|refused) .*\n|^end\n", text, re.M):
                     came = at.recv(65536)
                     if not came:
-                        raise OSError("it broke off")
+                        raise ConnectionResetError(None, "it broke off")
                     text += came
             return text
+        except BlockingIOError:
+            raise OSError(None, "no answer in 10 seconds") from None
         except (BrokenPipeError, ConnectionResetError):
-            if last or text:
+            if text or time.monotonic() > until:
                 raise
+        time.sleep(0.05)
+
+
+def sweep(age=60):
+    """Takes away the sockets that processes left which were killed or became another program."""
+    room = directory()
+    for name in os.listdir(room):
+        place = f"{room}/{name}"
+        try:
+            # (one that is new may be about to listen)
+            if re.fullmatch(r"shfl-[0-9]+", name) and time.time() - os.lstat(place).st_mtime >= age:
+                connected(place).close()
+        except ConnectionRefusedError:
+            os.unlink(place)
+        except OSError:
+            pass
 
 
 def ask(pid, *words):
@@ -98,7 +128,7 @@ class Places:
     """Where addresses of a process lie: the file and the symbol, as far as they can be known."""
 
     def __init__(self, pid):
-        self.maps, self.tables = [], {}
+        self.maps, self.tables, self.extents = [], {}, {}
         try:
             with open(f"/proc/{pid}/maps", encoding="utf-8", errors="replace") as lines:
                 for line in lines:
@@ -112,17 +142,28 @@ class Places:
         """The file's name and what is shown."""
         base, last = {}, ""
         for low, high, offset, name in self.maps:
-            # (the zeroed data of a file follow it without a name)
-            name = name or last
             if name.startswith("/"):
                 base.setdefault(name, low - offset)
+                last = name
             if low <= address < high:
+                # (the zeroed data of a file follow it without a name, and so may what isn't the file's)
+                if not name and last and address < base[last] + self.extent(last):
+                    name = last
                 if name.startswith("["):
                     return name.strip("[]"), f"{name.strip('[]')}+{address - low:#x}"
                 if name:
                     return os.path.basename(name), self.symbol(name, address - base[name])
-            last = name if name.startswith("/") else ""
         return "", f"{address:#x}"
+
+    def extent(self, name):
+        if name not in self.extents:
+            try:
+                with open(name, "rb") as file:
+                    parts = parts_of(file.read(1 << 16))
+                self.extents[name] = max(at + size for at, size in parts) - min(parts)[0]
+            except (OSError, struct.error, ValueError):
+                self.extents[name] = 0
+        return self.extents[name]
 
     def symbol(self, name, offset):
         if name not in self.tables:
@@ -136,6 +177,13 @@ class Places:
         return f"{os.path.basename(name)}+{offset:#x}"
 
 
+def parts_of(data):
+    """Where the parts of an ELF file of 64 bits are loaded, and their sizes there."""
+    start, (size, count) = struct.unpack_from("<Q", data, 32)[0], struct.unpack_from("<HH", data, 54)
+    heads = [struct.unpack_from("<IIQQQQQ", data, start + k * size) for k in range(count)]
+    return [(it[3], it[6]) for it in heads if it[0] == 1]
+
+
 def symbols(name):
     """The data symbols of an ELF file of 64 bits: offset from where it is loaded, size, name."""
     with open(name, "rb") as file:
@@ -145,9 +193,7 @@ def symbols(name):
     is_fixed = struct.unpack_from("<H", data, 16)[0] == 2
     heads, size, count = struct.unpack_from("<Q", data, 40)[0], *struct.unpack_from("<HH", data, 58)
     sections = [struct.unpack_from("<IIQQQQIIQQ", data, heads + k * size) for k in range(count)]
-    start, length = struct.unpack_from("<Q", data, 32)[0], struct.unpack_from("<HH", data, 54)
-    loaded = [struct.unpack_from("<IIQQ", data, start + k * length[0]) for k in range(length[1])]
-    first = min((it[3] for it in loaded if it[0] == 1), default=0) if is_fixed else 0
+    first = min(parts_of(data), default=(0, 0))[0] if is_fixed else 0
     found = []
     for kind, at, size, link in ((it[1], it[4], it[5], it[6]) for it in sections):
         if kind not in (2, 11):
