@@ -1,7 +1,6 @@
-"""What bin/shfl asks a process at its control socket, and where the addresses of a process lie."""
+"""What bin/shfl asks a process at its control socket."""
 import os, re, socket, struct, time
 
-COUNTS = ("taken", "contended", "queued", "waited_ns", "longest_ns", "within", "across", "questions", "yes", "skipped")
 # what docs/ERRORS.md says of the faults of programs
 FAULTS = {
     1: "no bytes", 2: "a length that isn't a multiple of 8", 3: "more than 4,096 bytes",
@@ -17,6 +16,18 @@ class Failed(Exception):
     def __init__(self, status, text):
         super().__init__(text)
         self.status = status
+
+
+def pid_of(word):
+    if not re.fullmatch(r"[1-9][0-9]{0,9}", word):
+        raise Failed(2, f"{word} is no process")
+    return int(word)
+
+
+def class_of(word):
+    if not re.fullmatch(r"[0-9]{1,2}", word) or int(word) > 63:
+        raise Failed(2, f"{word} is no class: 0 to 63")
+    return word
 
 
 def directory():
@@ -99,8 +110,15 @@ def refusal(words):
     return f"the program {hook} is refused {fault}{place}: {FAULTS.get(fault, 'unknown')}"
 
 
-def pairs(words):
-    return {words[k]: int(words[k + 1]) for k in range(0, len(words), 2)}
+def counted(words):
+    """Names and numbers; those of waits, `w10` and so on, together by how many nanoseconds they are shorter than."""
+    found, waits = {}, {}
+    for name, value in zip(words[::2], words[1::2]):
+        if re.fullmatch("w[0-9]{1,2}", name):
+            waits[1 << int(name[1:])] = int(value)
+        else:
+            found[name] = int(value)
+    return {**found, "waits": waits}
 
 
 def locks_of(pid):
@@ -112,7 +130,7 @@ def locks_of(pid):
             if words[0] == "more":
                 k = words[1]
             else:
-                found.append({"number": int(words[1]), "address": int(words[3], 16), "class": int(words[5]), **pairs(words[6:])})
+                found.append({"number": int(words[1]), "address": int(words[3], 16), "class": int(words[5]), **counted(words[6:])})
     return found
 
 
@@ -120,88 +138,5 @@ def classes_of(pid):
     found = []
     for line in ask(pid, "classes"):
         words = line.split()
-        found.append({"class": int(words[1]), **pairs(words[2:])})
+        found.append({"class": int(words[1]), **counted(words[2:])})
     return found
-
-
-class Places:
-    """Where addresses of a process lie: the file and the symbol, as far as they can be known."""
-
-    def __init__(self, pid):
-        self.maps, self.tables, self.extents = [], {}, {}
-        try:
-            with open(f"/proc/{pid}/maps", encoding="utf-8", errors="replace") as lines:
-                for line in lines:
-                    words = line.split(None, 5)
-                    low, high = (int(it, 16) for it in words[0].split("-"))
-                    self.maps.append((low, high, int(words[2], 16), words[5].strip() if len(words) > 5 else ""))
-        except OSError:
-            pass
-
-    def of(self, address):
-        """The file's name and what is shown."""
-        base, last = {}, ""
-        for low, high, offset, name in self.maps:
-            if name.startswith("/"):
-                base.setdefault(name, low - offset)
-                last = name
-            if low <= address < high:
-                # (the zeroed data of a file follow it without a name, and so may what isn't the file's)
-                if not name and last and address < base[last] + self.extent(last):
-                    name = last
-                if name.startswith("["):
-                    return name.strip("[]"), f"{name.strip('[]')}+{address - low:#x}"
-                if name:
-                    return os.path.basename(name), self.symbol(name, address - base[name])
-        return "", f"{address:#x}"
-
-    def extent(self, name):
-        if name not in self.extents:
-            try:
-                with open(name, "rb") as file:
-                    parts = parts_of(file.read(1 << 16))
-                self.extents[name] = max(at + size for at, size in parts) - min(parts)[0]
-            except (OSError, struct.error, ValueError):
-                self.extents[name] = 0
-        return self.extents[name]
-
-    def symbol(self, name, offset):
-        if name not in self.tables:
-            try:
-                self.tables[name] = symbols(name)
-            except (OSError, struct.error, IndexError, UnicodeDecodeError):
-                self.tables[name] = []
-        for at, size, text in self.tables[name]:
-            if at <= offset < at + size:
-                return text + (f"+{offset - at:#x}" if offset > at else "")
-        return f"{os.path.basename(name)}+{offset:#x}"
-
-
-def parts_of(data):
-    """Where the parts of an ELF file of 64 bits are loaded, and their sizes there."""
-    start, (size, count) = struct.unpack_from("<Q", data, 32)[0], struct.unpack_from("<HH", data, 54)
-    heads = [struct.unpack_from("<IIQQQQQ", data, start + k * size) for k in range(count)]
-    return [(it[3], it[6]) for it in heads if it[0] == 1]
-
-
-def symbols(name):
-    """The data symbols of an ELF file of 64 bits: offset from where it is loaded, size, name."""
-    with open(name, "rb") as file:
-        data = file.read()
-    if data[:6] != b"\x7fELF\x02\x01":
-        return []
-    is_fixed = struct.unpack_from("<H", data, 16)[0] == 2
-    heads, size, count = struct.unpack_from("<Q", data, 40)[0], *struct.unpack_from("<HH", data, 58)
-    sections = [struct.unpack_from("<IIQQQQIIQQ", data, heads + k * size) for k in range(count)]
-    first = min(parts_of(data), default=(0, 0))[0] if is_fixed else 0
-    found = []
-    for kind, at, size, link in ((it[1], it[4], it[5], it[6]) for it in sections):
-        if kind not in (2, 11):
-            continue
-        texts = sections[link][4]
-        for place in range(at, at + size, 24):
-            text, info, _, _, value, length = struct.unpack_from("<IBBHQQ", data, place)
-            if info & 15 == 1 and length:
-                begin = texts + text
-                found.append((value - first, length, data[begin:data.index(b"\0", begin)].decode()))
-    return sorted(set(found))

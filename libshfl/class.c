@@ -1,5 +1,7 @@
 /* Policies of classes. Proved is that a policy is used only after its programs were accepted, and answers what they mean
  * (crates/shfl_policy). That a class's threads follow its policy, from their next round on, is this file's. */
+#include <stdlib.h>
+#include <string.h>
 #include "inside.h"
 
 /* Goes over to the class's policy as it is now, where the seat follows another one. */
@@ -22,24 +24,49 @@ bool shfl_answer(struct shfl_thread *me, uint32_t lock, struct shfl_class *its) 
     if (ask.kind == SHFL_ASK_SKIP && shfl_load(&its->attached)) follow(me, its);
     else if (ask.kind == SHFL_ASK_SKIP) __atomic_store_n(&me->in_round, 0, __ATOMIC_RELEASE);
     if (me->in_round == 0) return false;
-    bool yes = shfl_seat_answer(&me->seat);
+    bool yes = shfl_seat_answer(&me->seat), skips = ask.kind == SHFL_ASK_SKIP;
+    if (!SHFL_LIKELY(shfl_load(&shfl_process.recorded) != lock + 1))
+        shfl_record(me, lock, yes ? (skips ? SHFL_YES_SKIP : SHFL_YES_SHOULD) : skips ? SHFL_ASKS_SKIP : SHFL_ASKS_SHOULD, ask.waiter);
     struct shfl_stat *counts = shfl_counts_of(me, lock);
     shfl_more(&counts->questions, 1);
     shfl_more(&counts->yes, yes);
-    shfl_more(&counts->skipped, yes && ask.kind == SHFL_ASK_SKIP);
+    shfl_more(&counts->skipped, yes && skips);
     return yes;
 }
 
+/* A copy of the programs that were loaded, for who wants to have them back. False: no memory. */
+static bool keep(struct shfl_programs *kept, const uint8_t *should, const uint8_t *skip) {
+    size_t whole = (size_t)kept->should + kept->skip;
+    kept->bytes = whole ? calloc(1, whole) : NULL;
+    if (!kept->bytes) return whole == 0;
+    memcpy(kept->bytes, should, kept->should);
+    memcpy(kept->bytes + kept->should, skip, kept->skip);
+    return true;
+}
+
 /* The class goes over to the policy that was loaded. */
-static int publish(struct shfl_class *its, bool attached) {
+static int publish(struct shfl_class *its, const struct shfl_programs *programs) {
     shfl_guard_lock(&its->guard);
     bool done = shfl_seat_follow(&its->seat, &shfl_process.loading);
+    uint8_t *over = done ? its->programs.bytes : programs->bytes;
     if (done) {
+        its->programs = *programs;
         __atomic_fetch_add(&its->version, 1, __ATOMIC_SEQ_CST);
-        shfl_store(&its->attached, attached);
+        shfl_store(&its->attached, programs->bytes != NULL);
     }
     shfl_guard_unlock(&its->guard);
+    free(over);
     return done ? 0 : EAGAIN;
+}
+
+size_t shfl_class_programs(unsigned class_of, struct shfl_programs *out, uint8_t *room, size_t size) {
+    struct shfl_class *its = shfl_class_at(class_of);
+    shfl_guard_lock(&its->guard);
+    *out = its->programs;
+    size_t whole = (size_t)out->should + out->skip;
+    if (whole > 0 && whole <= size) memcpy(room, out->bytes, whole);
+    shfl_guard_unlock(&its->guard);
+    return whole;
 }
 
 int shfl_class_policy(unsigned class_of, unsigned profile, const uint8_t *should, size_t should_length, const uint8_t *skip,
@@ -47,12 +74,14 @@ int shfl_class_policy(unsigned class_of, unsigned profile, const uint8_t *should
     static const uint8_t none;
     if (class_of >= SHFL_CLASSES || profile < 1 || profile > 2) return EINVAL;
     if ((!should && should_length) || (!skip && skip_length)) return EINVAL;
+    if (!should) should = &none;
+    if (!skip) skip = &none;
     int error = shfl_open_process();
     if (error) return error;
     shfl_guard_lock(&shfl_process.is_loading);
-    struct shfl_verdict verdict = shfl_seat_attach(&shfl_process.loading, (uint8_t)profile, should ? should : &none, should_length,
-                                                   skip ? skip : &none, skip_length);
-    if (verdict.fault == 0) error = publish(shfl_class_at(class_of), should_length + skip_length > 0);
+    struct shfl_verdict verdict = shfl_seat_attach(&shfl_process.loading, (uint8_t)profile, should, should_length, skip, skip_length);
+    struct shfl_programs programs = {NULL, (uint16_t)should_length, (uint16_t)skip_length, (uint8_t)profile};
+    if (verdict.fault == 0) error = keep(&programs, should, skip) ? publish(shfl_class_at(class_of), &programs) : ENOMEM;
     else error = verdict.fault == 255 ? ENOMEM : EINVAL;
     shfl_seat_detach(&shfl_process.loading);
     shfl_guard_unlock(&shfl_process.is_loading);
@@ -72,13 +101,19 @@ static bool is_drained(uint32_t which, uint32_t version) {
     return true;
 }
 
-int shfl_class_stat(unsigned class_of, struct shfl_class_stat *out) {
+int shfl_class_sum(unsigned class_of, struct shfl_class_stat *out, struct shfl_waits *waits) {
     if (class_of >= SHFL_CLASSES || !out) return EINVAL;
     int error = shfl_open_process();
     if (error) return error;
     struct shfl_class *its = shfl_class_at(class_of);
     *out = (struct shfl_class_stat){.version = shfl_load(&its->version), .attached = (uint8_t)shfl_load(&its->attached)};
     out->drained = is_drained(class_of + 1, out->version);
-    shfl_sum_class(class_of, out);
+    *waits = (struct shfl_waits){0};
+    shfl_sum_class(class_of, out, waits);
     return 0;
+}
+
+int shfl_class_stat(unsigned class_of, struct shfl_class_stat *out) {
+    struct shfl_waits waits;
+    return shfl_class_sum(class_of, out, &waits);
 }

@@ -16,6 +16,7 @@
 #include <sys/stat.h>
 #include <sys/un.h>
 #include "control.h"
+#include "record.h"
 
 /* So many clients at a time, each for so many nanoseconds, and for so many while no place is free. */
 #define CLIENTS 16
@@ -159,8 +160,8 @@ static int free_places(void) {
 
 /* Whom to look at, and for how many milliseconds; whose time is over is dropped. */
 static int whom_to_hear(struct pollfd *at) {
-    int wait = -1;
     uint64_t now = shfl_clock(), most = free_places() > 0 ? CLIENT_NS : CLIENT_BRIEF_NS;
+    int wait = shfl_record_left(now);
     for (int k = 0; k < CLIENTS; k++) {
         struct client *client = &clients[k];
         if (client->socket >= 0 && now - client->since >= most) drop(client);
@@ -240,6 +241,7 @@ void shfl_control_forked(void) {
         if (clients[k].socket >= 0) close(clients[k].socket);
     if (clients) munmap(clients, CLIENTS * sizeof *clients);
     clients = NULL;
+    shfl_record_forked();
 }
 
 __attribute__((destructor)) static void end_socket(void) {

@@ -4,7 +4,7 @@
 #include "inside.h"
 
 #define SHFL_REQUEST_MOST 18000
-#define SHFL_REPLY_MOST 65536
+#define SHFL_REPLY_MOST 98304 /* 64 classes with the largest numbers */
 
 struct shfl_reply { size_t length; char text[SHFL_REPLY_MOST]; };
 

@@ -1,5 +1,5 @@
 /* What threads count at locks. Each has a small table of its own, by the lock's number; where two locks meet in a place, what stands
- * there is added to the first one's totals. So a thread has 6 KB and a lock 96 bytes, however long they count, and the sum of a lock's
+ * there is added to the first one's totals. So a thread has 6 KB and a lock 96 bytes (and what waits.c has), however long they count, and the sum of a lock's
  * totals and of its entries in all tables is exact. */
 #include <string.h>
 #include "inside.h"
@@ -27,10 +27,13 @@ static void clear(struct shfl_stat *counts) {
 
 static shfl_guard *moving_of(uint32_t lock) { return &shfl_process.moving[shfl_counted_at(lock)]; }
 
-/* What locks had that aren't any more. */
-static void add_ended(uint64_t class_of, const struct shfl_stat *counts) {
+/* What locks had that aren't any more: of a thread's table, or all that stands in the totals. */
+static void add_ended(uint64_t class_of, const struct shfl_stat *counts, const struct shfl_counted *at, uint32_t lock) {
+    struct shfl_waits *waits = &shfl_process.ended_waits[class_of % SHFL_CLASSES];
     shfl_guard_lock(&shfl_process.ending);
     add(&shfl_process.ended[class_of % SHFL_CLASSES], counts);
+    if (at) shfl_waits_of(waits, at);
+    else shfl_waits_add(waits, &shfl_process.lock_waits[lock]);
     shfl_guard_unlock(&shfl_process.ending);
 }
 
@@ -48,14 +51,19 @@ static void end_move(uint32_t lock) {
 static void give_over(struct shfl_counted *at) {
     uint32_t lock = (uint32_t)at->tag - 1;
     begin_move(lock);
-    if (shfl_tag(lock) == at->tag) add(&shfl_process.totals[lock].counts, &at->counts);
-    else add_ended(at->class_of, &at->counts);
+    if (shfl_tag(lock) == at->tag) {
+        add(&shfl_process.totals[lock].counts, &at->counts);
+        shfl_waits_of(&shfl_process.lock_waits[lock], at);
+    } else {
+        add_ended(at->class_of, &at->counts, at, lock);
+    }
     __atomic_store_n(&at->tag, 0, __ATOMIC_SEQ_CST);
     end_move(lock);
 }
 
 SHFL_COLD struct shfl_stat *shfl_count_anew(struct shfl_counted *at, uint32_t lock, uint64_t tag) {
     if (at->tag) give_over(at);
+    shfl_waits_clear(at);
     clear(&at->counts);
     __atomic_store_n(&at->class_of, shfl_load(&shfl_parking_of(lock)->class_of), __ATOMIC_RELAXED);
     __atomic_store_n(&at->tag, tag, __ATOMIC_SEQ_CST);
@@ -75,6 +83,7 @@ SHFL_COLD void shfl_count_waited(struct shfl_thread *me, uint32_t lock, uint64_t
     uint64_t waited = shfl_clock() - since;
     shfl_more(&counts->waited_ns, waited);
     if (waited > counts->longest_ns) __atomic_store_n(&counts->longest_ns, waited, __ATOMIC_RELAXED);
+    shfl_waits_count(&me->counts[shfl_counted_at(lock)], waited);
 }
 
 /* The lock isn't any more: what is counted at its number from now on is another one's. */
@@ -82,24 +91,29 @@ void shfl_count_end(uint32_t lock) {
     struct shfl_parking *parking = shfl_parking_of(lock);
     struct shfl_total *total = &shfl_process.totals[lock];
     begin_move(lock);
-    add_ended(shfl_load(&parking->class_of), &total->counts);
+    add_ended(shfl_load(&parking->class_of), &total->counts, NULL, lock);
     clear(&total->counts);
+    shfl_waits_end(lock);
     shfl_store(&parking->generation, parking->generation + 1);
     __atomic_store_n(&parking->last, 0, __ATOMIC_RELAXED);
     end_move(lock);
 }
 
 /* Where threads give over to the lock again and again, the last sum is taken though it may have missed one of them. */
-void shfl_sum_lock(uint32_t lock, struct shfl_stat *out) {
+void shfl_sum_lock(uint32_t lock, struct shfl_stat *out, struct shfl_waits *waits) {
     struct shfl_total *total = &shfl_process.totals[lock];
     for (int tries = 0; tries < 64; tries++) {
         uint32_t before = shfl_load(&total->moves);
         uint64_t tag = shfl_tag(lock);
         memset(out, 0, sizeof *out);
+        memset(waits, 0, sizeof *waits);
         add(out, &total->counts);
+        shfl_waits_add(waits, &shfl_process.lock_waits[lock]);
         for (uint32_t k = 0; k < shfl_load(&shfl_process.threads_seen); k++) {
             struct shfl_counted *at = &shfl_process.threads[k].counts[shfl_counted_at(lock)];
-            if (__atomic_load_n(&at->tag, __ATOMIC_SEQ_CST) == tag) add(out, &at->counts);
+            if (__atomic_load_n(&at->tag, __ATOMIC_SEQ_CST) != tag) continue;
+            add(out, &at->counts);
+            shfl_waits_of(waits, at);
         }
         if (before % 2 == 0 && shfl_load(&total->moves) == before) return;
     }
@@ -111,30 +125,35 @@ static uint64_t class_counted(struct shfl_counted *at, uint64_t tag) {
     return shfl_tag(lock) == tag ? shfl_load(&shfl_parking_of(lock)->class_of) : __atomic_load_n(&at->class_of, __ATOMIC_RELAXED);
 }
 
-void shfl_sum_class(uint32_t class_of, struct shfl_class_stat *out) {
+void shfl_sum_class(uint32_t class_of, struct shfl_class_stat *out, struct shfl_waits *waits) {
     struct shfl_process *all = &shfl_process;
     add(&out->counts, &all->ended[class_of]);
+    shfl_waits_add(waits, &all->ended_waits[class_of]);
     for (uint32_t k = 0, given = shfl_numbers_given(); k < given; k++) {
         struct shfl_total *total = &all->totals[shfl_number_at(k)];
         if (!__atomic_load_n(&total->address, __ATOMIC_SEQ_CST)) continue;
         if (shfl_load(&shfl_parking_of(shfl_number_at(k))->class_of) != class_of) continue;
         add(&out->counts, &total->counts);
+        shfl_waits_add(waits, &all->lock_waits[shfl_number_at(k)]);
         out->locks++;
     }
     for (uint32_t k = 0; k < shfl_load(&all->threads_seen); k++)
         for (uint32_t place = 0; place < SHFL_COUNTED; place++) {
             struct shfl_counted *at = &all->threads[k].counts[place];
             uint64_t tag = __atomic_load_n(&at->tag, __ATOMIC_SEQ_CST);
-            if (tag && class_counted(at, tag) == class_of) add(&out->counts, &at->counts);
+            if (!tag || class_counted(at, tag) != class_of) continue;
+            add(&out->counts, &at->counts);
+            shfl_waits_of(waits, at);
         }
 }
 
 int shfl_stat(const void *lock, struct shfl_stat *out) {
     if (!lock || !out) return EINVAL;
     uint32_t number = __atomic_load_n((const uint32_t *)lock, __ATOMIC_ACQUIRE);
+    struct shfl_waits waits;
     memset(out, 0, sizeof *out);
     if (number == 0) return 0;
     if (!shfl_process.totals || number > shfl_process.lock_count) return EINVAL;
-    shfl_sum_lock(number - 1, out);
+    shfl_sum_lock(number - 1, out, &waits);
     return 0;
 }

@@ -55,6 +55,14 @@ struct shfl_counted {
 #define SHFL_COUNTED_BITS 6
 #define SHFL_COUNTED (1u << SHFL_COUNTED_BITS)
 
+/* How long calls waited, by powers of two: the k-th place has those of less than 2^(10 + k) nanoseconds, the last one all longer ones too.
+ * Written by who has waited alone. */
+#define SHFL_WAITS 31
+struct shfl_waits {
+    const void *caller; /* of a lock: where the call is that found it taken first */
+    uint64_t of[SHFL_WAITS];
+};
+
 /* What threads have given over to a lock, and where that is. */
 struct shfl_total {
     struct shfl_stat counts;
@@ -70,10 +78,9 @@ struct shfl_thread {
     uint32_t asleep; /* 1 while it sleeps in the queue, or is about to */
     uint32_t unused[31];
     struct shfl_seat seat;
+    const void *caller; /* in the preload library: where the call comes from that waits, or null */
     uint32_t number;
     uint32_t holding; /* how many locks it has */
-    uint32_t held_room;
-    const void **held; /* where they are: in the checked build alone */
     uint32_t follows, version; /* the class whose policy its seat follows, plus one; and which version of it */
     uint32_t in_round; /* the class whose policy answers its round, plus one */
     uint32_t mark; /* its number plus one, and in the low half its socket */
@@ -81,8 +88,18 @@ struct shfl_thread {
     uint32_t again_count, again_room;
     struct shfl_again *again;
     struct shfl_thread *next_free;
+    const void **held; /* where its locks are: in the checked build alone */
+    uint32_t held_room;
+    uint32_t tid; /* the system's number, once it was recorded */
     uint8_t aside; /* it lets others go first, once */
 } __attribute__((aligned(128)));
+
+/* The bytes of a policy, in one block: those of `should`, and behind them those of `skip`. */
+struct shfl_programs {
+    uint8_t *bytes;
+    uint16_t should, skip;
+    uint8_t profile;
+};
 
 /* A class of locks. Its seat takes no lock: it has the policy, which the threads' seats share. */
 struct shfl_class {
@@ -90,6 +107,7 @@ struct shfl_class {
     uint32_t version; /* changes with each policy */
     uint32_t attached; /* whether there is one */
     struct shfl_seat seat;
+    struct shfl_programs programs; /* what was attached */
 } __attribute__((aligned(64)));
 
 struct shfl_process {
@@ -99,13 +117,16 @@ struct shfl_process {
     struct shfl_total *totals;
     uint32_t threads_seen; /* no thread with this number or a higher one was ever there */
     struct shfl_class classes[SHFL_CLASSES];
+    struct shfl_waits *waits, *lock_waits; /* beside counts, and beside totals */
     struct shfl_stat ended[SHFL_CLASSES]; /* what was counted of locks that aren't any more */
+    struct shfl_waits ended_waits[SHFL_CLASSES];
     shfl_guard moving[SHFL_COUNTED]; /* of totals, by the lock's number */
     shfl_guard ending; /* of `ended`; taken after another */
     shfl_guard is_loading;
     struct shfl_seat loading; /* where a policy is judged before its class has it */
     uint32_t lock_count, thread_count;
     uint32_t has_stale; /* whether a lock is stale */
+    uint32_t recorded; /* the lock that is recorded, plus one, or 0 */
 };
 
 extern struct shfl_process shfl_process;
@@ -157,8 +178,38 @@ struct shfl_stat *shfl_count_anew(struct shfl_counted *at, uint32_t lock, uint64
 void shfl_count_hand_over(struct shfl_parking *parking, struct shfl_stat *counts, uint32_t mark);
 void shfl_count_waited(struct shfl_thread *me, uint32_t lock, uint64_t since);
 void shfl_count_end(uint32_t lock);
-void shfl_sum_lock(uint32_t lock, struct shfl_stat *out);
-void shfl_sum_class(uint32_t class_of, struct shfl_class_stat *out);
+void shfl_sum_lock(uint32_t lock, struct shfl_stat *out, struct shfl_waits *waits);
+void shfl_sum_class(uint32_t class_of, struct shfl_class_stat *out, struct shfl_waits *waits);
+
+/* waits.c */
+bool shfl_make_waits(struct shfl_process *all);
+void shfl_free_waits(struct shfl_process *all);
+void shfl_waits_add(struct shfl_waits *to, const struct shfl_waits *from);
+void shfl_waits_of(struct shfl_waits *to, const struct shfl_counted *at);
+void shfl_waits_clear(const struct shfl_counted *at);
+void shfl_waits_count(const struct shfl_counted *at, uint64_t waited);
+void shfl_waits_end(uint32_t lock);
+const void *shfl_caller_at(uint32_t lock);
+
+/* A thread found a lock taken, which it waits for now. The first one's call is noted. */
+void shfl_begins_to_wait(struct shfl_thread *me, uint32_t lock, bool shared, const void *caller);
+
+/* Where the program called from. In the preload library its own calls stand between: `shfl_take` answers EBUSY where it would have to wait
+ * and doesn't know that, and is called again by who says so (preload/numbers.c). A lock that is free costs nothing for that. */
+#ifdef SHFL_HEAP_H
+#define SHFL_CALLER(me) ((me)->caller)
+#else
+#define SHFL_CALLER(me) __builtin_return_address(0)
+#endif
+
+/* record.c: what happens at the lock that is recorded, if one is. */
+enum shfl_event { SHFL_WAITS_ALONE = 'w', SHFL_WAITS_SHARED = 'r', SHFL_GIVES_UP = 'u', SHFL_QUEUES = 'q', SHFL_TAKES_ALONE = 'W',
+                  SHFL_TAKES_SHARED = 'R', SHFL_FREES = 'f', SHFL_ASKS_SKIP = 'k', SHFL_ASKS_SHOULD = 's', SHFL_YES_SKIP = 'K', SHFL_YES_SHOULD = 'S' };
+void shfl_record(struct shfl_thread *me, uint32_t lock, enum shfl_event event, uint64_t about);
+void shfl_record_end(uint32_t lock); /* it isn't any more */
+static inline void shfl_happens(struct shfl_thread *me, uint32_t lock, enum shfl_event event) {
+    if (!SHFL_LIKELY(__atomic_load_n(&shfl_process.recorded, __ATOMIC_RELAXED) != lock + 1)) shfl_record(me, lock, event, 0);
+}
 
 static inline void shfl_more(uint64_t *count, uint64_t more) {
     __atomic_store_n(count, __atomic_load_n(count, __ATOMIC_RELAXED) + more, __ATOMIC_RELAXED);
@@ -182,6 +233,7 @@ static inline void shfl_count_taken(struct shfl_thread *me, uint32_t lock, bool 
     struct shfl_stat *counts = shfl_counts_of(me, lock);
     shfl_more(&counts->taken, 1);
     if (!shared && !SHFL_LIKELY(__atomic_load_n(&parking->last, __ATOMIC_RELAXED) == me->mark)) shfl_count_hand_over(parking, counts, me->mark);
+    shfl_happens(me, lock, shared ? SHFL_TAKES_SHARED : SHFL_TAKES_ALONE);
 }
 
 static inline void shfl_count_contended(struct shfl_thread *me, uint32_t lock) { shfl_more(&shfl_counts_of(me, lock)->contended, 1); }
@@ -193,6 +245,8 @@ void shfl_wake_next(struct shfl_thread *me, struct shfl_parking *parking);
 
 /* class.c: what the class's policy answers to what the next step asks. */
 bool shfl_answer(struct shfl_thread *me, uint32_t lock, struct shfl_class *its);
+int shfl_class_sum(unsigned class_of, struct shfl_class_stat *out, struct shfl_waits *waits);
+size_t shfl_class_programs(unsigned class_of, struct shfl_programs *out, uint8_t *room, size_t size); /* how many bytes they have */
 
 /* control.c: begins to listen where the environment asks for it, once a process; and in the child of a fork ends to. Between stop and go_on
  * no descriptor of it comes or goes. */

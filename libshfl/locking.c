@@ -56,7 +56,9 @@ int shfl_take(uint32_t *word, bool shared) {
     if (!SHFL_LIKELY(answer == SHFL_DONE)) {
         if (answer != SHFL_BUSY) return other_answer(me, word, lock, shared, answer, EDEADLK);
         if (shared) shfl_ring(&shfl_parking_of(lock)->head_asleep);
+        if (!SHFL_CALLER(me)) return EBUSY;
         shfl_count_contended(me, lock);
+        shfl_begins_to_wait(me, lock, shared, SHFL_CALLER(me));
         uint64_t since = shfl_clock();
         error = shfl_wait(me, lock, shared);
         shfl_count_waited(me, lock, since);
@@ -99,9 +101,11 @@ int shfl_take_until(uint32_t *word, bool shared, clockid_t clock, const struct t
         if (!deadline || deadline->tv_nsec < 0 || deadline->tv_nsec > 999999999) return EINVAL;
         if (clock != CLOCK_MONOTONIC && clock != CLOCK_REALTIME) return EINVAL;
         shfl_count_contended(me, lock);
+        shfl_begins_to_wait(me, lock, shared, SHFL_CALLER(me));
         uint64_t since = shfl_clock();
         error = shfl_wait_until(me, lock, shared, clock, deadline);
         shfl_count_waited(me, lock, since);
+        if (error) shfl_happens(me, lock, SHFL_GIVES_UP);
         if (error) return error;
     } else if (answer != SHFL_DONE) {
         return other_answer(me, word, lock, shared, answer, EDEADLK);
@@ -129,6 +133,7 @@ int shfl_give_back(uint32_t *word) {
     uint32_t lock = number - 1;
     if (me->again_count > 0 && give_again(me, lock)) return 0;
     if (shfl_process.has_stale && lock < shfl_process.lock_count && leave_number(me, word, lock)) return 0;
+    shfl_happens(me, lock, SHFL_FREES);
     if (shfl_seat_release(&me->seat, lock) != SHFL_DONE) return shfl_refuse(EPERM, word, "a thread gives a lock back that it doesn't have");
     shfl_given(me, word);
     shfl_wake_next(me, shfl_parking_of(lock));

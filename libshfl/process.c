@@ -48,6 +48,7 @@ static void end_thread(void *at) {
     }
     shfl_me = NULL;
     me->aside = 0;
+    me->tid = 0;
     shfl_guard_lock(&lists);
     me->next_free = free_threads;
     free_threads = me;
@@ -114,6 +115,7 @@ static void free_room(struct shfl_process *all) {
     free(all->threads);
     free(all->parkings);
     free(all->totals);
+    shfl_free_waits(all);
     if (all->counts) munmap(all->counts, all->thread_count * SHFL_COUNTED * sizeof *all->counts);
     all->counts = NULL;
 }
@@ -128,7 +130,8 @@ static bool make_room(struct shfl_process *all) {
     size = all->thread_count * SHFL_COUNTED * sizeof *all->counts;
     void *counts = mmap(NULL, size, PROT_READ | PROT_WRITE, MAP_PRIVATE | MAP_ANONYMOUS | MAP_NORESERVE, -1, 0);
     all->counts = counts == MAP_FAILED ? NULL : counts;
-    if (all->threads && all->parkings && all->totals && all->counts) return true;
+    bool waits = shfl_make_waits(all);
+    if (all->threads && all->parkings && all->totals && all->counts && waits) return true;
     free_room(all);
     return false;
 }
@@ -256,6 +259,7 @@ void shfl_leave_number(uint32_t lock) {
     shfl_guard_lock(&lists);
     __atomic_store_n(&shfl_process.totals[lock].address, NULL, __ATOMIC_SEQ_CST);
     shfl_guard_unlock(&lists);
+    shfl_record_end(lock);
 }
 
 void shfl_take_number_back(uint32_t lock) {

@@ -6,9 +6,11 @@
 #include <stdlib.h>
 #include <string.h>
 #include "control.h"
+#include "record.h"
 
-/* So many locks in one answer; who wants more asks on. */
-#define AT_ONCE 150
+/* An answer has as many locks, and as many events, as there is room for; who wants more asks on. */
+#define LOCK_MOST 1300
+#define EVENT_MOST 120
 #define WORDS 7
 /* One instruction more than a program may have: that it is too long is said by the verifier. */
 #define PROGRAM_MOST 4104
@@ -39,8 +41,18 @@ static bool number(const char *text, int base, uint64_t most, uint64_t *out) {
     return *out <= most;
 }
 
+static bool has_room(const struct shfl_reply *reply, size_t more) { return reply->length + more < sizeof reply->text - 100; }
+
+/* In pairs of a name and a number: `w10 N`, so many waits of less than 2^10 nanoseconds and no less than 2^9, or than 0; the last of all longer
+ * ones too. */
+static void say_waits(struct shfl_reply *reply, const struct shfl_waits *it) {
+    for (int k = 0; k < SHFL_WAITS; k++)
+        if (it->of[k]) say(reply, " w%d %llu", k + 10, (unsigned long long)it->of[k]);
+    say(reply, "\n");
+}
+
 static void say_counts(struct shfl_reply *reply, const struct shfl_stat *it) {
-    say(reply, " taken %llu contended %llu queued %llu waited_ns %llu longest_ns %llu within %llu across %llu questions %llu yes %llu skipped %llu\n",
+    say(reply, " taken %llu contended %llu queued %llu waited_ns %llu longest_ns %llu within %llu across %llu questions %llu yes %llu skipped %llu",
         (unsigned long long)it->taken, (unsigned long long)it->contended, (unsigned long long)it->queued, (unsigned long long)it->waited_ns,
         (unsigned long long)it->longest_ns, (unsigned long long)it->within, (unsigned long long)it->across,
         (unsigned long long)it->questions, (unsigned long long)it->yes, (unsigned long long)it->skipped);
@@ -54,23 +66,24 @@ static void hello(struct request *request, struct shfl_reply *reply) {
 
 static void say_lock(struct shfl_reply *reply, uint32_t lock, const void *address) {
     struct shfl_stat counts;
-    shfl_sum_lock(lock, &counts);
+    struct shfl_waits waits;
+    shfl_sum_lock(lock, &counts, &waits);
     say(reply, "lock %u at %llx class %u", lock, (unsigned long long)(uintptr_t)address, shfl_load(&shfl_parking_of(lock)->class_of));
     say_counts(reply, &counts);
+    say(reply, " caller %llu", (unsigned long long)(uintptr_t)shfl_caller_at(lock));
+    say_waits(reply, &waits);
 }
 
 /* `locks K`: those that were given the numbers from the K-th on. */
 static void locks(struct request *request, struct shfl_reply *reply) {
     uint64_t from;
-    uint32_t given = shfl_numbers_given(), k, said = 0;
+    uint32_t given = shfl_numbers_given(), k;
     if (!number(request->words[3], 10, UINT32_MAX, &from)) return fail(reply, EINVAL, "no number");
     say(reply, "ok\n");
-    for (k = (uint32_t)from; k < given && said < AT_ONCE; k++) {
+    for (k = (uint32_t)from; k < given && has_room(reply, LOCK_MOST); k++) {
         uint32_t lock = shfl_number_at(k);
         const void *address = __atomic_load_n(&shfl_process.totals[lock].address, __ATOMIC_SEQ_CST);
-        if (!address) continue;
-        say_lock(reply, lock, address);
-        said++;
+        if (address) say_lock(reply, lock, address);
     }
     if (k < given) say(reply, "more %u\n", k);
     say(reply, "end\n");
@@ -82,9 +95,12 @@ static void classes(struct request *request, struct shfl_reply *reply) {
     say(reply, "ok\n");
     for (unsigned k = 0; k < SHFL_CLASSES; k++) {
         struct shfl_class_stat it;
-        if (shfl_class_stat(k, &it) || (it.locks == 0 && it.version == 0 && it.counts.taken == 0)) continue;
-        say(reply, "class %u locks %u policy %u version %u drained %u", k, it.locks, it.attached, it.version, it.drained);
+        struct shfl_waits waits;
+        if (shfl_class_sum(k, &it, &waits) || (it.locks == 0 && it.version == 0 && it.counts.taken == 0)) continue;
+        say(reply, "class %u locks %u policy %u version %u drained %u now %llu", k, it.locks, it.attached, it.version, it.drained,
+            (unsigned long long)shfl_clock());
         say_counts(reply, &it.counts);
+        say_waits(reply, &waits);
     }
     say(reply, "end\n");
 }
@@ -139,6 +155,60 @@ static void detach(struct request *request, struct shfl_reply *reply) {
     say(reply, "ok\nversion %u\nend\n", shfl_load(&shfl_class_at((uint32_t)class_of)->version));
 }
 
+static void say_digits(struct shfl_reply *reply, const uint8_t *bytes, size_t length) {
+    if (length == 0) say(reply, " -");
+    for (size_t k = 0; k < length; k++) say(reply, k ? "%02x" : " %02x", bytes[k]);
+}
+
+/* `policy CLASS`: what `attach` was given for this class, or two times `-`. */
+static void policy(struct request *request, struct shfl_reply *reply) {
+    static uint8_t room[2 * PROGRAM_MOST]; /* one thread comes here */
+    struct shfl_programs it;
+    uint64_t class_of;
+    if (!number(request->words[3], 10, SHFL_CLASSES - 1, &class_of)) return fail(reply, EINVAL, "no class");
+    shfl_class_programs((unsigned)class_of, &it, room, sizeof room);
+    say(reply, "ok\nprofile %u", it.profile ? it.profile : 1);
+    say_digits(reply, room, it.should);
+    say_digits(reply, room + it.should, it.skip);
+    say(reply, "\nend\n");
+}
+
+/* `record NUMBER ADDRESS MILLISECONDS`: what happens at this lock from now on, for so long, and for two seconds after each `events`. */
+static void record(struct request *request, struct shfl_reply *reply) {
+    uint64_t lock, address, most;
+    uint32_t id;
+    bool well = number(request->words[3], 10, UINT32_MAX, &lock) && number(request->words[4], 16, UINTPTR_MAX, &address);
+    if (!well || !number(request->words[5], 10, SHFL_RECORD_MOST_MS, &most)) return fail(reply, EINVAL, "no lock or no time");
+    int error = shfl_record_begin((uint32_t)lock, (const void *)(uintptr_t)address, most, &id);
+    if (error) return fail(reply, error, error == EBUSY ? "another lock is recorded" : "no such lock");
+    say(reply, "ok\nrecord %u\nend\n", id);
+}
+
+/* `events RECORD FROM`: the events from this one on, how many are missing before them, where to go on, and whether there are more to come. */
+static void events(struct request *request, struct shfl_reply *reply) {
+    struct shfl_reader reader = {0, 0};
+    struct shfl_happened it;
+    uint64_t id;
+    bool well = number(request->words[3], 10, UINT32_MAX, &id) && number(request->words[4], 10, UINT64_MAX / 2, &reader.next);
+    if (!well) return fail(reply, EINVAL, "no number");
+    if (shfl_record_renew((uint32_t)id)) return fail(reply, ENOENT, "no such record");
+    bool over = shfl_record_is_over(), more = true;
+    say(reply, "ok\n");
+    while (has_room(reply, EVENT_MOST) && (more = shfl_record_next(&reader, &it))) {
+        if (reader.lost) say(reply, "lost %llu\n", (unsigned long long)reader.lost);
+        reader.lost = 0;
+        say(reply, "%llu %c %u %u %u %llx\n", (unsigned long long)it.at, it.event, it.thread, it.tid, it.socket, (unsigned long long)it.about);
+    }
+    say(reply, "next %llu lost %llu over %d\nend\n", (unsigned long long)reader.next, (unsigned long long)reader.lost, over && !more);
+}
+
+static void forget(struct request *request, struct shfl_reply *reply) {
+    uint64_t id;
+    if (!number(request->words[3], 10, UINT32_MAX, &id)) return fail(reply, EINVAL, "no number");
+    if (shfl_record_forget((uint32_t)id)) return fail(reply, ENOENT, "no such record");
+    say(reply, "ok\nend\n");
+}
+
 /* The words with one blank between. False: there are more, or none where one is due. */
 static bool split(char *text, struct request *request) {
     for (request->count = 0; text; request->count++) {
@@ -153,7 +223,8 @@ static bool split(char *text, struct request *request) {
 
 void shfl_reply_to(char *text, struct shfl_reply *reply) {
     static const struct { const char *word; int count; void (*run)(struct request *, struct shfl_reply *); } table[] = {
-        {"hello", 3, hello}, {"locks", 4, locks}, {"classes", 3, classes}, {"class", 6, put}, {"attach", 7, attach}, {"detach", 4, detach}};
+        {"hello", 3, hello}, {"locks", 4, locks}, {"classes", 3, classes}, {"class", 6, put}, {"attach", 7, attach}, {"detach", 4, detach},
+        {"policy", 4, policy}, {"record", 6, record}, {"events", 5, events}, {"forget", 4, forget}};
     struct request request;
     reply->length = 0;
     if (!split(text, &request) || request.count < 3 || strcmp(request.words[0], "shfl") != 0) return fail(reply, EINVAL, "no request");

@@ -255,6 +255,7 @@ static int wait_in_queue(struct waiter *waiter) {
     struct shfl_parking *parking = waiter->parking;
     go_inside(waiter);
     shfl_more(&shfl_counts_of(waiter->me, waiter->lock)->queued, 1);
+    shfl_happens(waiter->me, waiter->lock, SHFL_QUEUES);
     __atomic_fetch_add(&parking->queued, 1, __ATOMIC_SEQ_CST);
     uint8_t answer = shfl_seat_acquire(&waiter->me->seat, waiter->lock, waiter->shared);
     if (answer == SHFL_DONE) {

@@ -56,7 +56,7 @@ static int sleep_cancellably(struct sleeper *sleeper, uint32_t seen, clockid_t c
     return told;
 }
 
-static int wait_on(pthread_cond_t *c, pthread_mutex_t *m, clockid_t clock, const struct timespec *deadline) {
+static int wait_on(pthread_cond_t *c, pthread_mutex_t *m, clockid_t clock, const struct timespec *deadline, const void *caller) {
     struct sleeper sleeper = {c, m};
     uint32_t seen = shfl_load(signals_of(c));
     __atomic_fetch_add(waiting_of(c), 1, __ATOMIC_SEQ_CST);
@@ -64,7 +64,7 @@ static int wait_on(pthread_cond_t *c, pthread_mutex_t *m, clockid_t clock, const
     int told = error ? error : sleep_cancellably(&sleeper, seen, clock, deadline);
     leave(c);
     if (error) return error;
-    error = pthread_mutex_lock(m);
+    error = shfl_lock_again(m, caller);
     return error ? error : told;
 }
 
@@ -73,19 +73,19 @@ static bool cannot_wait(pthread_mutex_t *m) { return !shfl_is_libcs_mutex(m); }
 
 int pthread_cond_wait(pthread_cond_t *c, pthread_mutex_t *m) {
     if (is_shared(c)) return cannot_wait(m) ? EINVAL : shfl_libc()->cond_wait(c, m);
-    return wait_on(c, m, CLOCK_MONOTONIC, NULL);
+    return wait_on(c, m, CLOCK_MONOTONIC, NULL, __builtin_return_address(0));
 }
 
 int pthread_cond_timedwait(pthread_cond_t *c, pthread_mutex_t *m, const struct timespec *deadline) {
     if (!shfl_is_time(deadline)) return EINVAL;
     if (is_shared(c)) return cannot_wait(m) ? EINVAL : shfl_libc()->cond_timedwait(c, m, deadline);
-    return wait_on(c, m, clock_of(c), deadline);
+    return wait_on(c, m, clock_of(c), deadline, __builtin_return_address(0));
 }
 
 int pthread_cond_clockwait(pthread_cond_t *c, pthread_mutex_t *m, clockid_t clock, const struct timespec *deadline) {
     if (!shfl_is_time(deadline) || !shfl_is_clock(clock)) return EINVAL;
     if (is_shared(c)) return cannot_wait(m) ? EINVAL : shfl_libc()->cond_clockwait(c, m, clock, deadline);
-    return wait_on(c, m, clock, deadline);
+    return wait_on(c, m, clock, deadline, __builtin_return_address(0));
 }
 
 int pthread_cond_signal(pthread_cond_t *c) {

@@ -43,8 +43,8 @@ const struct shfl_libc *shfl_libc(void);
 
 /* numbers.c: a lock's first use, and a thread's; what isn't answered to a program. */
 bool shfl_adopt(uint32_t *word);
-int shfl_take_at_last(uint32_t *word, bool shared, int error);
-int shfl_take_until_at_last(uint32_t *word, bool shared, clockid_t clock, const struct timespec *deadline);
+int shfl_take_at_last(uint32_t *word, bool shared, int error, const void *caller);
+int shfl_take_until_at_last(uint32_t *word, bool shared, clockid_t clock, const struct timespec *deadline, const void *caller);
 
 /* Whether the lock with this number word is the library's. Then it has a number, and this thread a seat. */
 static inline bool shfl_is_ours(uint32_t *word) {
@@ -59,6 +59,7 @@ static inline bool shfl_is_clock(clockid_t clock) { return clock == CLOCK_MONOTO
 /* The name under which glibc's own libraries called it. */
 #define ALSO(name) extern __typeof__(name) __##name __attribute__((alias(#name), copy(name)))
 
-/* mutex.c, for cond.c: whether a mutex is libc's, which libc's condition variables can wait with. */
+/* mutex.c, for cond.c: whether a mutex is libc's, which libc's condition variables can wait with; and how who waited has it again. */
 bool shfl_is_libcs_mutex(pthread_mutex_t *m);
+int shfl_lock_again(pthread_mutex_t *m, const void *caller);
 #endif

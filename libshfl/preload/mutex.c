@@ -53,18 +53,21 @@ static SHFL_COLD int wait_for_itself(clockid_t clock, const struct timespec *dea
     }
 }
 
-static SHFL_COLD int not_at_once(pthread_mutex_t *m, int error) {
+static SHFL_COLD int not_at_once(pthread_mutex_t *m, int error, const void *caller) {
     if (error == EDEADLK && type_of(m) != PTHREAD_MUTEX_ERRORCHECK_NP) return wait_for_itself(CLOCK_MONOTONIC, NULL);
-    return taken(m, shfl_take_at_last(word_of(m), false, error));
+    return taken(m, shfl_take_at_last(word_of(m), false, error, caller));
 }
 
-int pthread_mutex_lock(pthread_mutex_t *m) {
+static inline int lock_from(pthread_mutex_t *m, const void *caller) {
     int error;
     if (!is_ours(m)) return shfl_libc()->mutex_lock(m);
     if (takes_again(m, &error)) return error;
     error = shfl_take(word_of(m), false);
-    return SHFL_LIKELY(!error) ? taken(m, 0) : not_at_once(m, error);
+    return SHFL_LIKELY(!error) ? taken(m, 0) : not_at_once(m, error, caller);
 }
+
+int pthread_mutex_lock(pthread_mutex_t *m) { return lock_from(m, __builtin_return_address(0)); }
+int shfl_lock_again(pthread_mutex_t *m, const void *caller) { return lock_from(m, caller); }
 
 int pthread_mutex_trylock(pthread_mutex_t *m) {
     int error;
@@ -79,7 +82,7 @@ int pthread_mutex_clocklock(pthread_mutex_t *m, clockid_t clock, const struct ti
     if (!is_ours(m)) return shfl_libc()->mutex_clocklock(m, clock, deadline);
     if (!shfl_is_clock(clock)) return EINVAL;
     if (takes_again(m, &error)) return error;
-    error = shfl_take_until_at_last(word_of(m), false, clock, deadline);
+    error = shfl_take_until_at_last(word_of(m), false, clock, deadline, __builtin_return_address(0));
     if (error == EDEADLK && type_of(m) != PTHREAD_MUTEX_ERRORCHECK_NP)
         return shfl_is_time(deadline) ? wait_for_itself(clock, deadline) : EINVAL;
     return taken(m, error);

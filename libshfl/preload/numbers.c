@@ -43,16 +43,18 @@ SHFL_COLD bool shfl_adopt(uint32_t *word) {
     return true;
 }
 
-/* Goes on where a thread that has to queue found no memory. */
-SHFL_COLD int shfl_take_at_last(uint32_t *word, bool shared, int error) {
-    while (error == ENOMEM) {
-        nap();
+/* Goes on where a thread found the lock taken, and where one that has to queue found no memory. */
+SHFL_COLD int shfl_take_at_last(uint32_t *word, bool shared, int error, const void *caller) {
+    while (error == EBUSY || error == ENOMEM) {
+        if (error == ENOMEM) nap();
+        shfl_me->caller = caller;
         error = shfl_take(word, shared);
+        shfl_me->caller = NULL;
     }
     return error;
 }
 
-int shfl_take_until_at_last(uint32_t *word, bool shared, clockid_t clock, const struct timespec *deadline) {
+static int take_until(uint32_t *word, bool shared, clockid_t clock, const struct timespec *deadline) {
     if (!shfl_is_clock(clock)) return EINVAL;
     int error = shfl_take_until(word, shared, clock, deadline);
     while (error == ENOMEM) {
@@ -63,5 +65,12 @@ int shfl_take_until_at_last(uint32_t *word, bool shared, clockid_t clock, const 
         nap();
         error = shfl_take_until(word, shared, clock, deadline);
     }
+    return error;
+}
+
+int shfl_take_until_at_last(uint32_t *word, bool shared, clockid_t clock, const struct timespec *deadline, const void *caller) {
+    shfl_me->caller = caller;
+    int error = take_until(word, shared, clock, deadline);
+    shfl_me->caller = NULL;
     return error;
 }

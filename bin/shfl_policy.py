@@ -1,0 +1,100 @@
+"""Policies of classes: their digits, and how a class comes to have one."""
+import os, re, subprocess, tempfile, time
+
+from shfl_process import Failed, ask, classes_of, refusal
+
+TOP = os.path.dirname(os.path.dirname(os.path.realpath(__file__)))
+
+
+def made_by(command, **more):
+    """What a command of another program writes."""
+    try:
+        ran = subprocess.run(command, capture_output=True, **more)
+    except FileNotFoundError:
+        raise Failed(69, f"{command[0]} isn't there") from None
+    except OSError as error:
+        raise Failed(70, f"{command[0]}: {error.strerror}") from None
+    if ran.returncode:
+        raise Failed(1, ran.stderr.decode(errors="replace").strip())
+    return ran.stdout
+
+
+def compiled(file):
+    """The digits of the function in a C file, as bin/policy compiles it; whether it is accepted the process says."""
+    with tempfile.TemporaryDirectory() as room:
+        made_by(["clang", "-target", "bpf", "-O2", "-g0", "-c", file, "-o", f"{room}/policy.o"])
+        made_by(["llvm-objcopy", "-O", "binary", "--only-section=.text", f"{room}/policy.o", f"{room}/policy.bin"])
+        with open(f"{room}/policy.bin", "rb") as made:
+            digits = made.read(4097).hex()
+    if not digits:
+        raise Failed(1, f"{file}: no function in the section .text")
+    return digits
+
+
+def digits_of(file, profile):
+    """The digits of a program in a file."""
+    try:
+        with open(file, "rb") as at:
+            text = at.read(1 << 20)
+    except OSError as error:
+        raise Failed(3, f"{file}: {error.strerror}") from None
+    if file.endswith(".c"):
+        return compiled(file)
+    if file.endswith(".asm"):
+        built = f"{TOP}/crates/syncord/out/syncord"
+        if not os.access(built, os.X_OK):
+            raise Failed(70, "syncord isn't built, which assembles: bin/build-program syncord")
+        return made_by([built, "asm"] + (["2"] if profile == "2" else []), input=text).decode().strip()
+    digits = re.sub(rb"\s", b"", text).decode("ascii", "replace").lower()
+    if not re.fullmatch(r"([0-9a-f]{2})*", digits):
+        raise Failed(1, f"{file}: no digits of a program")
+    return digits
+
+
+def programs_of(file, hook, profile):
+    """As `attach` has them: the profile, the digits of should and those of skip."""
+    digits = digits_of(file, profile)
+    if not digits:
+        # (which in a request stands for no program)
+        raise Failed(6, refusal(["refused", "1", hook, "0", "0"]))
+    if len(digits) > 8192:
+        # (of a longer one the process takes no more: it has the same fault)
+        digits = digits[:8192 + (len(digits) % 16 or 16)]
+    return (profile, "-", digits) if hook == "skip" else (profile, digits, "-")
+
+
+def attach(pid, to, file, hook, profile):
+    return ask(pid, "attach", to, *programs_of(file, hook, profile))[0].split()[1]
+
+
+def policy_of(pid, to):
+    """What the class has now, to be attached again: both programs are `-` where it has none."""
+    return tuple(ask(pid, "policy", to)[0].split()[1:])
+
+
+def version_of(pid, to):
+    return next((it["version"] for it in classes_of(pid) if it["class"] == int(to)), 0)
+
+
+def words_of_policy(words, usage, anywhere=False):
+    """The hook and the profile among the words, and the other words. The hook is the last one, or the fourth before other options."""
+    profile, words = "1", list(words)
+    if "--profile" in words:
+        k = words.index("--profile")
+        profile = words[k + 1] if k + 1 < len(words) else ""
+        del words[k:k + 2]
+    place = 3 if anywhere else len(words) - 1
+    hook = words.pop(place) if len(words) > 3 and words[place] in ("should", "skip") else "should"
+    if profile not in ("1", "2"):
+        raise Failed(2, usage)
+    return words, hook, profile
+
+
+def drained(pid, to, seconds=2):
+    """Whether no round is answered by an older version any more."""
+    until = time.monotonic() + seconds
+    while time.monotonic() < until:
+        if any(it["class"] == int(to) and it["drained"] for it in classes_of(pid)):
+            return "drained"
+        time.sleep(0.01)
+    return "not drained yet"
