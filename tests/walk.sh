@@ -5,7 +5,7 @@
 set -u
 top="$(cd "$(dirname "$(readlink -f "${BASH_SOURCE[0]}")")/.." && pwd)"
 cd "$top" || exit 1
-port="${WALK_PORT:-21211}" seconds="${WALK_SECONDS:-40}"
+port="${WALK_PORT:-21211}" seconds="${WALK_SECONDS:-60}"
 missing=()
 command -v memcached >/dev/null || missing+=(memcached)
 command -v cc >/dev/null || missing+=(gcc libc6-dev)
@@ -44,7 +44,8 @@ wait_for() {
 walk() {
     local due="$1" status=0
     shift
-    printf '%% %s\n' "$*" | tee -a "$room/commands"
+    # (a selector of two words stands in quotes)
+    printf '%% %s\n' "$*" | sed -E 's/by memcached\+0x[0-9a-f]+/"&"/' | tee -a "$room/commands"
     "$@" >"$room/said" 2>&1 || status=$?
     cat "$room/said"
     echo
@@ -83,22 +84,29 @@ sleep 5
 walk 0 shfl stat "$pid"
 walk_top
 says "^process $pid"
-# the lock that was found taken most often, of those with a fixed place
-lock="$(awk '$1 ~ /^memcached\+/ { print $4, $1 }' "$room/said" | sort -rn | awk 'NR == 1 { print $2 }')"
-[ -n "$lock" ] || { fail "no lock of memcached's was taken"; exit 1; }
+# the call that first found that lock taken which is found taken most often
+lock="by $(shfl stat "$pid" --json | python3 -c '
+import json, sys
+found = [it for it in json.load(sys.stdin)["locks"] if it["caller"] and it["caller"]["file"] == "memcached"]
+print(max(found, key=lambda it: it["contended"])["caller"]["where"])')"
+[ "$lock" != "by " ] || { fail "no lock of memcached's was taken"; exit 1; }
 walk 0 shfl class "$pid" "$lock" 5
-says '^1 lock in class 5$'
+says '^[1-9][0-9]* locks? in class 5$'
+walk 0 shfl record "$pid" "$lock" 0.001
+says '^end events [1-9][0-9]* lost '
+walk 0 shfl compare "$pid" 5 examples/policies/socket.hex --seconds 3
+says '^ +2 on '
 walk 0 shfl attach "$pid" 5 examples/policies/socket.hex
-says '^class 5: version 1; the one before is drained$'
+says '^class 5: version [0-9]+; the one before is drained$'
 sleep 5
 walk 0 shfl classes "$pid"
 walk 6 shfl attach "$pid" 5 examples/loop.hex
 says '^shfl: the program should is refused 8 at slot 3: a jump'
 before="$(taken)"
 walk 0 shfl detach "$pid" 5
-says '^class 5: no policy \(version 2\); the one before is drained$'
+says '^class 5: no policy \(version [0-9]+\); the one before is drained$'
 walk 0 shfl classes "$pid"
-says '^ +5 +1 - '
+says '^ +5 +[1-9][0-9]* - '
 sleep 1
 [ "$(taken)" -gt "$before" ] || fail "memcached stands still"
 wait "$load" || fail "the load broke off"
@@ -106,7 +114,7 @@ load=''
 cat "$room/rate"
 
 # the page has these commands, with the process and the lock of its day
-plain() { sed -E 's/^ *% //; s/ [0-9]{2,} / PID /; s/ [0-9]{2,}$/ PID/; s/memcached\+0x[0-9a-f]+/LOCK/; s/-u [a-z_-]+ /-u USER /'; }
-awk '/^## The first hour/ { on = 1; next } /^## / { on = 0 } on && /^    % shfl/' docs/OPERATING.md | grep -vE '^ *% shfl (compare|record) ' | plain >"$room/page"
+plain() { sed -E 's/^ *% //; s/ [0-9]{2,} / PID /; s/ [0-9]{2,}$/ PID/; s/"?by memcached\+0x[0-9a-f]+"?/LOCK/; s/-u [a-z_-]+ /-u USER /'; }
+awk '/^## The first hour/ { on = 1; next } /^## / { on = 0 } on && /^    % shfl/' docs/OPERATING.md | plain >"$room/page"
 plain <"$room/commands" | diff "$room/page" - || fail "docs/OPERATING.md has other commands"
 exit "$failed"
