@@ -1,5 +1,5 @@
 """What happens at one lock, in order, as a text (docs/OPERATING.md, 'A record')."""
-import re, time
+import os, re, time
 
 import shfl_help
 from shfl_locks import one_meant
@@ -17,7 +17,7 @@ class Record:
     """The events (time, thread, words), the threads' sockets and names, and how many events are missing."""
 
     def __init__(self, pid, name, it):
-        self.pid, self.name, self.address = pid, name, it["address"]
+        self.pid, self.name, self.address, self.names = pid, name, it["address"], {}
         self.events, self.threads, self.lost, self.seconds = [], {}, 0, 0
 
     def add(self, line):
@@ -26,11 +26,20 @@ class Record:
             return self.miss(int(words[1]))
         thread, about = int(words[3]), int(words[5], 16)
         if thread not in self.threads:
-            self.threads[thread] = (int(words[4]), name_of(self.pid, thread))
+            self.threads[thread] = (int(words[4]), self.names.get(thread, "-"))
         told = EVENTS[words[1]]
         if told[:2] == ("asks", "should"):
             told += tuple(str(about >> shift & 0xffff) for shift in (0, 16, 32, 48))
         self.events.append((int(words[0]), thread, told))
+
+    def look_for_names(self):
+        """(A thread that has ended when the record is read has no name any more.)"""
+        try:
+            for thread in map(int, os.listdir(f"/proc/{self.pid}/task")):
+                if thread not in self.names:
+                    self.names[thread] = name_of(self.pid, thread)
+        except OSError:
+            pass
 
     def miss(self, count):
         if count:
@@ -51,6 +60,7 @@ def recorded(pid, it, name, seconds, most):
     record, came = Record(pid, name, it), []
     number = ask(pid, "record", str(it["number"]), f"{it['address']:x}", str(int(seconds * 1000)))[0].split()[1]
     begun, k, over = time.monotonic(), "0", False
+    record.look_for_names()
     try:
         while not over and len(came) < most:
             *lines, last = ask(pid, "events", number, k)
@@ -59,6 +69,7 @@ def recorded(pid, it, name, seconds, most):
             came += lines + ([f"lost {words[3]}"] if words[3] != "0" else [])
             if not over and len(lines) < 100:
                 time.sleep(0.01)
+        record.look_for_names()
     finally:
         record.seconds = min(seconds, time.monotonic() - begun)
         try:
@@ -91,6 +102,10 @@ def held(record):
     return holds, waits
 
 
+def count_of_events(record):
+    return sum(words[0] != "lost" for _, _, words in record.events)
+
+
 def by_thread(record, spans):
     """How many of the spans are each thread's, and how long they were together."""
     found = {thread: (0, 0) for thread in record.threads}
@@ -106,7 +121,7 @@ def table_of(record, holds, waits):
     for thread, (socket, name) in sorted(record.threads.items(), key=lambda it: -held_by[it[0]][0]):
         means = [time_of(whole / count) if count else "-" for count, whole in (held_by[thread], waited_by[thread])]
         yield f"{thread:<8} {name[:16]:<16} {socket:>6} {held_by[thread][0]:>8} {means[0]:>8} {waited_by[thread][0]:>8} {means[1]:>8}"
-    yield f"{len(record.events)} events in {record.seconds:.2f} s" + (f"; {record.lost} are missing" if record.lost else "")
+    yield f"{count_of_events(record)} events in {record.seconds:.2f} s" + (f"; {record.lost} are missing" if record.lost else "")
 
 
 def text_of(record, holds, waits):
@@ -118,7 +133,7 @@ def text_of(record, holds, waits):
         yield f"thread {thread} socket {socket} name {name} holds {count} held_ns {whole} waits {waited} waited_ns {long}"
     for at, thread, words in record.events:
         yield f"{at} {' '.join(words)}" if words[0] == "lost" else f"{at} {words[0]} {' '.join((str(thread),) + words[1:])}"
-    yield f"end events {sum(it[2][0] != 'lost' for it in record.events)} lost {record.lost}"
+    yield f"end events {count_of_events(record)} lost {record.lost}"
 
 
 def options(words, known):

@@ -99,7 +99,8 @@ void shfl_count_end(uint32_t lock) {
     end_move(lock);
 }
 
-/* Where threads give over to the lock again and again, the last sum is taken though it may have missed one of them. */
+/* Where threads give over to the lock again and again, the last sum is taken though it may have missed one of them. Waits are read before the
+ * counts, so there are never more of them than calls that found the lock taken. */
 void shfl_sum_lock(uint32_t lock, struct shfl_stat *out, struct shfl_waits *waits) {
     struct shfl_total *total = &shfl_process.totals[lock];
     for (int tries = 0; tries < 64; tries++) {
@@ -107,13 +108,13 @@ void shfl_sum_lock(uint32_t lock, struct shfl_stat *out, struct shfl_waits *wait
         uint64_t tag = shfl_tag(lock);
         memset(out, 0, sizeof *out);
         memset(waits, 0, sizeof *waits);
-        add(out, &total->counts);
         shfl_waits_add(waits, &shfl_process.lock_waits[lock]);
+        add(out, &total->counts);
         for (uint32_t k = 0; k < shfl_load(&shfl_process.threads_seen); k++) {
             struct shfl_counted *at = &shfl_process.threads[k].counts[shfl_counted_at(lock)];
             if (__atomic_load_n(&at->tag, __ATOMIC_SEQ_CST) != tag) continue;
-            add(out, &at->counts);
             shfl_waits_of(waits, at);
+            add(out, &at->counts);
         }
         if (before % 2 == 0 && shfl_load(&total->moves) == before) return;
     }
@@ -133,8 +134,8 @@ void shfl_sum_class(uint32_t class_of, struct shfl_class_stat *out, struct shfl_
         struct shfl_total *total = &all->totals[shfl_number_at(k)];
         if (!__atomic_load_n(&total->address, __ATOMIC_SEQ_CST)) continue;
         if (shfl_load(&shfl_parking_of(shfl_number_at(k))->class_of) != class_of) continue;
-        add(&out->counts, &total->counts);
         shfl_waits_add(waits, &all->lock_waits[shfl_number_at(k)]);
+        add(&out->counts, &total->counts);
         out->locks++;
     }
     for (uint32_t k = 0; k < shfl_load(&all->threads_seen); k++)
@@ -142,8 +143,8 @@ void shfl_sum_class(uint32_t class_of, struct shfl_class_stat *out, struct shfl_
             struct shfl_counted *at = &all->threads[k].counts[place];
             uint64_t tag = __atomic_load_n(&at->tag, __ATOMIC_SEQ_CST);
             if (!tag || class_counted(at, tag) != class_of) continue;
-            add(&out->counts, &at->counts);
             shfl_waits_of(waits, at);
+            add(&out->counts, &at->counts);
         }
 }
 

@@ -116,16 +116,16 @@ static bool read_at(const struct event *at, uint64_t k, struct event *out) {
     return __atomic_load_n(&at->state, __ATOMIC_RELAXED) == 2 * k + 2;
 }
 
-/* Reads on. An event that isn't there is waited for until the record is over or half of the ring stands behind it. */
+/* Reads on, from the middle of the ring where it was too slow: so there is a long piece without gaps next. An event that isn't there is
+ * waited for until the record is over or half of the ring stands behind it. */
 bool shfl_record_next(struct shfl_reader *reader, struct shfl_happened *out) {
     bool over = shfl_record_is_over();
     uint64_t end = __atomic_load_n(&next, __ATOMIC_SEQ_CST);
-    uint64_t from = end > EVENTS && end - EVENTS > first ? end - EVENTS : first;
     struct event it;
     if (reader->next < first) reader->next = first;
-    if (reader->next < from) {
-        reader->lost += from - reader->next;
-        reader->next = from;
+    if (reader->next < end && end - reader->next > EVENTS) {
+        reader->lost += end - EVENTS / 2 - reader->next;
+        reader->next = end - EVENTS / 2;
     }
     for (; reader->next < end; reader->next++) {
         bool there = read_at(&ring[reader->next % EVENTS], reader->next, &it);
