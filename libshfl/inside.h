@@ -115,6 +115,7 @@ struct shfl_process {
     struct shfl_parking *parkings;
     struct shfl_counted *counts;
     struct shfl_total *totals;
+    uint32_t recorded; /* the lock that is recorded, plus one, or 0 */
     uint32_t threads_seen; /* no thread with this number or a higher one was ever there */
     struct shfl_class classes[SHFL_CLASSES];
     struct shfl_waits *waits, *lock_waits; /* beside counts, and beside totals */
@@ -126,7 +127,6 @@ struct shfl_process {
     struct shfl_seat loading; /* where a policy is judged before its class has it */
     uint32_t lock_count, thread_count;
     uint32_t has_stale; /* whether a lock is stale */
-    uint32_t recorded; /* the lock that is recorded, plus one, or 0 */
 };
 
 extern struct shfl_process shfl_process;
