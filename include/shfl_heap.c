@@ -8,11 +8,20 @@
 extern "C" {
 #endif
 
+/* libshfl's build for those who look for races says which memory is its own. */
+#ifdef SHFL_ANNOTATE
+#include "../libshfl/races.h"
+#define SHFL_OWN(at, size) shfl_races_own(at, size)
+#else
+#define SHFL_OWN(at, size) ((void)(size))
+#endif
+
 struct shfl_tried { bool ok; void *at; };
 
 static char nothing;
 
-static struct shfl_tried tried(void *at) {
+static struct shfl_tried tried(void *at, size_t size) {
+    if (at != NULL) SHFL_OWN(at, size);
     struct shfl_tried told = {at != NULL, at != NULL ? at : &nothing};
     return told;
 }
@@ -22,12 +31,14 @@ static struct shfl_tried tried(void *at) {
 struct shfl_tried rattle_alloc(size_t size, size_t align) {
     const size_t line = 64;
     (void)align;
-    return tried(aligned_alloc(line, size ? (size + line - 1) / line * line : line));
+    size = size ? (size + line - 1) / line * line : line;
+    return tried(aligned_alloc(line, size), size);
 }
 
 struct shfl_tried rattle_realloc(void *at, size_t kept, size_t size, size_t align) {
     (void)kept;
-    return tried(realloc(at, size ? size : align));
+    size = size ? size : align;
+    return tried(realloc(at, size), size);
 }
 
 void rattle_dealloc(void *at) { free(at); }

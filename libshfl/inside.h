@@ -12,6 +12,7 @@
 
 #define SHFL_COLD __attribute__((noinline, cold))
 #define SHFL_LIKELY(x) __builtin_expect(!!(x), 1)
+#define SHFL_IN_LINE static inline __attribute__((always_inline))
 
 /* A heap of the library's own waits while the process forks; malloc does so by itself. */
 #ifndef SHFL_HEAP_H
@@ -73,23 +74,24 @@ struct shfl_total {
 /* A read lock that a thread took again. */
 struct shfl_again { uint32_t lock, times; };
 
-/* A thread, or a place for one. The first line is written by those who wake it, too. */
+/* A thread, or a place for one. The first line is written by those who wake it, too; what each lock and unlock reads stands first in the next. */
 struct shfl_thread {
     uint32_t asleep; /* 1 while it sleeps in the queue, or is about to */
     uint32_t unused[31];
     struct shfl_seat seat;
-    const void *caller; /* in the preload library: where the call comes from that waits, or null */
-    uint32_t number;
-    uint32_t holding; /* how many locks it has */
-    uint32_t follows, version; /* the class whose policy its seat follows, plus one; and which version of it */
-    uint32_t in_round; /* the class whose policy answers its round, plus one */
-    uint32_t mark; /* its number plus one, and in the low half its socket */
     struct shfl_counted *counts;
+    uint32_t mark; /* its number plus one, and in the low half its socket */
+    uint32_t holding; /* how many locks it has */
     uint32_t again_count, again_room;
     struct shfl_again *again;
-    struct shfl_thread *next_free;
-    const void **held; /* where its locks are: in the checked build alone */
+    uint32_t stale; /* 1 in the child of a fork, where this thread forked and had locks */
+    uint32_t number;
+    uint32_t follows, version; /* the class whose policy its seat follows, plus one; and which version of it */
+    uint32_t in_round; /* the class whose policy answers its round, plus one */
     uint32_t held_room;
+    const void **held; /* where its locks are: in the checked build alone */
+    struct shfl_thread *next_free;
+    const void *caller; /* in the preload library: where the call comes from that waits, or null */
     uint32_t tid; /* the system's number, once it was recorded */
     uint8_t aside; /* it lets others go first, once */
 } __attribute__((aligned(128)));
@@ -126,7 +128,6 @@ struct shfl_process {
     shfl_guard is_loading;
     struct shfl_seat loading; /* where a policy is judged before its class has it */
     uint32_t lock_count, thread_count;
-    uint32_t has_stale; /* whether a lock is stale */
 };
 
 extern struct shfl_process shfl_process;
@@ -228,14 +229,6 @@ static inline struct shfl_stat *shfl_counts_of(struct shfl_thread *me, uint32_t 
     return SHFL_LIKELY(at->tag == tag) ? &at->counts : shfl_count_anew(at, lock, tag);
 }
 
-static inline void shfl_count_taken(struct shfl_thread *me, uint32_t lock, bool shared) {
-    struct shfl_parking *parking = shfl_parking_of(lock);
-    struct shfl_stat *counts = shfl_counts_of(me, lock);
-    shfl_more(&counts->taken, 1);
-    if (!shared && !SHFL_LIKELY(__atomic_load_n(&parking->last, __ATOMIC_RELAXED) == me->mark)) shfl_count_hand_over(parking, counts, me->mark);
-    shfl_happens(me, lock, shared ? SHFL_TAKES_SHARED : SHFL_TAKES_ALONE);
-}
-
 static inline void shfl_count_contended(struct shfl_thread *me, uint32_t lock) { shfl_more(&shfl_counts_of(me, lock)->contended, 1); }
 
 /* waiting.c: takes the lock, which an attempt found taken; and what a thread does that gives it back. */
@@ -254,13 +247,6 @@ void shfl_control(void);
 void shfl_control_forked(void);
 void shfl_control_stop(void);
 void shfl_control_go_on(void);
-
-/* locking.c: what mutexes and locks for readers and writers have in common. */
-int shfl_take(uint32_t *word, bool shared);
-int shfl_try(uint32_t *word, bool shared);
-int shfl_take_until(uint32_t *word, bool shared, clockid_t clock, const struct timespec *deadline);
-int shfl_give_back(uint32_t *word);
-int shfl_end(uint32_t *word);
 
 /* checked.c: in the checked build a call that no right program makes ends it, and a thread knows where the locks are that it has. */
 int shfl_refuse(int error, const void *lock, const char *what);

@@ -1,7 +1,8 @@
 /* What mutexes and locks for readers and writers have in common: the errors, the locks that a thread took again, the counts. Proved is that
  * a seat takes no lock that it holds, gives none back that it doesn't, and that a writer holds alone (crates/shfl_seats). */
 #include <stdlib.h>
-#include "inside.h"
+#include "locking.h"
+#include "races.h"
 
 /* A place for one more lock that this thread takes again. */
 static struct shfl_again *room_for_again(struct shfl_thread *me) {
@@ -45,25 +46,32 @@ static SHFL_COLD int other_answer(struct shfl_thread *me, uint32_t *word, uint32
     return answer == SHFL_NO_MEMORY ? ENOMEM : EINVAL;
 }
 
-int shfl_take(uint32_t *word, bool shared) {
+void shfl_count_taken_anew(struct shfl_thread *me, uint32_t lock, bool shared) {
+    struct shfl_parking *parking = shfl_parking_of(lock);
+    struct shfl_stat *counts = shfl_counts_of(me, lock);
+    shfl_more(&counts->taken, 1);
+    if (!shared && __atomic_load_n(&parking->last, __ATOMIC_RELAXED) != me->mark) shfl_count_hand_over(parking, counts, me->mark);
+}
+
+SHFL_COLD int shfl_take_first(uint32_t *word, bool shared) {
     int error = 0;
     uint32_t lock;
     struct shfl_thread *me = shfl_self(&error);
     if (!me) return error;
     error = shfl_number(word, shfl_class_behind(word), &lock);
+    return error ? error : shfl_take(word, shared);
+}
+
+int shfl_take_after(struct shfl_thread *me, uint32_t *word, uint32_t lock, bool shared, uint8_t answer, const void *caller) {
+    if (answer != SHFL_BUSY) return other_answer(me, word, lock, shared, answer, EDEADLK);
+    if (shared) shfl_ring(&shfl_parking_of(lock)->head_asleep);
+    if (!caller) return EBUSY;
+    uint64_t since = shfl_clock();
+    shfl_count_contended(me, lock);
+    shfl_begins_to_wait(me, lock, shared, caller);
+    int error = shfl_wait(me, lock, shared);
+    shfl_count_waited(me, lock, since);
     if (error) return error;
-    uint8_t answer = shfl_seat_attempt(&me->seat, lock, shared);
-    if (!SHFL_LIKELY(answer == SHFL_DONE)) {
-        if (answer != SHFL_BUSY) return other_answer(me, word, lock, shared, answer, EDEADLK);
-        if (shared) shfl_ring(&shfl_parking_of(lock)->head_asleep);
-        if (!SHFL_CALLER(me)) return EBUSY;
-        shfl_count_contended(me, lock);
-        shfl_begins_to_wait(me, lock, shared, SHFL_CALLER(me));
-        uint64_t since = shfl_clock();
-        error = shfl_wait(me, lock, shared);
-        shfl_count_waited(me, lock, since);
-        if (error) return error;
-    }
     shfl_count_taken(me, lock, shared);
     shfl_taken(me, word);
     return 0;
@@ -100,9 +108,9 @@ int shfl_take_until(uint32_t *word, bool shared, clockid_t clock, const struct t
         if (shared) shfl_ring(&shfl_parking_of(lock)->head_asleep);
         if (!deadline || deadline->tv_nsec < 0 || deadline->tv_nsec > 999999999) return EINVAL;
         if (clock != CLOCK_MONOTONIC && clock != CLOCK_REALTIME) return EINVAL;
+        uint64_t since = shfl_clock();
         shfl_count_contended(me, lock);
         shfl_begins_to_wait(me, lock, shared, SHFL_CALLER(me));
-        uint64_t since = shfl_clock();
         error = shfl_wait_until(me, lock, shared, clock, deadline);
         shfl_count_waited(me, lock, since);
         if (error) shfl_happens(me, lock, SHFL_GIVES_UP);
@@ -125,16 +133,15 @@ static SHFL_COLD bool leave_number(struct shfl_thread *me, uint32_t *word, uint3
     return true;
 }
 
-/* After the release the lock's own memory isn't touched: whoever takes the lock next may free it. */
-int shfl_give_back(uint32_t *word) {
-    struct shfl_thread *me = shfl_me;
-    uint32_t number = __atomic_load_n(word, __ATOMIC_ACQUIRE);
-    if (!me || number == 0) return shfl_refuse(EPERM, word, "a thread gives a lock back that it doesn't have");
+SHFL_COLD int shfl_not_given_back(uint32_t *word) { return shfl_refuse(EPERM, word, "a thread gives a lock back that it doesn't have"); }
+
+/* A lock that was taken again, or one that is stale or recorded; or another one of a thread that has such a lock. */
+int shfl_give_back_other(struct shfl_thread *me, uint32_t *word, uint32_t number) {
     uint32_t lock = number - 1;
     if (me->again_count > 0 && give_again(me, lock)) return 0;
-    if (shfl_process.has_stale && lock < shfl_process.lock_count && leave_number(me, word, lock)) return 0;
+    if (me->stale && lock < shfl_process.lock_count && leave_number(me, word, lock)) return 0;
     shfl_happens(me, lock, SHFL_FREES);
-    if (shfl_seat_release(&me->seat, lock) != SHFL_DONE) return shfl_refuse(EPERM, word, "a thread gives a lock back that it doesn't have");
+    if (shfl_seat_release(&me->seat, lock) != SHFL_DONE) return shfl_not_given_back(word);
     shfl_given(me, word);
     shfl_wake_next(me, shfl_parking_of(lock));
     return 0;
@@ -149,6 +156,7 @@ int shfl_end(uint32_t *word) {
     uint32_t number = __atomic_exchange_n(word, 0, __ATOMIC_SEQ_CST);
     shfl_seat_release(&shfl_me->seat, number - 1);
     shfl_given(shfl_me, word);
+    shfl_races_ended(word);
     shfl_take_number_back(number - 1);
     return 0;
 }

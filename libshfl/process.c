@@ -5,6 +5,7 @@
 #include <string.h>
 #include <sys/mman.h>
 #include "inside.h"
+#include "races.h"
 
 struct shfl_process shfl_process;
 __thread struct shfl_thread *shfl_me;
@@ -87,7 +88,7 @@ static void in_child(void) {
         struct shfl_parking *parking = shfl_parking_of(shfl_number_at(k));
         parking->head_asleep = parking->outside = parking->inside = parking->queued = parking->promoted = 0;
         parking->stale = me && shfl_seat_hold(&me->seat, shfl_number_at(k)) != 0;
-        if (parking->stale) shfl_process.has_stale = 1;
+        if (parking->stale) me->stale = 1;
     }
     for (uint32_t k = 0; k < shfl_process.threads_seen; k++)
         if (&shfl_process.threads[k] != me) shfl_process.threads[k].in_round = 0;
@@ -136,6 +137,19 @@ static bool make_room(struct shfl_process *all) {
     return false;
 }
 
+/* Where threads meet here, those who look for races need not look. */
+static void own_room(struct shfl_process *all) {
+    shfl_races_own(all->threads, all->thread_count * sizeof *all->threads);
+    shfl_races_own(all->parkings, ((size_t)all->lock_count + 1) * sizeof *all->parkings);
+    shfl_races_own(all->totals, ((size_t)all->lock_count + 1) * sizeof *all->totals);
+    shfl_races_own(all->counts, all->thread_count * SHFL_COUNTED * sizeof *all->counts);
+}
+
+#define OWN(it) shfl_races_own(&(it), sizeof(it))
+static void own_statics(void) {
+    OWN(shfl_process), OWN(lists), OWN(is_open), OWN(seated), OWN(free_threads), OWN(fresh_locks), OWN(free_locks), OWN(at_end);
+}
+
 static int open_arena(void) {
     struct shfl_process *all = &shfl_process;
     all->lock_count = told("SHFL_LOCKS", SHFL_LOCKS_USUAL);
@@ -147,6 +161,7 @@ static int open_arena(void) {
         free(seats);
         return ENOMEM;
     }
+    own_room(all);
     uint8_t answer = shfl_seats_open(all->lock_count, false, SHFL_RW, 1024, seats, count);
     if (answer == SHFL_DONE) deal(seats);
     free(seats);
@@ -160,6 +175,8 @@ static int open_arena(void) {
 SHFL_COLD int shfl_begin_process(void) {
     static bool has_key;
     int error = 0;
+    own_statics();
+    OWN(has_key);
     shfl_guard_lock(&lists);
     if (!has_key) {
         error = pthread_key_create(&at_end, end_thread);

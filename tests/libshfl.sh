@@ -4,8 +4,8 @@
 # shfl_stat counts (counts.c), the C++ classes (locks.cpp), the checked build's messages, and no visible name but those that begin with shfl_.
 # The preload library under programs that know pthread alone (pthreads.c, conditions.c, standard.cpp), which are first run with libc's own
 # locks, in an arena that is too small, in one that can't be, and with a malloc that takes a mutex (heap.c). Under valgrind where it is there, and with
-# gcc's address and undefined-behaviour checks. An argument is how many rounds each thread of a storm makes. Where there is no C compiler it
-# says so, and passes.
+# gcc's address and undefined-behaviour checks; programs with a race and without one under ThreadSanitizer, helgrind and drd, as far as they are
+# there (races.c). An argument is how many rounds each thread of a storm makes. Where there is no C compiler it says so, and passes.
 set -u
 top="$(cd "$(dirname "$(readlink -f "${BASH_SOURCE[0]}")")/.." && pwd)"
 rounds="${1:-2000}"
@@ -58,12 +58,14 @@ run "room" env SHFL_THREADS=65535 "$room/room" refused
 shown="$(nm -D --defined-only "$room/prefix/lib/libshfl_preload.so" | awk '$3 !~ /^(__)?pthread_(mutex|rwlock|cond)_/')"
 [ -z "$shown" ] || complain "libshfl_preload.so shows other names: $shown"
 nm -D --undefined-only "$room/prefix/lib/libshfl_preload.so" | grep -E 'pthread_(mutex|rwlock|cond)_|alloc' && complain "libshfl_preload.so calls libc's locks or heap"
-for name in pthreads conditions; do "$cc" -std=gnu11 -O2 -g -Wall -Wextra -Werror "$top/tests/libshfl/$name.c" -pthread -o "$room/$name" || exit 1; done
+for name in pthreads conditions errors; do "$cc" -std=gnu11 -O2 -g -Wall -Wextra -Werror "$top/tests/libshfl/$name.c" -pthread -o "$room/$name" || exit 1; done
 "$cc" -std=gnu11 -O2 -fno-builtin -Wall -Wextra -Werror -shared -fPIC "$top/tests/libshfl/heap.c" -pthread -o "$room/heap.so" || exit 1
 preload="$room/prefix/lib/libshfl_preload.so"
 run "libc's locks" "$room/pthreads"
+run "libc's errors" "$room/errors"
 run "libc's condition variables" "$room/conditions" "$((rounds / 8))"
 run "preloaded locks" env LD_PRELOAD="$preload" "$room/pthreads" preloaded
+run "preloaded errors" env LD_PRELOAD="$preload" "$room/errors" preloaded
 run "preloaded condition variables" env LD_PRELOAD="$preload" "$room/conditions" "$((rounds / 8))" preloaded
 run "preloaded with a malloc that takes a mutex" env LD_PRELOAD="$room/heap.so:$preload" "$room/pthreads" preloaded
 if command -v c++ >/dev/null; then
@@ -85,6 +87,32 @@ if command -v valgrind >/dev/null; then
     run "valgrind on the calls" valgrind -q --error-exitcode=9 --fair-sched=yes "$room/posix"
     run "valgrind on a storm" valgrind -q --error-exitcode=9 --fair-sched=yes "$room/storm" 4 50 250
 fi
+# programs without a race and with one, under those who look for races
+ANNOTATED=1 CFLAGS="-O1 -g" "$top/libshfl/install" "$room/prefixraces" >"$room/got" 2>&1 || complain "install for those who look for races: $(tail -n 5 "$room/got")"
+looks() {
+    local what="$1" race
+    shift
+    timeout 300 "$@" none >"$room/got" 2>&1 || complain "$what finds a race where none is, status $?: $(head -n 30 "$room/got")"
+    for race in mutex reader handover; do
+        timeout 300 "$@" "$race" >"$room/got" 2>&1
+        [ $? -eq 66 ] && grep -qE 'takes_own|writes_as_reader|gives_and_writes' "$room/got" || complain "$what doesn't find the race, $race: $(head -n 5 "$room/got")"
+    done
+    echo "tests/libshfl.sh: $what finds the races of a program and none of the library"
+}
+build_races() { "$1" -std=gnu11 -O1 -g "${@:3}" -I "$room/prefixraces/include" "$top/tests/libshfl/races.c" -L "$room/prefixraces/lib" -lshfl -pthread -o "$2"; }
+export LD_LIBRARY_PATH="$room/prefixraces/lib"
+echo 'int main(void) { return 0; }' >"$room/nothing.c"
+for compiler in gcc clang; do
+    command -v "$compiler" >/dev/null && "$compiler" -fsanitize=thread "$room/nothing.c" -o "$room/nothing" 2>/dev/null && "$room/nothing" 2>/dev/null || continue
+    build_races "$compiler" "$room/races.$compiler" -fsanitize=thread || exit 1
+    looks "ThreadSanitizer of $compiler" env TSAN_OPTIONS=exitcode=66 "$room/races.$compiler"
+done
+if command -v valgrind >/dev/null && [ -e /usr/include/valgrind/helgrind.h ]; then
+    build_races "$cc" "$room/races" || exit 1
+    for tool in helgrind drd; do looks "$tool" valgrind -q --tool="$tool" --error-exitcode=66 --fair-sched=yes "$room/races"; done
+fi
+export LD_LIBRARY_PATH="$room/prefix/lib"
+
 CFLAGS="-O1 -g -fsanitize=address,undefined" "$top/libshfl/install" "$room/prefixsan" >"$room/got" 2>&1 || complain "install with checks: $(tail -n 5 "$room/got")"
 for name in posix storm counts; do
     "$cc" -std=gnu11 -O1 -g -fsanitize=address,undefined -I "$room/prefixsan/include" "$top/tests/libshfl/$name.c" -L "$room/prefixsan/lib" \

@@ -16,10 +16,16 @@ static const char by_socket[] = "61120000000000006111040000000000b70000000100000
 
 static struct shfl_pass passes[PASSES];
 static _Atomic int vain[PASSES], head_vain, alone, given_away_holding, slept_through;
-static _Atomic uint64_t ready_at[PASSES]; /* when its turn came */
+/* When the thread by whose step a pass's turn came had called it as well. Until then it is NOT_YET with the time of that step, and NOT_YET
+ * alone from when the pass begins to wait. */
+#define NOT_YET (UINT64_C(1) << 63)
+static _Atomic uint64_t called_at[PASSES];
+static __thread uint32_t calls; /* the pass whose turn came by this thread's step, plus one */
+static __thread uint64_t calling; /* what stands in called_at since then */
 static __thread uint8_t last = SHFL_WENT_ON;
 static __thread bool acquiring;
-static __thread uint64_t overslept; /* until when it slept, where nobody woke it in all that time */
+static __thread uint32_t *own_place; /* where the pass that this thread drives sleeps until its turn */
+static __thread uint64_t overslept; /* when it would have ended to sleep there by itself, where nobody woke it before */
 static int failed;
 
 static void expect(bool right, const char *what, int form) {
@@ -31,19 +37,32 @@ static void expect(bool right, const char *what, int form) {
 uint8_t __real_shfl_advance(struct shfl_pass *pass, bool choice);
 uint8_t __wrap_shfl_advance(struct shfl_pass *pass, bool choice) {
     acquiring = true;
+    own_place = &shfl_place_of(pass->parking, pass->me)->asleep;
     struct shfl_watch next = shfl_watch(pass);
-    if (next.kind == 3) ready_at[next.whom] = shfl_clock();
+    if (next.kind == 3) {
+        calls = next.whom + 1;
+        called_at[next.whom] = calling = NOT_YET | shfl_clock();
+    }
     last = __real_shfl_advance(pass, choice);
     if (last == SHFL_IN_VAIN || last == SHFL_IN_VAIN_OPEN) {
         vain[pass->me]++;
         if (shfl_watch(pass).kind != 1) head_vain++;
     }
     if (last == SHFL_GROUPED_NOBODY) alone++;
-    /* that its turn comes just as its sleep is over is no fault: the one that wakes it may be late */
-    if (overslept && last == SHFL_WENT_ON && ready_at[pass->me] && overslept > ready_at[pass->me] + 50000000) slept_through++;
+    /* it was called, and slept on */
+    if (overslept && last == SHFL_WENT_ON && called_at[pass->me] < overslept) slept_through++;
     overslept = 0;
     if (last == SHFL_RESTS) acquiring = false;
     return last;
+}
+
+/* Takes the lock. Whoever's turn came by a step of this thread has been called when the lock is taken. However late a thread runs on a busy
+ * machine, one that was called before its sleep was to end is woken, or the wakeup was lost. */
+static void take(struct shfl_pass *pass) {
+    called_at[pass->me] = NOT_YET;
+    calls = 0;
+    shfl_lock(pass);
+    if (calls) atomic_compare_exchange_strong(&called_at[calls - 1], &calling, shfl_clock());
 }
 
 /* Between a step that went on and the next one no loop gives the processor away: so not between having the lock word and entering. */
@@ -67,9 +86,10 @@ long __wrap_syscall(long number, ...) {
     struct timespec *most = va_arg(words, struct timespec *);
     va_end(words);
     if (call == FUTEX_WAIT_PRIVATE) gives_away();
+    uint64_t until = call == FUTEX_WAIT_PRIVATE ? shfl_clock() + (uint64_t)most->tv_nsec : 0;
     long told = __real_syscall(number, word, call, value, most, NULL, 0);
-    bool over = call == FUTEX_WAIT_PRIVATE && told != 0 && errno == ETIMEDOUT && most->tv_nsec >= 100000000;
-    overslept = over ? shfl_clock() : 0;
+    bool over = call == FUTEX_WAIT_PRIVATE && word == own_place && told != 0 && errno == ETIMEDOUT;
+    overslept = over && most->tv_nsec >= 100000000 ? until : 0;
     return told;
 }
 
@@ -78,7 +98,10 @@ static void open_all_by(int form, uint16_t limit) {
     uint64_t attrs[PASSES];
     for (int k = 0; k < PASSES; k++) attrs[k] = shfl_attr(sockets[k], 0, 0, 0);
     if (!shfl_open(attrs, PASSES, (uint8_t)form, limit, passes, PASSES)) exit(2);
-    for (int k = 0; k < PASSES; k++) vain[k] = 0, ready_at[k] = 0;
+    for (int k = 0; k < PASSES; k++) {
+        vain[k] = 0;
+        called_at[k] = NOT_YET;
+    }
     head_vain = alone = 0;
 }
 
@@ -127,7 +150,7 @@ static uint32_t hints[THREADS];
 /* Holds until the next head has looked in vain, which it does after its round. Then the hints of the waking ahead say who comes next. */
 static void *take_turn(void *arg) {
     struct shfl_pass *pass = arg;
-    shfl_lock(pass);
+    take(pass);
     order[gains] = (int)pass->me;
     int seen = head_vain;
     if (++gains < THREADS) {
@@ -198,12 +221,12 @@ static void orders(int form) {
 }
 
 static void *wait_once(void *arg) {
-    shfl_lock(arg);
+    take(arg);
     shfl_unlock(arg);
     return NULL;
 }
 
-/* While nothing changes a shuffler that moved nobody makes fewer and fewer rounds. */
+/* While nothing changes a shuffler that moved nobody makes fewer and fewer rounds, at last one in more than ten milliseconds. */
 static void rounds_end(int form) {
     pthread_t threads[3];
     open_all(form);
@@ -212,11 +235,12 @@ static void rounds_end(int form) {
     for (int k = 0; k < 3; k++) {
         if (pthread_create(&threads[k], NULL, wait_once, &passes[k])) exit(2);
     }
+    uint64_t begun = shfl_clock();
     usleep(100000);
-    int rounds = alone;
+    int rounds = alone, most = 90 + (int)((shfl_clock() - begun) / 10000000);
     shfl_unlock(&passes[THREADS]);
     for (int k = 0; k < 3; k++) pthread_join(threads[k], NULL);
-    expect(rounds <= 100, "a shuffler makes round after round", form);
+    expect(rounds <= most, "a shuffler makes round after round", form);
     close_all();
 }
 
@@ -225,7 +249,7 @@ static long counter;
 static void *storm_of(void *arg) {
     struct shfl_pass *pass = arg;
     for (int k = 0; k < 5000; k++) {
-        shfl_lock(pass);
+        take(pass);
         counter++;
         if (k % 512 == 0) usleep(50);
         shfl_unlock(pass);

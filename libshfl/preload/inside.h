@@ -4,7 +4,7 @@
 #ifndef SHFL_PRELOAD_INSIDE_H
 #define SHFL_PRELOAD_INSIDE_H
 #include <pthread.h>
-#include "../inside.h"
+#include "../locking.h"
 
 #if !defined(__linux__) || !defined(__GLIBC__) || __SIZEOF_POINTER__ != 8
 #error "the preload library knows the objects of glibc on machines of 64 bits alone"

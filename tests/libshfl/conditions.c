@@ -17,6 +17,7 @@ static int rounds;
 static pthread_mutex_t gate = PTHREAD_MUTEX_INITIALIZER;
 static pthread_cond_t filled = PTHREAD_COND_INITIALIZER, emptied;
 static long queue, consumed, waiting, woken;
+static pthread_t took; /* the one that used up the last of what was woken */
 
 /* A wait whose deadline passes takes as long as it should, by the clock that it should, and has the mutex again. */
 static void times_out(pthread_cond_t *c, pthread_mutex_t *m, int clock) {
@@ -107,6 +108,7 @@ static void *waits(void *at) {
     pthread_cleanup_push(gives_back, &handled);
     while (woken == 0) IS(at ? pthread_cond_timedwait(&filled, &gate, &late) : pthread_cond_wait(&filled, &gate), 0);
     woken--;
+    took = pthread_self();
     pthread_cleanup_pop(0);
     waiting--;
     IS(pthread_mutex_unlock(&gate), 0);
@@ -158,7 +160,8 @@ static void cancellations(void) {
     }
 }
 
-/* Of two that wait one is signalled, and one is cancelled at the same time: the signal isn't lost. */
+/* Of two that wait one is signalled, and one is cancelled at the same time: the signal isn't lost. Whether the first one was woken it says itself:
+ * glibc may call a thread cancelled whose function has returned, where pthread_cancel came as it left its wait. */
 static void cancelled_with_signal(void) {
     for (int r = 0; r < 10; r++) {
         pthread_t first, second;
@@ -168,16 +171,17 @@ static void cancelled_with_signal(void) {
         until_waiting(2);
         IS(pthread_mutex_lock(&gate), 0);
         woken = 1;
+        took = pthread_self();
         IS(pthread_mutex_unlock(&gate), 0);
         if (r % 2) IS(pthread_cancel(first), 0);
         IS(pthread_cond_signal(&filled), 0);
         if (r % 2 == 0) IS(pthread_cancel(first), 0);
-        if (!result_of(first)) {
-            IS(pthread_mutex_lock(&gate), 0);
-            woken = 1;
-            IS(pthread_mutex_unlock(&gate), 0);
-            IS(pthread_cond_signal(&filled), 0);
-        }
+        IS(pthread_join(first, NULL), 0);
+        IS(pthread_mutex_lock(&gate), 0);
+        bool first_took = pthread_equal(took, first);
+        if (first_took) woken = 1;
+        IS(pthread_mutex_unlock(&gate), 0);
+        if (first_took) IS(pthread_cond_signal(&filled), 0);
         IS(result_of(second), 0);
         IS(woken == 0 && waiting == 0, 1);
     }

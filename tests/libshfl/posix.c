@@ -53,6 +53,8 @@ static void *other_clock(void *at) {
     IS(shfl_mutex_timedlock(at, &before), ETIMEDOUT);
     IS(shfl_mutex_timedlock(at, &bad), EINVAL);
     IS(shfl_mutex_timedlock(at, NULL), EINVAL);
+    IS(shfl_mutex_clocklock(at, CLOCK_REALTIME, NULL), EINVAL);
+    IS(shfl_mutex_clocklock(at, CLOCK_REALTIME, &bad), EINVAL);
     return (void *)(intptr_t)shfl_mutex_clocklock(at, CLOCK_PROCESS_CPUTIME_ID, &soon);
 }
 
@@ -81,18 +83,30 @@ static void mutexes(void) {
     struct timespec over = {1, 0};
     IS(shfl_mutex_timedlock(&m, &over), 0); /* at once, whatever the deadline */
     IS(shfl_mutex_timedlock(&m, &over), EDEADLK);
+    IS(shfl_mutex_clocklock(&m, CLOCK_REALTIME, &over), EDEADLK);
+    IS(shfl_mutex_unlock(&m), 0);
+    IS(shfl_mutex_clocklock(&m, CLOCK_REALTIME, &over), 0);
     IS(shfl_mutex_unlock(&m), 0);
     IS(shfl_mutex_destroy(&m), 0);
     IS(memcmp(&m, &zero, sizeof m), 0);
     IS(shfl_mutex_lock(&m), 0);
     IS(shfl_mutex_unlock(&m), 0);
-    m.number = 1u << 25;
+    m.number = 1u << 25; /* bytes that were never a lock */
     IS(shfl_mutex_lock(&m), EINVAL);
+    IS(shfl_mutex_trylock(&m), EINVAL);
+    IS(shfl_mutex_timedlock(&m, &over), EINVAL);
     IS(shfl_mutex_unlock(&m), EPERM);
+    IS(shfl_mutex_destroy(&m), EINVAL);
 }
 
 static void *other_readers(void *at) {
-    struct timespec soon = in_ms(CLOCK_MONOTONIC, 30), later = in_ms(CLOCK_REALTIME, 30);
+    struct timespec soon = in_ms(CLOCK_MONOTONIC, 30), later = in_ms(CLOCK_REALTIME, 30), over = {1, 0}, bad = {0, -1};
+    IS(shfl_rwlock_timedrdlock(at, &over), ETIMEDOUT);
+    IS(shfl_rwlock_timedwrlock(at, &over), ETIMEDOUT);
+    IS(shfl_rwlock_timedrdlock(at, NULL), EINVAL);
+    IS(shfl_rwlock_timedwrlock(at, &bad), EINVAL);
+    IS(shfl_rwlock_clockrdlock(at, CLOCK_MONOTONIC, &bad), EINVAL);
+    IS(shfl_rwlock_clockwrlock(at, CLOCK_PROCESS_CPUTIME_ID, &later), EINVAL);
     IS(shfl_rwlock_timedrdlock(at, &soon), ETIMEDOUT);
     IS(shfl_rwlock_clockrdlock(at, CLOCK_REALTIME, &later), ETIMEDOUT);
     IS(shfl_rwlock_timedwrlock(at, &soon), ETIMEDOUT);
@@ -107,7 +121,12 @@ static void rwlocks(void) {
     IS(shfl_rwlock_rdlock(&l), 0);
     IS(shfl_rwlock_rdlock(&l), 0); /* again */
     IS(shfl_rwlock_tryrdlock(&l), 0);
+    struct timespec over = {1, 0};
+    IS(shfl_rwlock_timedrdlock(&l, &over), 0);
+    IS(shfl_rwlock_unlock(&l), 0);
     IS(shfl_rwlock_wrlock(&l), EDEADLK);
+    IS(shfl_rwlock_timedwrlock(&l, &over), EDEADLK);
+    IS(shfl_rwlock_clockwrlock(&l, CLOCK_REALTIME, &over), EDEADLK);
     IS(shfl_rwlock_trywrlock(&l), EBUSY);
     IS(beside(other_rdtry_unlock, &l), 0);
     IS(beside(other_wrtry, &l), EBUSY);
@@ -120,10 +139,40 @@ static void rwlocks(void) {
     IS(shfl_rwlock_wrlock(&l), 0);
     IS(shfl_rwlock_rdlock(&l), EDEADLK);
     IS(shfl_rwlock_wrlock(&l), EDEADLK);
+    IS(shfl_rwlock_timedrdlock(&l, &over), EDEADLK);
+    IS(shfl_rwlock_clockrdlock(&l, CLOCK_REALTIME, &over), EDEADLK);
+    IS(shfl_rwlock_timedwrlock(&l, &over), EDEADLK);
+    IS(shfl_rwlock_tryrdlock(&l), EBUSY);
+    IS(shfl_rwlock_trywrlock(&l), EBUSY);
     IS(beside(other_rdtry, &l), EBUSY);
     IS(beside(other_readers, &l), ETIMEDOUT);
     IS(shfl_rwlock_unlock(&l), 0);
     IS(shfl_rwlock_destroy(&l), 0);
+}
+
+static void *other_writes(void *at) {
+    IS(shfl_rwlock_wrlock(at), 0);
+    IS(shfl_rwlock_unlock(at), 0);
+    return NULL;
+}
+
+/* While a writer queues a new reader is refused, and one that has the lock takes it again. */
+static void queued_writer(void) {
+    static shfl_rwlock_t l;
+    static const uint8_t no[16] = {0xb7, 0, 0, 0, 0, 0, 0, 0, 0x95};
+    pthread_t writer;
+    IS(shfl_class_policy(7, 1, no, 16, NULL, 0, NULL), 0);
+    IS(shfl_rwlock_init(&l, 7), 0);
+    IS(shfl_rwlock_rdlock(&l), 0);
+    IS(pthread_create(&writer, NULL, other_writes, &l), 0);
+    while (beside(other_rdtry_unlock, &l) == 0) usleep(1000);
+    IS(beside(other_rdtry, &l), EBUSY);
+    IS(shfl_rwlock_rdlock(&l), 0);
+    IS(shfl_rwlock_tryrdlock(&l), 0);
+    for (int k = 0; k < 3; k++) IS(shfl_rwlock_unlock(&l), 0);
+    IS(pthread_join(writer, NULL), 0);
+    IS(shfl_rwlock_destroy(&l), 0);
+    IS(shfl_class_detach(7), 0);
 }
 
 static shfl_mutex_t gate;
@@ -145,12 +194,15 @@ static void conditions(void) {
     struct timespec soon = in_ms(CLOCK_MONOTONIC, 30), later = in_ms(CLOCK_REALTIME, 30), bad = {0, -1};
     IS(shfl_cond_init(&told), 0);
     IS(shfl_cond_wait(&told, &gate), EPERM);
+    IS(shfl_cond_timedwait(&told, &gate, &soon), EPERM);
+    IS(shfl_cond_clockwait(&told, &gate, CLOCK_REALTIME, &later), EPERM);
     IS(shfl_mutex_lock(&gate), 0);
     IS(shfl_cond_timedwait(&told, &gate, &soon), ETIMEDOUT);
     IS(shfl_mutex_trylock(&gate), EBUSY); /* it has the mutex again */
     IS(shfl_cond_clockwait(&told, &gate, CLOCK_REALTIME, &later), ETIMEDOUT);
     IS(shfl_cond_timedwait(&told, &gate, &bad), EINVAL);
     IS(shfl_cond_timedwait(&told, &gate, NULL), EINVAL);
+    IS(shfl_cond_clockwait(&told, &gate, CLOCK_REALTIME, NULL), EINVAL);
     IS(shfl_cond_clockwait(&told, &gate, CLOCK_THREAD_CPUTIME_ID, &soon), EINVAL);
     IS(shfl_cond_signal(&told), 0);
     IS(shfl_cond_broadcast(&told), 0);
@@ -238,6 +290,7 @@ static void forks(void) {
 int main(void) {
     mutexes();
     rwlocks();
+    queued_writer();
     conditions();
     signals();
     classes();
