@@ -6,6 +6,7 @@
  * is late writes into nothing else; its event has the old record's number and isn't read. */
 #include <string.h>
 #include <sys/mman.h>
+#include "races.h"
 #include "record.h"
 
 #define EVENTS 65536u
@@ -72,8 +73,14 @@ static void drop(void) {
 static bool has_ring(void) {
     if (ring) return true;
     void *at = mmap(NULL, EVENTS * sizeof *ring, PROT_READ | PROT_WRITE, MAP_PRIVATE | MAP_ANONYMOUS | MAP_NORESERVE, -1, 0);
-    if (at != MAP_FAILED) ring = at;
-    return ring != NULL;
+    if (at == MAP_FAILED) return false;
+    shfl_races_own(at, EVENTS * sizeof *ring);
+    shfl_races_own(&ring, sizeof ring);
+    shfl_races_own(&next, sizeof next);
+    shfl_races_own(&recording, sizeof recording);
+    shfl_races_own(&until, sizeof until);
+    ring = at;
+    return true;
 }
 
 int shfl_record_begin(uint32_t lock, const void *address, uint64_t milliseconds, uint32_t *id) {

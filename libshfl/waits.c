@@ -4,10 +4,13 @@
 #include <string.h>
 #include <sys/mman.h>
 #include "inside.h"
+#include "races.h"
 
 static void *map(size_t count) {
     void *at = mmap(NULL, count * sizeof(struct shfl_waits), PROT_READ | PROT_WRITE, MAP_PRIVATE | MAP_ANONYMOUS | MAP_NORESERVE, -1, 0);
-    return at == MAP_FAILED ? NULL : at;
+    if (at == MAP_FAILED) return NULL;
+    shfl_races_own(at, count * sizeof(struct shfl_waits));
+    return at;
 }
 
 static void unmap(struct shfl_waits *at, size_t count) {
