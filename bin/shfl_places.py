@@ -6,7 +6,7 @@ class Places:
     """Where addresses of a process lie."""
 
     def __init__(self, pid):
-        self.maps, self.tables = [], {}
+        self.maps, self.tables, self.extents = [], {}, {}
         try:
             with open(f"/proc/{pid}/maps", encoding="utf-8", errors="replace") as lines:
                 for line in lines:
@@ -20,17 +20,28 @@ class Places:
         """The file's name and what is shown."""
         base, last = {}, ""
         for low, high, offset, name in self.maps:
-            # (the zeroed data of a file follow it without a name)
-            name = name or last
             if name.startswith("/"):
                 base.setdefault(name, low - offset)
+                last = name
             if low <= address < high:
+                # (the zeroed data of a file follow it without a name, and so may what isn't the file's)
+                if not name and last and address < base[last] + self.extent(last):
+                    name = last
                 if name.startswith("["):
                     return name.strip("[]"), f"{name.strip('[]')}+{address - low:#x}"
                 if name:
                     return os.path.basename(name), self.symbol(name, address - base[name], functions)
-            last = name if name.startswith("/") else ""
         return "", f"{address:#x}"
+
+    def extent(self, name):
+        if name not in self.extents:
+            try:
+                with open(name, "rb") as file:
+                    parts = parts_of(file.read(1 << 16))
+                self.extents[name] = max(at + size for at, size in parts) - min(parts)[0]
+            except (OSError, struct.error, ValueError):
+                self.extents[name] = 0
+        return self.extents[name]
 
     def caller(self, address):
         """The same of the call before a return address."""
@@ -66,6 +77,13 @@ def shown(it, places):
     return f"by {caller[1]}" if caller and not has_symbol else where
 
 
+def parts_of(data):
+    """Where the parts of an ELF file of 64 bits are loaded, and their sizes there."""
+    start, (size, count) = struct.unpack_from("<Q", data, 32)[0], struct.unpack_from("<HH", data, 54)
+    heads = [struct.unpack_from("<IIQQQQQ", data, start + k * size) for k in range(count)]
+    return [(it[3], it[6]) for it in heads if it[0] == 1]
+
+
 def symbols(name, wanted):
     """The symbols of a kind (1 data, 2 functions) in an ELF file of 64 bits: offset from where it is loaded, size, name."""
     with open(name, "rb") as file:
@@ -75,9 +93,7 @@ def symbols(name, wanted):
     is_fixed = struct.unpack_from("<H", data, 16)[0] == 2
     heads, size, count = struct.unpack_from("<Q", data, 40)[0], *struct.unpack_from("<HH", data, 58)
     sections = [struct.unpack_from("<IIQQQQIIQQ", data, heads + k * size) for k in range(count)]
-    start, length = struct.unpack_from("<Q", data, 32)[0], struct.unpack_from("<HH", data, 54)
-    loaded = [struct.unpack_from("<IIQQ", data, start + k * length[0]) for k in range(length[1])]
-    first = min((it[3] for it in loaded if it[0] == 1), default=0) if is_fixed else 0
+    first = min(parts_of(data), default=(0, 0))[0] if is_fixed else 0
     found = []
     for kind, at, size, link in ((it[1], it[4], it[5], it[6]) for it in sections):
         if kind not in (2, 11):

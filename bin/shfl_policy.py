@@ -1,7 +1,7 @@
 """Policies of classes: their digits, and how a class comes to have one."""
 import os, re, subprocess, tempfile, time
 
-from shfl_process import Failed, ask, classes_of
+from shfl_process import Failed, ask, classes_of, refusal
 
 TOP = os.path.dirname(os.path.dirname(os.path.realpath(__file__)))
 
@@ -46,14 +46,20 @@ def digits_of(file, profile):
             raise Failed(70, "syncord isn't built, which assembles: bin/build-program syncord")
         return made_by([built, "asm"] + (["2"] if profile == "2" else []), input=text).decode().strip()
     digits = re.sub(rb"\s", b"", text).decode("ascii", "replace").lower()
-    if not re.fullmatch(r"([0-9a-f]{2}){1,4096}", digits):
-        raise Failed(1, f"{file}: no digits of a program of at most 4,096 bytes")
+    if not re.fullmatch(r"([0-9a-f]{2})*", digits):
+        raise Failed(1, f"{file}: no digits of a program")
     return digits
 
 
 def programs_of(file, hook, profile):
     """As `attach` has them: the profile, the digits of should and those of skip."""
     digits = digits_of(file, profile)
+    if not digits:
+        # (which in a request stands for no program)
+        raise Failed(6, refusal(["refused", "1", hook, "0", "0"]))
+    if len(digits) > 8192:
+        # (of a longer one the process takes no more: it has the same fault)
+        digits = digits[:8192 + (len(digits) % 16 or 16)]
     return (profile, "-", digits) if hook == "skip" else (profile, digits, "-")
 
 

@@ -1,11 +1,11 @@
 """What bin/shfl asks a process at its control socket."""
-import os, re, socket
+import os, re, socket, struct, time
 
 # what docs/ERRORS.md says of the faults of programs
 FAULTS = {
     1: "no bytes", 2: "a length that isn't a multiple of 8", 3: "more than 4,096 bytes",
     4: "an opcode that the profile doesn't have (a call, an atomic, a store or the stack among them)", 5: "a register above 9",
-    6: "a field that must be 0", 7: "half of a wide load", 8: "a jump that doesn't lead forward (a loop)",
+    6: "a field that must be 0", 7: "half of a wide load, at the end or as a jump's target", 8: "a jump that doesn't lead forward (a loop)",
     9: "a way that leaves the program", 10: "a register is read that has no value on some way",
     11: "the context's pointer is used as a number",
     12: "a load outside the forty bytes, not aligned to its size, or whose base is a number"}
@@ -39,24 +39,54 @@ def directory():
     return room
 
 
+def connected(place):
+    """(A timeout of Python's own would refuse to stand in line where many ask.)"""
+    at = socket.socket(socket.AF_UNIX, socket.SOCK_STREAM)
+    for it in (socket.SO_SNDTIMEO, socket.SO_RCVTIMEO):
+        at.setsockopt(socket.SOL_SOCKET, it, struct.pack("@ll", 10, 0))
+    try:
+        at.connect(place)
+    except OSError:
+        at.close()
+        raise
+    return at
+
+
 def answer(place, request):
     """What a process answers; a request that it dropped unread, since its time was over, is sent again."""
-    for last in (False, False, True):
+    until = time.monotonic() + 10
+    while True:
         text = b""
         try:
-            with socket.socket(socket.AF_UNIX, socket.SOCK_STREAM) as at:
-                at.settimeout(10)
-                at.connect(place)
+            with connected(place) as at:
                 at.sendall(request)
                 while not re.search(rb"\A(error|refused) .*\n|^end\n", text, re.M):
                     came = at.recv(65536)
                     if not came:
-                        raise OSError("it broke off")
+                        raise ConnectionResetError(None, "it broke off")
                     text += came
             return text
+        except BlockingIOError:
+            raise OSError(None, "no answer in 10 seconds") from None
         except (BrokenPipeError, ConnectionResetError):
-            if last or text:
+            if text or time.monotonic() > until:
                 raise
+        time.sleep(0.05)
+
+
+def sweep(age=60):
+    """Takes away the sockets that processes left which were killed or became another program."""
+    room = directory()
+    for name in os.listdir(room):
+        place = f"{room}/{name}"
+        try:
+            # (one that is new may be about to listen)
+            if re.fullmatch(r"shfl-[0-9]+", name) and time.time() - os.lstat(place).st_mtime >= age:
+                connected(place).close()
+        except ConnectionRefusedError:
+            os.unlink(place)
+        except OSError:
+            pass
 
 
 def ask(pid, *words):

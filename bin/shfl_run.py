@@ -3,13 +3,14 @@ import os, signal, subprocess, sys, time
 
 from shfl_locks import put
 from shfl_policy import TOP, attach
-from shfl_process import Failed, ask, class_of, directory
+from shfl_process import Failed, ask, class_of, directory, sweep
 
 
 def preload():
     """The library that stands in for libc's locks, where there is one."""
     told = os.environ.get("SHFL_PRELOAD", "")
-    for it in ([told] if told else [f"{TOP}/../lib/libshfl_preload.so", "/usr/local/lib/libshfl_preload.so", "/usr/lib/libshfl_preload.so"]):
+    # (where it is installed it stands in lib/shfl)
+    for it in ([told] if told else [f"{TOP}/../libshfl_preload.so", f"{TOP}/../lib/libshfl_preload.so", "/usr/local/lib/libshfl_preload.so", "/usr/lib/libshfl_preload.so"]):
         if os.path.isfile(it):
             return os.path.realpath(it)
     return None
@@ -66,4 +67,8 @@ def do_run(words):
     except Failed as failed:
         print(f"shfl: {failed}", file=sys.stderr)
     status = child.wait()
+    if os.path.lexists(f"{room}/shfl-{child.pid}"):
+        # (it was killed)
+        os.unlink(f"{room}/shfl-{child.pid}")
+    sweep()
     return status if status >= 0 else 128 - status

@@ -17,11 +17,13 @@ static void follow(struct shfl_thread *me, struct shfl_class *its) {
     shfl_store(&me->follows, done ? which : 0);
 }
 
-/* The first question of a round is whether to skip it: the whole round goes by one version. */
+/* The first question of a round is whether to skip it: the whole round goes by one version, or by none where the class has none then. */
 bool shfl_answer(struct shfl_thread *me, uint32_t lock, struct shfl_class *its) {
     struct shfl_ask ask = shfl_seat_ask(&me->seat);
     if (ask.kind == SHFL_ASK_NOTHING) return false;
-    if (ask.kind == SHFL_ASK_SKIP) follow(me, its);
+    if (ask.kind == SHFL_ASK_SKIP && shfl_load(&its->attached)) follow(me, its);
+    else if (ask.kind == SHFL_ASK_SKIP) __atomic_store_n(&me->in_round, 0, __ATOMIC_RELEASE);
+    if (me->in_round == 0) return false;
     bool yes = shfl_seat_answer(&me->seat), skips = ask.kind == SHFL_ASK_SKIP;
     if (!SHFL_LIKELY(shfl_load(&shfl_process.recorded) != lock + 1))
         shfl_record(me, lock, yes ? (skips ? SHFL_YES_SKIP : SHFL_YES_SHOULD) : skips ? SHFL_ASKS_SKIP : SHFL_ASKS_SHOULD, ask.waiter);

@@ -1,6 +1,6 @@
 /* The control socket: where the environment asks for it, one thread answers requests of the same user at a Unix socket. It takes no lock of
- * the program's, and the threads of the program don't wait for it: a client that hangs is dropped after a second, one that asks without end
- * waits for its turn, and what a request is answered stands in requests.c.
+ * the program's, and the threads of the program don't wait for it: a client that hangs is dropped after a second, or sooner where others may
+ * wait, one that asks without end waits for its turn, and what a request is answered stands in requests.c.
  *
  * SHFL_CONTROL names the directory of the socket, which is the user's own and open to nobody else; 1 stands for XDG_RUNTIME_DIR/shfl. */
 #define _GNU_SOURCE
@@ -18,22 +18,50 @@
 #include "control.h"
 #include "record.h"
 
-/* So many clients at a time, each for so many nanoseconds. */
-#define CLIENTS 8
+/* So many clients at a time, each for so many nanoseconds, and for so many while no place is free. */
+#define CLIENTS 16
 #define CLIENT_NS 1000000000u
+#define CLIENT_BRIEF_NS 100000000u
 
 /* A client: its request as far as it came, then what it is answered as far as that went. */
 struct client {
     int socket; /* -1: there is none */
-    uint64_t until;
+    uint64_t since;
     size_t read, sent;
     struct shfl_reply reply; /* its length is 0 until the request is whole */
     char request[SHFL_REQUEST_MOST + 1];
 };
 
 static struct sockaddr_un place = {.sun_family = AF_UNIX};
-static int listening = -1;
 static pid_t owner; /* the process that listens; a child of it doesn't */
+
+/* Guarded by `table`, so that the child of a fork knows them all: the descriptors that are the library's. */
+static shfl_guard table;
+static int listening = -1;
+static ino_t listens_as; /* by which it is known: a program may close what it doesn't know, and the number come to another file */
+static struct client *clients;
+
+void shfl_control_stop(void) { shfl_guard_lock(&table); }
+void shfl_control_go_on(void) { shfl_guard_unlock(&table); }
+
+static bool is_listening(void) {
+    struct stat it;
+    return listening >= 0 && fstat(listening, &it) == 0 && S_ISSOCK(it.st_mode) && it.st_ino == listens_as;
+}
+
+static bool make_listening(void) {
+    struct stat it;
+    shfl_guard_lock(&table);
+    listening = socket(AF_UNIX, SOCK_STREAM | SOCK_CLOEXEC | SOCK_NONBLOCK, 0);
+    if (listening >= 0 && fstat(listening, &it) == 0) listens_as = it.st_ino;
+    shfl_guard_unlock(&table);
+    return listening >= 0;
+}
+
+static void end_listening(void) {
+    if (is_listening()) close(listening);
+    listening = -1;
+}
 
 static void complain(const char *what, const char *where) { fprintf(stderr, "libshfl: no control socket: %s: %s\n", where, what); }
 
@@ -56,12 +84,11 @@ static bool open_socket(void) {
     char room[sizeof place.sun_path];
     if (!directory(room, sizeof room - 20)) return false;
     snprintf(place.sun_path, sizeof place.sun_path, "%.*s/shfl-%ld", (int)(sizeof room - 20), room, (long)getpid());
-    listening = socket(AF_UNIX, SOCK_STREAM | SOCK_CLOEXEC | SOCK_NONBLOCK, 0);
-    if (listening < 0) return complain(strerror(errno), room), false;
+    if (!make_listening()) return complain(strerror(errno), room), false;
     unlink(place.sun_path);
     if (bind(listening, (struct sockaddr *)&place, sizeof place) == 0 && listen(listening, 64) == 0) return true;
     complain(strerror(errno), place.sun_path);
-    shfl_control_forked();
+    end_listening();
     return false;
 }
 
@@ -74,21 +101,30 @@ static bool may_ask(int socket) {
 }
 
 static void drop(struct client *client) {
+    shfl_guard_lock(&table);
     close(client->socket);
     client->socket = -1;
+    shfl_guard_unlock(&table);
 }
 
-static void take_in(struct client *clients, uint64_t now) {
-    for (int k = 0; k < CLIENTS; k++) {
+static bool next_in(struct client *client) {
+    shfl_guard_lock(&table);
+    client->socket = accept4(listening, NULL, NULL, SOCK_CLOEXEC | SOCK_NONBLOCK);
+    shfl_guard_unlock(&table);
+    return client->socket >= 0;
+}
+
+static void take_in(uint64_t now) {
+    if (!is_listening()) listening = -1;
+    for (int k = 0; k < CLIENTS && listening >= 0; k++) {
         struct client *client = &clients[k];
         if (client->socket >= 0) continue;
-        client->socket = accept4(listening, NULL, NULL, SOCK_CLOEXEC | SOCK_NONBLOCK);
-        if (client->socket < 0) {
+        if (!next_in(client)) {
             /* where the program has no descriptor left, the one that asks is left to wait */
             if (errno != EAGAIN) usleep(100000);
             return;
         }
-        client->until = now + CLIENT_NS;
+        client->since = now;
         client->read = client->sent = client->reply.length = 0;
         if (!may_ask(client->socket)) drop(client);
     }
@@ -116,39 +152,56 @@ static void tell(struct client *client) {
     if (client->sent == client->reply.length) drop(client);
 }
 
-/* One look at all sockets, for as long as no client's time is over. */
-static void look(struct client *clients, struct pollfd *at) {
-    uint64_t now = shfl_clock();
-    int free_places = 0, wait = shfl_record_left(now);
-    for (int k = 0; k < CLIENTS; k++) {
-        struct client *client = &clients[k];
-        if (client->socket >= 0 && now >= client->until) drop(client);
-        free_places += client->socket < 0;
-        at[k] = (struct pollfd){client->socket, client->reply.length ? POLLOUT : POLLIN, 0};
-        if (client->socket < 0) continue;
-        int left = (int)((client->until - now) / 1000000) + 1;
-        if (wait < 0 || left < wait) wait = left;
-    }
-    at[CLIENTS] = (struct pollfd){free_places ? listening : -1, POLLIN, 0};
-    if (poll(at, CLIENTS + 1, wait) <= 0) return;
-    for (int k = 0; k < CLIENTS; k++) {
-        if (clients[k].socket < 0 || !at[k].revents) continue;
-        if (clients[k].reply.length) tell(&clients[k]);
-        else hear(&clients[k]);
-    }
-    if (at[CLIENTS].revents) take_in(clients, shfl_clock());
+static int free_places(void) {
+    int count = 0;
+    for (int k = 0; k < CLIENTS; k++) count += clients[k].socket < 0;
+    return count;
 }
 
-static void *serve(void *room) {
-    struct client *clients = room;
+/* Whom to look at, and for how many milliseconds; whose time is over is dropped. */
+static int whom_to_hear(struct pollfd *at) {
+    uint64_t now = shfl_clock(), most = free_places() > 0 ? CLIENT_NS : CLIENT_BRIEF_NS;
+    int wait = shfl_record_left(now);
+    for (int k = 0; k < CLIENTS; k++) {
+        struct client *client = &clients[k];
+        if (client->socket >= 0 && now - client->since >= most) drop(client);
+        at[k] = (struct pollfd){client->socket, client->reply.length ? POLLOUT : POLLIN, 0};
+        if (client->socket < 0) continue;
+        int left = (int)((client->since + most - now) / 1000000) + 1;
+        if (wait < 0 || left < wait) wait = left;
+    }
+    at[CLIENTS] = (struct pollfd){free_places() > 0 ? listening : -1, POLLIN, 0};
+    return wait;
+}
+
+static void *serve(void *none) {
     struct pollfd at[CLIENTS + 1];
-    for (int k = 0; k < CLIENTS; k++) clients[k].socket = -1;
-    for (;;) look(clients, at);
-    return NULL;
+    for (;;) {
+        int wait = whom_to_hear(at);
+        if (poll(at, CLIENTS + 1, wait) <= 0) continue;
+        for (int k = 0; k < CLIENTS; k++) {
+            if (clients[k].socket < 0 || !at[k].revents) continue;
+            if (clients[k].reply.length) tell(&clients[k]);
+            else hear(&clients[k]);
+        }
+        if (at[CLIENTS].revents) take_in(shfl_clock());
+    }
+    return none;
+}
+
+/* Places for clients: a page of them is taken where it is first used. */
+static bool make_places(void) {
+    struct client *room = mmap(NULL, CLIENTS * sizeof *room, PROT_READ | PROT_WRITE, MAP_PRIVATE | MAP_ANONYMOUS | MAP_NORESERVE, -1, 0);
+    if (room == MAP_FAILED) return false;
+    for (int k = 0; k < CLIENTS; k++) room[k].socket = -1;
+    shfl_guard_lock(&table);
+    clients = room;
+    shfl_guard_unlock(&table);
+    return true;
 }
 
 /* The thread takes none of the program's signals. */
-static bool begin(void *room) {
+static bool begin(void) {
     pthread_attr_t attr;
     pthread_t thread;
     sigset_t all, before;
@@ -157,7 +210,7 @@ static bool begin(void *room) {
     pthread_attr_setdetachstate(&attr, PTHREAD_CREATE_DETACHED);
     pthread_attr_setstacksize(&attr, 256 * 1024);
     pthread_sigmask(SIG_SETMASK, &all, &before);
-    bool done = pthread_create(&thread, &attr, serve, room) == 0;
+    bool done = pthread_create(&thread, &attr, serve, NULL) == 0;
     pthread_sigmask(SIG_SETMASK, &before, NULL);
     pthread_attr_destroy(&attr);
     return done;
@@ -170,22 +223,24 @@ SHFL_COLD void shfl_control(void) {
     if (before == now || !__atomic_compare_exchange_n(&begun, &before, now, false, __ATOMIC_SEQ_CST, __ATOMIC_SEQ_CST)) return;
     int error = errno;
     if (open_socket()) {
-        size_t size = CLIENTS * sizeof(struct client);
-        void *room = mmap(NULL, size, PROT_READ | PROT_WRITE, MAP_PRIVATE | MAP_ANONYMOUS | MAP_NORESERVE, -1, 0);
         owner = now;
-        if (room == MAP_FAILED || !begin(room)) {
+        if (!make_places() || !begin()) {
             complain("no thread or no memory", place.sun_path);
             unlink(place.sun_path);
+            end_listening();
             owner = 0;
         }
     }
     errno = error;
 }
 
-/* The socket is the parent's; the child has one of its own as soon as a new thread of it uses a lock. */
+/* The socket and who asks there are the parent's; the child has one of its own as soon as a new thread of it uses a lock. */
 void shfl_control_forked(void) {
-    if (listening >= 0) close(listening);
-    listening = -1;
+    end_listening();
+    for (int k = 0; clients && k < CLIENTS; k++)
+        if (clients[k].socket >= 0) close(clients[k].socket);
+    if (clients) munmap(clients, CLIENTS * sizeof *clients);
+    clients = NULL;
     shfl_record_forked();
 }
 

@@ -241,9 +241,12 @@ bool shfl_answer(struct shfl_thread *me, uint32_t lock, struct shfl_class *its);
 int shfl_class_sum(unsigned class_of, struct shfl_class_stat *out, struct shfl_waits *waits);
 size_t shfl_class_programs(unsigned class_of, struct shfl_programs *out, uint8_t *room, size_t size); /* how many bytes they have */
 
-/* control.c: begins to listen where the environment asks for it, once a process; and in the child of a fork ends to. */
+/* control.c: begins to listen where the environment asks for it, once a process; and in the child of a fork ends to. Between stop and go_on
+ * no descriptor of it comes or goes. */
 void shfl_control(void);
 void shfl_control_forked(void);
+void shfl_control_stop(void);
+void shfl_control_go_on(void);
 
 /* checked.c: in the checked build a call that no right program makes ends it, and a thread knows where the locks are that it has. */
 int shfl_refuse(int error, const void *lock, const char *what);

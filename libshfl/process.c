@@ -64,11 +64,13 @@ static void before_fork(void) {
     for (uint32_t k = 0; k < SHFL_COUNTED; k++) shfl_guard_lock(&shfl_process.moving[k]);
     shfl_guard_lock(&shfl_process.ending);
     shfl_heap_stop();
+    shfl_control_stop();
     forks = true;
 }
 
 static void after_fork(void) {
     forks = false;
+    shfl_control_go_on();
     shfl_heap_go_on();
     shfl_guard_unlock(&shfl_process.ending);
     for (uint32_t k = SHFL_COUNTED; k-- > 0;) shfl_guard_unlock(&shfl_process.moving[k]);
@@ -88,6 +90,8 @@ static void in_child(void) {
         parking->stale = me && shfl_seat_hold(&me->seat, shfl_number_at(k)) != 0;
         if (parking->stale) me->stale = 1;
     }
+    for (uint32_t k = 0; k < shfl_process.threads_seen; k++)
+        if (&shfl_process.threads[k] != me) shfl_process.threads[k].in_round = 0;
     seated = me != NULL;
     after_fork();
     shfl_control_forked();

@@ -12,7 +12,8 @@
 #define LOCK_MOST 1300
 #define EVENT_MOST 120
 #define WORDS 7
-#define PROGRAM_MOST 4096
+/* One instruction more than a program may have: that it is too long is said by the verifier. */
+#define PROGRAM_MOST 4104
 
 /* The words of a request, each of which ends with a zero. */
 struct request { int count; char *words[WORDS]; };

@@ -231,7 +231,8 @@ static void drive(struct waiter *waiter) {
     bool grouped = false;
     struct shfl_watch watch = shfl_seat_watch(seat);
     for (;;) {
-        bool choice = shfl_load(&waiter->its->attached) && shfl_answer(waiter->me, waiter->lock, waiter->its);
+        bool asks = waiter->me->in_round || shfl_load(&waiter->its->attached);
+        bool choice = asks && shfl_answer(waiter->me, waiter->lock, waiter->its);
         uint8_t came = shfl_seat_step(seat, choice);
         if (came == SHFL_RESTS) break;
         if (came == SHFL_LOOKS_AGAIN) {
