@@ -185,7 +185,10 @@ fn readers_share_and_a_writer_excludes(rt: HostRuntime) -> Result<(), Fail> {
     let Ok(mut b) = locks.enter(rt.alloc(), last, PLAIN, 1) else {
         panic!(rt; "memory for one lock")
     };
-    assert_eq!(rt; beside_a_reader(&rt, &mut a, &mut b), Ok((7, LockError::Busy)));
+    assert_eq!(rt;
+        beside_a_reader(&rt, &mut a, &mut b),
+        Ok((7, LockError::Busy))
+    );
     assert_eq!(rt; put(&mut b, 0, 8), Ok(()));
     assert_eq!(rt; seen(&mut a, 0), Ok(8));
     Ok(())

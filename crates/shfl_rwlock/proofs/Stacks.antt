@@ -61,7 +61,7 @@ pub mode-reverse : (l : ℕ) (hs : Holds) → AreApart hs → mode_held l (rever
 mode-reverse l [] a = refl
 mode-reverse l (h ∷ hs) a = ap (mode_held l) (reverse-append (h ∷ []) hs) ∙ dite (ℕ_discrete l h.0)
     (λ e. found-last l h (reverse hs) (mode-reverse l hs a.1 ∙ subst (λ i. mode_held i hs ≡ None) (sym e) a.0)
-        ∙ subst (λ i. mode_held i (h ∷ []) ≡ mode_held i (h ∷ hs)) (sym e) (at-head h.0 h.1 [] ∙ sym (at-head h.0 h.1 hs)))
+    ∙ subst (λ i. mode_held i (h ∷ []) ≡ mode_held i (h ∷ hs)) (sym e) (at-head h.0 h.1 [] ∙ sym (at-head h.0 h.1 hs)))
     (λ n. found-before l h (reverse hs) n ∙ (mode-reverse l hs a.1 ∙ sym (past-head h.0 l h.1 hs n)))
 
 module _ (id : ArenaId) where

@@ -4,9 +4,9 @@ ghost use Rattle.shfl_line.specs.declared.events.Mode.TheVariants.{Read, Write};
 ghost use Rattle.shfl_rwlock.specs.RwSeats.{MayLock, Refuses};
 
 use crate::guard::{ReadGuard, RwHold, WriteGuard};
+use crate::refusals::LockError;
 use crate::seat::RwSeat;
 use shfl_line::Mode;
-use crate::refusals::LockError;
 
 impl<'a, T: Drop> RwSeat<'a, T> {
     /// Locks a value to read it, by one operation, where nobody writes it and nobody is to have it before.

@@ -9,9 +9,9 @@ ghost use Rattle.shfl_rwlock.specs.declared.refusals.LockError.TheVariants.{Busy
 ghost use Rattle.shfl_rwlock.specs.RwSeats.{MayLock, Refuses};
 
 use crate::guard::{ReadGuard, RwHold, WriteGuard};
+use crate::refusals::LockError;
 use shfl_arena::{Arena, ArenaSeat, free, wait_for};
 use shfl_line::{Attr, Chooser, Mode};
-use crate::refusals::LockError;
 use std::alloc::Global;
 use std::marker::Model;
 use std::sync::{RwLock, Wait};
