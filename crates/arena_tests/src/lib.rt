@@ -4,6 +4,8 @@
 #[cfg(test)]
 mod draws;
 #[cfg(test)]
+mod shared;
+#[cfg(test)]
 mod sizes;
 #[cfg(test)]
 mod threads;
