@@ -32,9 +32,9 @@ for tag in html head style body header main script table; do
 done
 grep -n 'src=\|href=\|https\?:\|@import\|url(' "$page/around" && { echo "FAILED a page loads something from outside"; failed=1; }
 printf 'x\n' | bin/draw --html >"$page/page" 2>"$page/told"
-[ "$?" -eq 1 ] && [ ! -s "$page/page" ] && [ "$(cat "$page/told")" = "syncord: line 1: fault 2" ] || { echo "FAILED a page of no report"; failed=1; }
+[ "$?" -eq 1 ] && [ ! -s "$page/page" ] && [ "$(cat "$page/told")" = "draw: line 1: fault 2" ] || { echo "FAILED a page of no report"; failed=1; }
 bin/draw --html --all </dev/null >"$page/page" 2>"$page/told"
-[ "$?" -eq 2 ] && [ ! -s "$page/page" ] && [ "$(cat "$page/told")" = "syncord: words" ] || { echo "FAILED --html beside another word"; failed=1; }
+[ "$?" -eq 2 ] && [ ! -s "$page/page" ] && [ "$(cat "$page/told")" = "draw: words" ] || { echo "FAILED --html beside another word"; failed=1; }
 # the program's own name isn't looked at
 (exec -a $'\xff' crates/syncord_draw/out/syncord_draw --text <examples/half-done-relink.line.out) | cmp -s - <(bin/draw --text <examples/half-done-relink.line.out) ||
     { echo "FAILED a name of the program that is no text"; failed=1; }

@@ -1,7 +1,7 @@
 //! The program as one call: words and bytes in, a status, a picture and an error line out.
 ghost use Rattle.std.specs.Prelude.{◌≡◌, map, string_bytes, codes, Some, None};
 ghost use Rattle.syncord_endings.specs.Traffic.{through, Told};
-ghost use Rattle.syncord_endings.specs.Endings.{Answers, Decides};
+ghost use Rattle.syncord_endings.specs.Endings.{AnswersAs, Decides};
 ghost use Rattle.syncord_draw.specs.declared.commands.Command.{Command as Wanted};
 ghost use Rattle.syncord_draw.specs.Commands.{command_in};
 ghost use Rattle.syncord_draw.specs.Pictures.{Draws, Refuses};
@@ -10,7 +10,7 @@ use crate::commands::{Command, command_of};
 use crate::drawing::drawn;
 use std::alloc::Global;
 use syn_outer::{Sink, Source};
-use syncord_endings::{Refusal, Work, perform, tell};
+use syncord_endings::{Refusal, Work, perform_as, tell};
 
 impl Work for Command {
     ghost use Rattle.syncord_draw.specs.Pictures.{Draws, Refuses};
@@ -38,11 +38,11 @@ pub fn draw<R: Source, W: Sink, E: Sink>(
         (src.new ≡ src.old) × (out.new ≡ out.old) }
     ensures told { command_in (map string_bytes words.now) ≡ None →
         Told (through E.held E.faults err.old err.new)
-        (codes "syncord: words\n") }
+        (codes "draw: words\n") }
 
     // The status has its cause.
     ensures answer { (command : Wanted) → command_in (map string_bytes words.now) ≡ Some command →
-        Answers (Draws command) Refuses
+        AnswersAs (codes "draw") (Draws command) Refuses
         (through R.left R.faults src.old src.new)
         (through W.held W.faults out.old out.new)
         (through E.held E.faults err.old err.new) result }
@@ -54,9 +54,9 @@ pub fn draw<R: Source, W: Sink, E: Sink>(
         (through W.held W.faults out.old out.new) result }
 {
     match command_of(words) {
-        Some(command) => perform(&command, alloc, src, out, err),
+        Some(command) => perform_as(b"draw", &command, alloc, src, out, err),
         None => {
-            tell(err, b"syncord: words\n");
+            tell(err, b"draw: words\n");
             2
         }
     }

@@ -1,12 +1,12 @@
 -- How a command ends: its status, what it read and wrote, and the line on the error stream.
 use Rattle.std.specs.Prelude.{◌≡◌, ◌⊎◌, ◌<◌, ◌≤◌, ℕ, List, [], ◌++◌, length, take, Some, codes}
 use Rattle.std.specs.Fmt.{decimal}
-use Rattle.syn_outer.specs.Bytes.{ReadsWhole, ConsumesMoreThan}
+use Rattle.syn_outer.specs.Bytes.{ReadsWhole, ConsumesMoreThan, ConsumesAtMost}
 use Rattle.syncord_endings.specs.declared.ending.Ending.{Ending}
 use Rattle.syncord_endings.specs.declared.ending.Ending.TheVariants.{Done, NoReport, TooLarge, ReadFault, WriteFault}
 use Rattle.syncord_endings.specs.declared.ending.Refusal.{Refusal}
 use Rattle.syncord_endings.specs.declared.ending.Refusal.TheVariants.{Line, Program, Slot, Register, NoMemory}
-use Rattle.syncord_endings.specs.Traffic.{Traffic, Failed, Takes, Told}
+use Rattle.syncord_endings.specs.Traffic.{Traffic, Failed, Sound, Takes, Told}
 
 abbrev pub status_of_refusal : Refusal → ℕ
 status_of_refusal (Line line what) = 1
@@ -58,6 +58,19 @@ most_bytes = 16777216
 -- all that the source had left was read
 abbrev pub Reads : Traffic → List ℕ → Type 0
 Reads input bytes = ReadsWhole most_bytes input.before input.after bytes
+
+-- a command ended before it had its input: it took more than the limit, or the input failed, or memory ran out
+abbrev pub EndsUnread : Traffic → Ending → Type 0
+EndsUnread input TooLarge = ConsumesMoreThan most_bytes input.before input.after × Sound input
+EndsUnread input ReadFault = ConsumesAtMost most_bytes input.before input.after × Failed input
+EndsUnread input (NoReport NoMemory) = ConsumesAtMost most_bytes input.before input.after × Sound input
+EndsUnread input ending = ⊥
+
+-- a command has written this text whole and is done, or the output failed behind a front of it
+abbrev pub Delivers : List ℕ → Traffic → Ending → Type 0
+Delivers text output Done = Takes output text
+Delivers text output (WriteFault written) = Takes output (take written text) × (written < length text) × Failed output
+Delivers text output ending = ⊥
 
 -- the refusal is one of these bytes; want of memory is free
 abbrev pub Due : (Refusal → Type 0) → Refusal → Type 0

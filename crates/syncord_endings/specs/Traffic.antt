@@ -1,5 +1,5 @@
 -- What a call did to a source or a sink, as far as that tells, and texts that a sink took whole or in part.
-use Rattle.std.specs.Prelude.{◌⊎◌, ◌≤◌, ℕ, List, length, take, Bool, true, false, Option}
+use Rattle.std.specs.Prelude.{◌≡◌, ◌⊎◌, ◌≤◌, ℕ, List, length, take, Bool, true, false, Option}
 use Rattle.syn_outer.specs.Causes.{Rose}
 use Rattle.syn_outer.specs.Bytes.{Took}
 
@@ -25,6 +25,10 @@ through bytes faults before after = traffic (bytes before) (bytes after) (faults
 -- it failed in this call
 abbrev pub Failed : Traffic → Type 0
 Failed t = Rose t.faults_before t.faults_after
+
+-- it didn't
+abbrev pub Sound : Traffic → Type 0
+Sound t = t.faults_after ≡ t.faults_before
 
 -- a sink took these bytes
 abbrev pub Takes : Traffic → List ℕ → Type 0

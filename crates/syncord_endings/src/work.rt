@@ -6,12 +6,10 @@ ghost use Rattle.syncord_endings.specs.Traffic.{through};
 ghost use Rattle.syncord_endings.specs.Endings.{Due, Ends, Answers, AnswersAs, Decides, most_bytes};
 
 use crate::ending::{Ending, Refusal};
+use crate::streams::{deliver, read_input};
 use crate::telling::tell_ending_as;
 use std::alloc::Global;
-use syn_outer::{ReadError, Sink, Source, read_all, write_all};
-
-/// The largest input, in bytes.
-pub const MOST_BYTES: usize = 16_777_216;
+use syn_outer::{Sink, Source};
 
 /// What a command does between reading and writing.
 pub trait Work {
@@ -35,19 +33,13 @@ fn ending<K: Work, R: Source, W: Sink>(work: &K, alloc: Global, src: &mut R, out
         (through W.held W.faults out.old out.new) result }
     ensures reads { CallsAtMost (most_bytes + 1) (R.calls src.old) (R.calls src.new) }
 {
-    let bytes = match read_all(alloc, src, MOST_BYTES) {
+    let bytes = match read_input(alloc, src) {
         Ok(bytes) => bytes,
-        Err(ReadError::ReadFault) => return Ending::ReadFault,
-        Err(ReadError::TooLarge) => return Ending::TooLarge,
-        Err(ReadError::NoMemory) => return Ending::NoReport(Refusal::NoMemory),
+        Err(ending) => return ending,
     };
-    let text = match work.report(alloc, &bytes) {
-        Ok(text) => text,
-        Err(refusal) => return Ending::NoReport(refusal),
-    };
-    match write_all(out, &text) {
-        Ok(()) => Ending::Done,
-        Err(fault) => Ending::WriteFault(fault.written),
+    match work.report(alloc, &bytes) {
+        Ok(text) => deliver(out, &text),
+        Err(refusal) => Ending::NoReport(refusal),
     }
 }
 
@@ -67,7 +59,6 @@ pub fn perform_as<K: Work, R: Source, W: Sink, E: Sink>(
     ensures complete { Decides (K.refuses work.now)
         (through R.left R.faults src.old src.new)
         (through W.held W.faults out.old out.new) result }
-    // It reads at most once a byte and once for the end, which a source that counts its calls tells.
     ensures reads { CallsAtMost (most_bytes + 1) (R.calls src.old) (R.calls src.new) }
 {
     let ending = ending(work, alloc, src, out);

@@ -9,8 +9,8 @@ use crate::line::schedule_of;
 use crate::locks::write_report;
 use shfl_sched::RunError;
 use std::alloc::Global;
-use syn_outer::{ReadError, Sink, Source, read_all};
-use syncord_endings::{Ending, MOST_BYTES, Refusal, tell_ending};
+use syn_outer::{Sink, Source};
+use syncord_endings::{Ending, Refusal, read_input, tell_ending};
 
 /// Reads the schedule, runs it, and writes its report in pieces.
 fn ending<R: Source, W: Sink>(alloc: Global, src: &mut R, out: &mut W) -> Ending
@@ -19,11 +19,9 @@ fn ending<R: Source, W: Sink>(alloc: Global, src: &mut R, out: &mut W) -> Ending
         (through W.held W.faults out.old out.new) result }
     ensures reads { CallsAtMost (most_bytes + 1) (R.calls src.old) (R.calls src.new) }
 {
-    let bytes = match read_all(alloc, src, MOST_BYTES) {
+    let bytes = match read_input(alloc, src) {
         Ok(bytes) => bytes,
-        Err(ReadError::ReadFault) => return Ending::ReadFault,
-        Err(ReadError::TooLarge) => return Ending::TooLarge,
-        Err(ReadError::NoMemory) => return Ending::NoReport(Refusal::NoMemory),
+        Err(ending) => return ending,
     };
     let schedule = match schedule_of(alloc, &bytes) {
         Ok(schedule) => schedule,

@@ -4,3 +4,4 @@ pub mod SocketAccepted
 pub mod GeneratedRuns
 pub mod Runs
 pub mod Mapped
+pub mod Delivered

@@ -6,8 +6,8 @@ ghost use Rattle.syncord_replay.specs.Sums.{Summarizes, Writes, Concludes};
 
 use crate::outcome::Run;
 use std::alloc::Global;
-use syn_outer::{Sink, write_all};
-use syncord_endings::{Ending, Refusal, tell_ending};
+use syn_outer::Sink;
+use syncord_endings::{Ending, Refusal, deliver, tell_ending};
 use trace_text::{NoMemory, Trace, generate, summary};
 
 /// The summary of what a run of the trace that the seed makes leaves.
@@ -54,13 +54,9 @@ fn ending<F: Fn(Global, &Trace) -> Result<Run, NoMemory>, W: Sink>(
     ensures { Writes (Summarizes seed workers calls)
         (through W.held W.faults out.old out.new) result }
 {
-    let text = match summary_of(runner, alloc, seed, workers, calls) {
-        Ok(text) => text,
-        Err(NoMemory) => return Ending::NoReport(Refusal::NoMemory),
-    };
-    match write_all(out, &text) {
-        Ok(()) => Ending::Done,
-        Err(fault) => Ending::WriteFault(fault.written),
+    match summary_of(runner, alloc, seed, workers, calls) {
+        Ok(text) => deliver(out, &text),
+        Err(NoMemory) => Ending::NoReport(Refusal::NoMemory),
     }
 }
 

@@ -9,8 +9,8 @@ ghost use Rattle.syncord_replay.specs.Replays.{Reports, Refuses};
 use crate::outcome::Run;
 use crate::replay::replay;
 use std::alloc::Global;
-use syn_outer::{ReadError, Sink, Source, read_all, write_all};
-use syncord_endings::{Ending, MOST_BYTES, Refusal, tell_ending};
+use syn_outer::{Sink, Source};
+use syncord_endings::{Ending, deliver, read_input, tell_ending};
 use trace_text::{NoMemory, Trace};
 
 /// Reads, replays, and writes the report.
@@ -27,19 +27,13 @@ fn ending<F: Fn(Global, &Trace) -> Result<Run, NoMemory>, R: Source, W: Sink>(
         (through W.held W.faults out.old out.new) result }
     ensures reads { CallsAtMost (most_bytes + 1) (R.calls src.old) (R.calls src.new) }
 {
-    let bytes = match read_all(alloc, src, MOST_BYTES) {
+    let bytes = match read_input(alloc, src) {
         Ok(bytes) => bytes,
-        Err(ReadError::ReadFault) => return Ending::ReadFault,
-        Err(ReadError::TooLarge) => return Ending::TooLarge,
-        Err(ReadError::NoMemory) => return Ending::NoReport(Refusal::NoMemory),
+        Err(ending) => return ending,
     };
-    let text = match replay(runner, alloc, bytes) {
-        Ok(text) => text,
-        Err(refusal) => return Ending::NoReport(refusal),
-    };
-    match write_all(out, &text) {
-        Ok(()) => Ending::Done,
-        Err(fault) => Ending::WriteFault(fault.written),
+    match replay(runner, alloc, bytes) {
+        Ok(text) => deliver(out, &text),
+        Err(refusal) => Ending::NoReport(refusal),
     }
 }
 

@@ -1,7 +1,15 @@
 use Rattle.std.proofs.Common.{refl}
 use Rattle.shfl_sched.specs.Report.{line_report}
-use Rattle.syncord_line.specs.Reports.{Reports}
+use Rattle.syncord_endings.specs.Traffic.{through}
+use Rattle.syncord_endings.proofs.Parts.{Took-nil}
+use Rattle.syncord_endings.proofs.Ends.{ends_unread}
+use Rattle.syncord_line.specs.Reports.{Reports, Refuses}
 use Rattle.syncord_line.proofs.run.ending.Goals as goal
+
+pub returns-in-Err-clause-ends : goal.returns-in-Err-clause-ends
+returns-in-Err-clause-ends g c =
+    ends_unread Reports Refuses (through g.R.Source.left g.R.Source.faults c.args.src.now c.read_input.new.src)
+    (through g.W.Sink.held g.W.Sink.faults c.args.out.now c.args.out.now) c.in-Err.ending c.in-Err.ensures.unread (Took-nil (g.W.Sink.held c.args.out.now))
 
 pub returns-clause-ends : goal.returns-clause-ends
 returns-clause-ends g c =
