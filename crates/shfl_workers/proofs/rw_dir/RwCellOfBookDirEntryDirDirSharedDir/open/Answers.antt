@@ -37,6 +37,6 @@ returns-clause-passes c =
     (λ k lt. record {
       of_dir = (refl, refl);
       number_is = refl;
-      none_made = refl;
+      none_made = (refl, tt);
       left_is = ap (λ l. slice_index l k) counts ∙ sh.each k (omega (arith, lt, ok, n, many));
     })
