@@ -5,3 +5,4 @@ mod Openings
 mod PoolHistory
 mod Running
 mod Takings
+mod Workers

@@ -1,5 +1,6 @@
 //! The pool's opening.
 ghost use Rattle.std.specs.Prelude.{◌≡◌, ◌+◌, ◌*◌, ◌<◌, ◌≤◌, ◌++◌, List, All, length, map, vec_len, vec_capacity, IfOk, OnOk};
+ghost use Rattle.shfl_line.specs.Words.{attr_word};
 ghost use Rattle.shfl_cell.specs.Cells.{AreInOrder};
 ghost use Rattle.call_queue.specs.Queues.{IsFresh, LastHasTheRest};
 ghost use Rattle.call_pool.specs.Pools.{IsPassOf, IsUnused, HaveAttrs, FirstHasTheRest, ArePaired};
@@ -91,6 +92,7 @@ impl<O: Object + Drop> PoolOf<O::Call, Book<Numbered<O>>> {
             × (r.0.cell.count ≡ length attrs.now)) }
         ensures rules { IfOk result (λ r.
             r.0.cell.id.rules ≡ record { limit = limit; form = Form.Park }) }
+        ensures attr_words { IfOk result (λ r. r.0.cell.id.attrs ≡ map attr_word attrs.now) }
         ensures count { IfOk result (λ r. vec_len r.1 ≡ length attrs.now) }
         ensures passes { IfOk result (λ r.
             All (IsPassOf O.call_numbers O.admits r.0) r.1.items) }

@@ -5,8 +5,11 @@ ghost use Rattle.dir_table.specs.Meanings.{reply_at, state_after, Admits, IsAdmi
 ghost use Rattle.hist_log.specs.History.{operations, state_left};
 ghost use Rattle.hist_log.specs.Numbers.{numbers, inner};
 ghost use Rattle.hist_log.specs.PoolHistories.{IsPoolHistory};
+ghost use Rattle.shfl_table.specs.Books.{actions, HavePlaces};
+ghost use Rattle.shfl_table.specs.Histories.{HasSeen};
 ghost use Rattle.shfl_cell.specs.Cells.{number};
-ghost use Rattle.call_pool.specs.Pools.{IsPassOf, AreNumbered};
+ghost use Rattle.call_pool.specs.Pools.{IsPassOf, AreNumbered, calls_by};
+ghost use Rattle.call_pool.specs.Runs.{IsLeftBy};
 
 use crate::pool::{Pool, PoolPass};
 use crate::threads::{SharedCalls, take_in_threads};
@@ -58,6 +61,13 @@ fn close_in_order(pool: Pool<Dir>, passes: Vec<PoolPass<Dir>>) -> (Dir, Vec<Entr
     ensures state { state_numbers result.0
         ≡ state_left (λ state call. state_after state (inner call)) pool.cell.opening
         (operations (numbers call_numbers) reply_numbers result.1.items) }
+    ensures taken { All (λ p. calls_by (number p.cell) result.1.items ≡ p.taker.taken)
+        passes.items }
+    ensures seen { All (λ p. HasSeen
+        (actions (numbers call_numbers) reply_numbers result.1.items)
+        (number p.cell) p.cell.seen) passes.items }
+    ensures workers { All (λ e. e.worker < vec_len passes) result.1.items }
+    ensures places { HavePlaces result.1.items }
 {
     pool.close(passes)
 }
@@ -84,6 +94,14 @@ pub fn run_pool<G: Gate + Sync, R: Threads + Wait + Sync>(
     ensures state { IfOk result (λ r. state_numbers r.0
         ≡ state_left (λ state call. state_after state (inner call)) (state_numbers dir)
         (operations (numbers call_numbers) reply_numbers r.1.items)) }
+
+    // Each entry is one of these takers', and its receipt is its place.
+    ensures workers { IfOk result (λ r. All (λ e. e.worker < length attrs.now) r.1.items) }
+    ensures places { IfOk result (λ r. HavePlaces r.1.items) }
+
+    // The calls of each worker's entries are just those that its pass took of such a pool.
+    ensures passes { IfOk result (λ r. IsLeftBy call_numbers reply_numbers Admits
+        (state_numbers dir) attrs.now calls.now r.1.items) }
 {
     let (pool, mut passes) = Pool::<Dir>::open(alloc, dir, attrs, BATCH, calls)?;
     take_in_threads(rt, &pool, policy, gate, &mut passes);

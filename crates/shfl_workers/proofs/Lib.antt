@@ -14,3 +14,4 @@ pub mod ShardEnding
 pub mod CellEnding
 pub mod Publishing
 pub mod Opening
+pub mod Receipts

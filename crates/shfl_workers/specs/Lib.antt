@@ -10,3 +10,4 @@ pub mod CellDirs
 pub mod Opened
 pub mod Loaded
 pub mod Prevailing
+pub mod Receipts

@@ -1,6 +1,7 @@
 //! One directory behind a lock.
 ghost use Rattle.std.specs.Prelude.{◌≡◌, length, map, vec_len, IfOk};
 ghost use Rattle.shfl_cell.specs.Cells.{number};
+ghost use Rattle.shfl_table.specs.Books.{HavePlaces};
 ghost use Rattle.trace_text.specs.Report.{done_of};
 ghost use Rattle.trace_text.specs.Traces.{IsWithin};
 ghost use Rattle.trace_text.specs.Histories.{IsHistoryOf};
@@ -26,6 +27,7 @@ impl SharedDir for ShflCellOf<Book<Dir>> {
 
     ghost use Rattle.std.specs.Prelude.{slice_index};
     ghost use Rattle.shfl_cell.specs.Cells.{number};
+    ghost use Rattle.shfl_table.specs.Books.{HavePlaces};
     ghost use Rattle.shfl_workers.specs.CellDirs.{IsPassOf, HasMade};
     ghost use Rattle.shfl_workers.specs.Opened.{IsOneFor};
 
@@ -40,6 +42,8 @@ impl SharedDir for ShflCellOf<Book<Dir>> {
     ghost made = { λ p calls. HasMade p calls };
 
     ghost left = { λ p. p.left };
+
+    ghost receipts = { λ entries. HavePlaces entries };
 
     fn open(alloc: Global, trace: &Trace) -> Result<(Self, Vec<CellPass<Dir>>), NoMemory> {
         let shares = shares_of(alloc, trace)?;
@@ -78,7 +82,8 @@ impl SharedDir for ShflCellOf<Book<Dir>> {
         requires count { vec_len passes ≡ length trace.now.workers.items }
         requires passes { AtEachPlace
             (IsDone (IsPassOf self) number HasMade trace.now.calls.items) passes.items }
-        ensures { IfOk result (λ r. IsHistoryOf trace.now (map done_of r.0.items) r.1) }
+        ensures history { IfOk result (λ r. IsHistoryOf trace.now (map done_of r.0.items) r.1) }
+        ensures receipts { IfOk result (λ r. HavePlaces r.0.items) }
     {
         let _ = alloc;
         let _ = trace;

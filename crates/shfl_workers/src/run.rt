@@ -7,8 +7,11 @@ ghost use Rattle.trace_text.specs.Traces.{IsWithin};
 ghost use Rattle.trace_text.specs.Histories.{IsHistoryOf};
 ghost use Rattle.trace_text.specs.Attachments.{attached_in, attaches_of};
 ghost use Rattle.policy_versions.specs.Models.{AreFresh};
+ghost use Rattle.shfl_table.specs.Books.{HavePlaces};
 ghost use Rattle.shfl_workers.specs.Attaching.{Attached};
 ghost use Rattle.shfl_workers.specs.Loaded.{AreLoaded};
+ghost use Rattle.shfl_workers.specs.Prevailing.{DoWritesPrevail};
+ghost use Rattle.shfl_workers.specs.Receipts.{CountWrites};
 
 use crate::activity::{join, run_all, take_apart};
 use crate::attaching::{Attaching, copies_of};
@@ -83,6 +86,7 @@ pub fn run_on<D: SharedDir + Sync, G: Gate + Sync, R: Threads + Wait + Sync>(
     requires accepted { AllByRecursion (λ p. AcceptsSource trace.now.profile p.source)
         trace.now.policies.items }
     ensures history { IfOk result (λ o. IsHistoryOf trace.now (map done_of o.history.items) o.dir) }
+    ensures receipts { IfOk result (λ o. D.receipts o.history.items) }
     ensures versions { IfOk result (λ o. o.versions ≡ attaches_of trace.now) }
 {
     let (registry, attaching, users) = open_registry(alloc, trace)?;
@@ -117,6 +121,12 @@ pub fn run_trace<G: Gate + Sync, R: Threads + Wait + Sync>(
     requires accepted { AllByRecursion (λ p. AcceptsSource trace.now.profile p.source)
         trace.now.policies.items }
     ensures history { IfOk result (λ o. IsHistoryOf trace.now (map done_of o.history.items) o.dir) }
+
+    // Where writes prevail, the receipt of each entry is its place; else it is the number of writes before it.
+    ensures places { DoWritesPrevail trace.now
+        → IfOk result (λ o. HavePlaces o.history.items) }
+    ensures receipts { ¬ DoWritesPrevail trace.now
+        → IfOk result (λ o. CountWrites o.history.items) }
     ensures versions { IfOk result (λ o. o.versions ≡ attaches_of trace.now) }
 {
     if do_writes_prevail(trace) {
@@ -140,6 +150,7 @@ pub fn run_shards<G: Gate + Sync, R: Threads + Wait + Sync>(
     requires accepted { AllByRecursion (λ p. AcceptsSource trace.now.profile p.source)
         trace.now.policies.items }
     ensures history { IfOk result (λ o. IsHistoryOf trace.now (map done_of o.history.items) o.dir) }
+    ensures places { IfOk result (λ o. HavePlaces o.history.items) }
     ensures versions { IfOk result (λ o. o.versions ≡ attaches_of trace.now) }
 {
     run_on::<Shards, G, R>(rt, alloc, trace, gate)

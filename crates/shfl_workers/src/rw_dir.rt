@@ -9,6 +9,7 @@ ghost use Rattle.trace_text.specs.Histories.{IsHistoryOf};
 ghost use Rattle.shfl_workers.specs.RwDirs.{HasMade, mode_of};
 ghost use Rattle.shfl_workers.specs.Opened.{directory_for, IsCellFor};
 ghost use Rattle.shfl_workers.specs.Passes.{AtEachPlace, IsDone};
+ghost use Rattle.shfl_workers.specs.Receipts.{CountWrites};
 
 use crate::empty_dir::{BATCH, open_directory};
 use crate::shared_dir::SharedDir;
@@ -44,6 +45,7 @@ impl SharedDir for RwCellOf<Book<Dir>, Entry<Dir>, Dir> {
     ghost use Rattle.rw_cell.specs.RwCells.{number, IsPassOf};
     ghost use Rattle.shfl_workers.specs.RwDirs.{HasMade};
     ghost use Rattle.shfl_workers.specs.Opened.{IsCellFor};
+    ghost use Rattle.shfl_workers.specs.Receipts.{CountWrites};
 
     ghost opened = { λ t c. IsCellFor t c };
 
@@ -56,6 +58,8 @@ impl SharedDir for RwCellOf<Book<Dir>, Entry<Dir>, Dir> {
     ghost made = { λ p calls. HasMade p calls };
 
     ghost left = { λ p. p.left };
+
+    ghost receipts = { λ entries. CountWrites entries };
 
     fn open(alloc: Global, trace: &Trace) -> Result<(Self, Vec<RwPass<Dir>>), NoMemory> {
         let shares = shares_of(alloc, trace)?;
@@ -111,7 +115,8 @@ impl SharedDir for RwCellOf<Book<Dir>, Entry<Dir>, Dir> {
         requires count { vec_len passes ≡ length trace.now.workers.items }
         requires passes { AtEachPlace
             (IsDone (IsPassOf self) number HasMade trace.now.calls.items) passes.items }
-        ensures { IfOk result (λ r. IsHistoryOf trace.now (map done_of r.0.items) r.1) }
+        ensures history { IfOk result (λ r. IsHistoryOf trace.now (map done_of r.0.items) r.1) }
+        ensures receipts { IfOk result (λ r. CountWrites r.0.items) }
     {
         let _ = trace;
         let (mut dirs, writes, reads) = self.close(passes);

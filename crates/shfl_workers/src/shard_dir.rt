@@ -1,6 +1,7 @@
 //! A directory with a lock for each of its shards.
 ghost use Rattle.std.specs.Prelude.{◌≡◌, length, map, vec_len, IfOk};
 ghost use Rattle.dir_shards.specs.ShardPasses.{IsPassOf};
+ghost use Rattle.shfl_table.specs.Books.{HavePlaces};
 ghost use Rattle.trace_text.specs.Report.{done_of};
 ghost use Rattle.trace_text.specs.Traces.{IsWithin};
 ghost use Rattle.trace_text.specs.Histories.{IsHistoryOf};
@@ -32,6 +33,7 @@ impl SharedDir for Shards {
 
     ghost use Rattle.std.specs.Prelude.{◌≡◌};
     ghost use Rattle.dir_shards.specs.ShardPasses.{IsPassOf};
+    ghost use Rattle.shfl_table.specs.Books.{HavePlaces};
     ghost use Rattle.shfl_workers.specs.ShardDirs.{HasMade};
     ghost use Rattle.shfl_workers.specs.Opened.{AreShardsFor};
 
@@ -46,6 +48,8 @@ impl SharedDir for Shards {
     ghost made = { λ p calls. HasMade p calls };
 
     ghost left = { λ p. p.left };
+
+    ghost receipts = { λ entries. HavePlaces entries };
 
     fn open(alloc: Global, trace: &Trace) -> Result<(Self, Vec<ShardPass>), NoMemory> {
         let shares = shares_of(alloc, trace)?;
@@ -85,7 +89,8 @@ impl SharedDir for Shards {
         requires count { vec_len passes ≡ length trace.now.workers.items }
         requires passes { AtEachPlace (IsDone (IsPassOf self.locks) (λ p. p.number) HasMade
             trace.now.calls.items) passes.items }
-        ensures { IfOk result (λ r. IsHistoryOf trace.now (map done_of r.0.items) r.1) }
+        ensures history { IfOk result (λ r. IsHistoryOf trace.now (map done_of r.0.items) r.1) }
+        ensures receipts { IfOk result (λ r. HavePlaces r.0.items) }
     {
         let _ = alloc;
         let _ = trace;

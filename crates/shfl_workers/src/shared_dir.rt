@@ -21,6 +21,9 @@ pub trait SharedDir: Drop {
 
     ghost use Rattle.std.specs.Prelude.{ℕ, List};
     ghost use Rattle.dir_table.specs.declared.calls.DirCall.{DirCall};
+    ghost use Rattle.dir_table.specs.declared.calls.DirReply.{DirReply};
+    ghost use Rattle.dir_table.specs.declared.dir.Dir.{Dir as DirValue};
+    ghost use Rattle.hist_log.specs.declared.entry.Entry.{Entry as EntryValue};
     ghost use Rattle.trace_text.specs.declared.trace.Trace.{Trace};
 
     /// It was opened for the calls of this trace, empty.
@@ -40,6 +43,9 @@ pub trait SharedDir: Drop {
 
     /// How many calls the pass may still make.
     ghost left: { Self.Pass → ℕ };
+
+    /// The receipt of each entry is what its call was given at this lock.
+    ghost receipts: { List (EntryValue DirValue DirCall DirReply) → Type 0 };
 
     /// An empty directory for the calls of a trace, with a pass for each of its workers.
     fn open(alloc: Global, trace: &Trace) -> Result<(Self, Vec<Self::Pass>), NoMemory>
@@ -89,5 +95,6 @@ pub trait SharedDir: Drop {
         requires count { vec_len passes ≡ length trace.now.workers.items }
         requires passes { AtEachPlace
             (IsDone (is_pass self) worker made trace.now.calls.items) passes.items }
-        ensures { IfOk result (λ r. IsHistoryOf trace.now (map done_of r.0.items) r.1) };
+        ensures history { IfOk result (λ r. IsHistoryOf trace.now (map done_of r.0.items) r.1) }
+        ensures receipts { IfOk result (λ r. receipts r.0.items) };
 }

@@ -1,5 +1,5 @@
 -- Traces whose calls may stand in a pool, and what a run leaves.
-use Rattle.std.specs.Prelude.{◌≡◌, ◌≤◌, length, Result, IfOk}
+use Rattle.std.specs.Prelude.{◌≡◌, ◌<◌, ◌≤◌, length, All, Result, IfOk}
 use Rattle.std.specs.List.{AllByRecursion}
 use Rattle.dir_table.specs.Directory.{Directory}
 use Rattle.dir_table.specs.Meanings.{reply_at, state_after}
@@ -21,11 +21,12 @@ pub record MayRun (t : Trace) : Type 0 where
   pub few : length t.calls.items ≤ 4096
   pub accepted : AllByRecursion (λ p. AcceptsSource t.profile p.source) t.policies.items
 
--- a history of the trace's calls, each once with its place, from the empty directory on; and the directory that it leaves
+-- a history of the trace's calls by its workers, each once with its place, from the empty directory on; and the directory that it leaves
 pub record IsPooled {O : Type 0} (t : Trace) (history : PoolEntries O) (final : Directory) : Type 0 where
   pub is_history : IsPoolHistory call_numbers reply_numbers reply_at state_after (state_numbers (beginning t)) (calls_of t.calls.items) history
   pub leaves : state_numbers final ≡ state_left (λ state call. state_after state (inner call)) (state_numbers (beginning t))
       (operations (numbers call_numbers) reply_numbers history)
+  pub workers : All (λ e. e.worker < length t.workers.items) history
 
 abbrev pub IsRunOf : Trace → PoolRun → Type 0
 IsRunOf t r = IsPooled t r.history.items r.dir

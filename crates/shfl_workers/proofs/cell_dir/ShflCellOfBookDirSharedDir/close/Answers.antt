@@ -15,8 +15,8 @@ close-dir-requires-clause-all c =
     let n = c.requires.count in let ok = c.args.passes.ok.0 in let w = c.requires.opened.0 in
     everyone _ _ _ _ c.args.passes.items c.requires.passes c.args.self.count (omega (arith, n, ok, w))
 
-pub returns : goal.returns
-returns c =
+pub returns-clause-history : goal.returns-clause-history
+returns-clause-history c =
     let t = c.args.trace.now in let e = c.close-dir.ensures in let es = c.close-dir.result.1.items in
     let many : length c.args.passes.items ≡ length t.workers.items = (let n = c.requires.count in let ok = c.args.passes.ok.0 in omega (arith, n, ok)) in
     is_history t c.requires.within es

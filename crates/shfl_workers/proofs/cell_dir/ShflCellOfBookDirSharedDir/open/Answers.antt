@@ -12,8 +12,11 @@ open-requires-clause-spare c =
 
 pub returns-clause-opened : goal.returns-clause-opened
 returns-clause-opened c =
-    let e = c.in-Ok.ensures.cell in
-    (e.0 ∙ ap length c.as_slice-counts.ensures.value ∙ c.in_ok-shares.ensures.as_many, e.1 ∙ ap state_numbers c.in_ok-dir.ensures)
+    let e = c.in-Ok.ensures.cell in (
+      e.0 ∙ ap length c.as_slice-counts.ensures.value ∙ c.in_ok-shares.ensures.as_many,
+      e.1 ∙ ap state_numbers c.in_ok-dir.ensures,
+      c.in-Ok.ensures.rules,
+    )
 
 pub returns-clause-room : goal.returns-clause-room
 returns-clause-room c = ap (λ s. slice_index s 0) (c.in-Ok.ensures.cell.1 ∙ ap state_numbers c.in_ok-dir.ensures)

@@ -10,7 +10,8 @@ use Rattle.hist_log.specs.declared.entry.Entry.{Entry}
 use Rattle.hist_log.specs.History.{IsLegal, operations, state_left}
 use Rattle.hist_log.specs.Merge.{merged, AreInOrder, ReadsFit}
 use Rattle.shfl_workers.proofs.Numbered.{each_of_dir, once, everyone}
-use Rattle.shfl_workers.proofs.Ending.{merged_is}
+use Rattle.shfl_workers.specs.Receipts.{CountWrites}
+use Rattle.shfl_workers.proofs.Ending.{merged_is, receipts_are}
 use Rattle.shfl_workers.proofs.rw_dir.RwCellOfBookDirEntryDirDirSharedDir.close.Goals as goal
 
 abbrev E : Type 0
@@ -31,8 +32,8 @@ pub merge-requires-clause-in_order : goal.merge-requires-clause-in_order
 merge-requires-clause-in_order c =
     subst (λ (l : List (Vec E Global)). AreInOrder (λ (e : E). e.receipt) (map (λ (v : Vec E Global). v.items) l)) (sym c.as_slice-2.ensures.value) c.close-dirs.ensures.reads.in_order
 
-pub returns : goal.returns
-returns c =
+pub returns-clause-history : goal.returns-clause-history
+returns-clause-history c =
     let t = c.args.trace.now in let cell = c.args.self in let passes = c.args.passes in
     let writes : List E = c.close-dirs.result.1.items in let lists : List (Vec E Global) = c.close-dirs.result.2.items in
     let reads : List (List E) = map (λ (v : Vec E Global). v.items) lists in
@@ -48,3 +49,12 @@ returns c =
     let order = c.in-Ok.ensures.order ∙ (λ j. merged (λ (e : E). e.receipt) (same_writes j) (map (λ (v : Vec E Global). v.items) (same_lists j))) in
     let many : length passes.items ≡ length t.workers.items = (let n = c.requires.count in let ok = passes.ok.0 in omega (arith, n, ok)) in
     merged_is t c.requires.within cell c.requires.opened passes.items many c.requires.passes writes reads w r c.in-Some.dir c.in-Ok.history.items order legal dir
+
+pub returns-clause-receipts : goal.returns-clause-receipts
+returns-clause-receipts c =
+    let t = c.args.trace.now in let passes = c.args.passes in
+    let writes : List E = c.close-dirs.result.1.items in let reads : List (List E) = map (λ (v : Vec E Global). v.items) c.close-dirs.result.2.items in
+    let same_writes = c.as_slice.ensures.value in let same_lists = c.as_slice-2.ensures.value in
+    let order = c.in-Ok.ensures.order ∙ (λ j. merged (λ (e : E). e.receipt) (same_writes j) (map (λ (v : Vec E Global). v.items) (same_lists j))) in
+    let many : length passes.items ≡ length t.workers.items = (let n = c.requires.count in let ok = passes.ok.0 in omega (arith, n, ok)) in
+    subst CountWrites (sym order) (receipts_are t c.requires.within c.args.self c.requires.opened passes.items many c.requires.passes writes reads c.close-dirs.ensures.writes c.close-dirs.ensures.reads)

@@ -15,8 +15,11 @@ open-requires-clause-spare c =
 pub returns-clause-opened : goal.returns-clause-opened
 returns-clause-opened c =
     let e = c.in-Ok.ensures.cell in let dirs = c.in_ok-dirs.dirs in
-    let some : 0 < length dirs.items = (let n = c.in_ok-dirs.ensures.len in let w = c.requires.workers.0 in let ok = dirs.ok.0 in omega (arith, n, w, ok)) in
-    (e.0 ∙ ap length c.as_slice-counts.ensures.value ∙ c.in_ok-shares.ensures.as_many, e.1 ∙ first_empty c.args.trace.now dirs.items some c.in_ok-dirs.ensures.empty)
+    let some : 0 < length dirs.items = (let n = c.in_ok-dirs.ensures.len in let w = c.requires.workers.0 in let ok = dirs.ok.0 in omega (arith, n, w, ok)) in (
+      e.0 ∙ ap length c.as_slice-counts.ensures.value ∙ c.in_ok-shares.ensures.as_many,
+      e.1 ∙ first_empty c.args.trace.now dirs.items some c.in_ok-dirs.ensures.empty,
+      c.in-Ok.ensures.rules,
+    )
 
 pub returns-clause-room : goal.returns-clause-room
 returns-clause-room c =
@@ -34,6 +37,6 @@ returns-clause-passes c =
     (λ k lt. record {
       of_dir = (refl, refl);
       number_is = refl;
-      none_made = refl;
+      none_made = (refl, tt);
       left_is = ap (λ l. slice_index l k) counts ∙ sh.each k (omega (arith, lt, ok, n, many));
     })

@@ -37,8 +37,8 @@ legal-requires-clause-admitted c =
     let call = (get_or journal i d).call in
     subst (λ n. IsAdmitted n (call_from (call_numbers call))) room (subst (IsAdmitted c.args.self.locks.room) (sym (call_again call)) (c.close-rows.ensures.admitted i d lt)))
 
-pub returns : goal.returns
-returns c =
+pub returns-clause-history : goal.returns-clause-history
+returns-clause-history c =
     let t = c.args.trace.now in let e = c.close-rows.ensures in let n = c.requires.count in let ok = c.args.passes.ok.0 in
     let journal : List DirEntry = c.close-rows.result.1.items in
     let all = journal_has_all t c.requires.within c.args.self.locks c.args.passes.items (omega (arith, n, ok)) c.requires.opened.allowed c.requires.passes journal e.seen e.nobody_else in
