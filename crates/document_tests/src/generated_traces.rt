@@ -1,8 +1,28 @@
 //! The trace of a seed and its summary.
+use crate::checks::same;
 use dir_table::{Dir, DirCall, DirReply};
 use hist_log::Entry;
-use std::test::Fail;
-use trace_text::{TraceAct, TraceCall, generate, summary};
+use std::alloc::Global;
+use std::process::Abort;
+use trace_text::{Trace, TraceAct, TraceCall, generate, summary};
+
+const COUNT: DirCall = DirCall::Count { dir: 2 };
+
+const DROP_NAME: DirCall = DirCall::Drop { dir: 3, name: 0 };
+
+const MAKE: DirCall = DirCall::Make { dir: 3, name: 1 };
+
+const NAMES: [&[u8]; 2] = [b"n18", b"n62"];
+
+const SUMMARY: &[u8] =
+    b"bulk seed 1 workers 1 calls 3 attaches 0\nino 1 done 0 exists 0 absent 1 number 1 name 0 end 0\nleft 1\n";
+
+fn asked(call: DirCall) -> TraceCall {
+    TraceCall {
+        worker: 0,
+        act: TraceAct::Dir(call),
+    }
+}
 
 fn answered(call: DirCall, reply: DirReply, receipt: u64) -> Entry<Dir> {
     Entry {
@@ -13,50 +33,39 @@ fn answered(call: DirCall, reply: DirReply, receipt: u64) -> Entry<Dir> {
     }
 }
 
-#[test]
-fn three_calls_of_seed_1(rt: HostRuntime) -> Result<(), Fail> {
-    let alloc = rt.alloc();
-    let trace = generate(alloc, 1, 1, 3)?;
-    let count = DirCall::Count { dir: 2 };
-    let drop_name = DirCall::Drop { dir: 3, name: 0 };
-    let make = DirCall::Make { dir: 3, name: 1 };
-    let calls = [
-        TraceCall {
-            worker: 0,
-            act: TraceAct::Dir(count),
-        },
-        TraceCall {
-            worker: 0,
-            act: TraceAct::Dir(drop_name),
-        },
-        TraceCall {
-            worker: 0,
-            act: TraceAct::Dir(make),
-        },
-    ];
-    assert_eq!(rt; trace.calls.as_slice(), calls.as_slice());
-    assert_eq!(rt; trace.names.len(), 2);
-    assert_eq!(rt; trace.names[0].as_slice(), b"n18".as_slice());
-    assert_eq!(rt; trace.names[1].as_slice(), b"n62".as_slice());
-    let mut dir = Dir::open(alloc, 2, 1)?;
+/// The trace has these names.
+fn names_are(rt: &impl Abort, trace: &Trace, due: &[&[u8]]) {
+    same(rt, &trace.names.len(), &due.len());
+    for (name, due) in trace.names.iter().zip(due.iter()) {
+        same(rt, &name.as_slice(), due);
+    }
+}
+
+/// What is said of the trace where its three calls were made in order.
+fn summed(rt: &impl Abort, alloc: Global, trace: &Trace) -> Vec<u8> {
+    let mut dir = Dir::open(alloc, 2, 1).expect(rt, "memory");
     let made = dir.make(3, 1);
     let history = [
-        answered(count, DirReply::Number(0), 0),
-        answered(drop_name, DirReply::Absent, 1),
-        answered(make, made, 2),
+        answered(COUNT, DirReply::Number(0), 0),
+        answered(DROP_NAME, DirReply::Absent, 1),
+        answered(MAKE, made, 2),
     ];
-    let text = summary(alloc, 1, &trace, &history, &dir)?;
-    let wanted =
-        b"bulk seed 1 workers 1 calls 3 attaches 0\nino 1 done 0 exists 0 absent 1 number 1 name 0 end 0\nleft 1\n";
-    assert_eq!(rt; text.as_slice(), wanted.as_slice());
-    Ok(())
+    summary(alloc, 1, trace, &history, &dir).expect(rt, "memory")
 }
 
 #[test]
-fn twenty_attachments_in_twenty_thousand_calls(rt: HostRuntime) -> Result<(), Fail> {
+fn three_calls_of_seed_1(rt: HostRuntime) {
     let alloc = rt.alloc();
-    let trace = generate(alloc, 7, 8, 20000)?;
-    assert_eq!(rt; trace.calls.len(), 20020);
-    assert_eq!(rt; trace.workers.len(), 8);
-    Ok(())
+    let trace = generate(alloc, 1, 1, 3).expect(&rt, "memory");
+    let calls = [asked(COUNT), asked(DROP_NAME), asked(MAKE)];
+    same(&rt, &trace.calls.as_slice(), &calls.as_slice());
+    names_are(&rt, &trace, &NAMES);
+    same(&rt, &summed(&rt, alloc, &trace).as_slice(), &SUMMARY);
+}
+
+#[test]
+fn twenty_attachments_in_twenty_thousand_calls(rt: HostRuntime) {
+    let trace = generate(rt.alloc(), 7, 8, 20000).expect(&rt, "memory");
+    same(&rt, &trace.calls.len(), &20020);
+    same(&rt, &trace.workers.len(), &8);
 }

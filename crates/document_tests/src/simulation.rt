@@ -3,7 +3,7 @@ use shfl_core::Rules;
 use shfl_line::{Attr, Form};
 use sim_model::{BuiltIn, Costs, Layout, Run, Setup, Work, cores_of, simulate};
 use std::alloc::Global;
-use std::test::Fail;
+use std::process::Abort;
 
 const USUAL: Costs = Costs {
     hit: 1,
@@ -164,24 +164,23 @@ const RUNS: [Row; 9] = [
     ),
 ];
 
-fn attrs_of(alloc: Global, sockets: &[u16]) -> Result<Vec<Attr>, Fail> {
+fn attrs_of(rt: &impl Abort, alloc: Global, sockets: &[u16]) -> Vec<Attr> {
     let mut attrs = Vec::new(alloc);
     for socket in sockets {
-        attrs.push(Attr {
+        let attr = Attr {
             socket: *socket,
             prio: 0,
             class: 0,
             kind: 0,
-        })?;
+        };
+        attrs.push(attr).ok().expect(rt, "memory");
     }
-    Ok(attrs)
+    attrs
 }
 
-fn played(alloc: Global, row: &Row) -> Result<Run, Fail> {
-    let attrs = attrs_of(alloc, row.1)?;
-    if attrs.is_empty() || attrs.len() > 1024 || row.2.lines > 64 {
-        return Err("not a setup".into());
-    }
+fn played(rt: &impl Abort, alloc: Global, row: &Row) -> Run {
+    let attrs = attrs_of(rt, alloc, row.1);
+    assert!(rt; !attrs.is_empty() && attrs.len() <= 1024 && row.2.lines <= 64);
     let setup = Setup {
         rules: Rules {
             limit: 1024,
@@ -195,28 +194,29 @@ fn played(alloc: Global, row: &Row) -> Result<Run, Fail> {
         passes: attrs.len() as u32,
         cores: cores_of(&attrs),
     };
-    match simulate(alloc, &setup, &attrs, &row.5, 100_000) {
-        Ok(run) => Ok(run),
-        Err(_) => Err("memory".into()),
-    }
+    simulate(alloc, &setup, &attrs, &row.5, 100_000).expect(rt, "memory")
+}
+
+/// What a run counted, as a row has it.
+fn figures_of(run: &Run) -> [u64; 6] {
+    let counts = run.bench.counts;
+    [
+        run.bench.order.gained,
+        counts.steps,
+        counts.asked,
+        counts.yes,
+        counts.node.far,
+        counts.rings,
+    ]
 }
 
 #[test]
-fn runs_give_the_figures_of_another_program(rt: HostRuntime) -> Result<(), Fail> {
+fn runs_give_the_figures_of_another_program(rt: HostRuntime) {
     for (at, row) in RUNS.iter().enumerate() {
-        let run = played(rt.alloc(), row)?;
-        let counts = run.bench.counts;
-        let figures = [
-            run.bench.order.gained,
-            counts.steps,
-            counts.asked,
-            counts.yes,
-            counts.node.far,
-            counts.rings,
-        ];
+        let run = played(&rt, rt.alloc(), row);
+        let figures = figures_of(&run);
         assert!(rt; figures == row.6, "run {at}");
         assert!(rt; run.bench.order.hash == row.7, "run {at}");
         assert!(rt; run.waits.len() as u64 == figures[0], "run {at}");
     }
-    Ok(())
 }

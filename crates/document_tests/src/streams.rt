@@ -1,7 +1,9 @@
+use crate::checks::same;
+use std::alloc::Global;
 use std::io;
 use std::io::{Read, Write};
+use std::process::Abort;
 use std::sync::Wait;
-use std::test::Fail;
 use syn_outer::*;
 
 /// A reader and writer of std that always fails.
@@ -68,101 +70,100 @@ fn pass_all<Rt: Wait, G: Gate + Sync>(rt: &Rt, gate: &G) {
     }
 }
 
-#[test]
-fn a_source_is_read_to_its_end_in_pieces(rt: HostRuntime) -> Result<(), Fail> {
-    let alloc = rt.alloc();
-    let mut src = MemSource::new(b"twelve bytes".to_vec(alloc)?, 5, Vec::new(alloc));
-    assert_eq!(rt;
-        read_all(alloc, &mut src, 12)?.as_slice(),
-        b"twelve bytes".as_slice()
-    );
-    assert_eq!(rt; read_all(alloc, &mut src, 12)?.as_slice(), b"".as_slice());
-    Ok(())
+/// Twelve bytes.
+const TWELVE: &[u8] = b"twelve bytes";
+
+fn twelve(rt: &impl Abort, alloc: Global) -> Vec<u8> {
+    Vec::from_slice(alloc, TWELVE).expect(rt, "memory")
+}
+
+/// What is read of a source of twelve bytes in pieces of six, whose call of that number fails.
+fn read_failing(rt: &impl Abort, alloc: Global, call: u32) -> Result<Vec<u8>, ReadError> {
+    let fails = vec![in alloc; call].ok().expect(rt, "memory");
+    let mut src = MemSource::new(twelve(rt, alloc), 6, fails);
+    read_all(alloc, &mut src, 12)
 }
 
 #[test]
-fn a_chosen_call_of_a_source_fails(rt: HostRuntime) -> Result<(), Fail> {
+fn a_source_is_read_to_its_end_in_pieces(rt: HostRuntime) {
+    let alloc = rt.alloc();
+    let mut src = MemSource::new(twelve(&rt, alloc), 5, Vec::new(alloc));
+    let read = read_all(alloc, &mut src, 12).expect(&rt, "bytes");
+    same(&rt, &read.as_slice(), &TWELVE);
+    let rest = read_all(alloc, &mut src, 12).expect(&rt, "bytes");
+    same(&rt, &rest.len(), &0);
+}
+
+#[test]
+fn a_chosen_call_of_a_source_fails(rt: HostRuntime) {
     let alloc = rt.alloc();
     for call in [1u32, 2, 3] {
-        let fails = vec![in alloc; call]?;
-        let mut src = MemSource::new(b"twelve bytes".to_vec(alloc)?, 6, fails);
-        assert_eq!(rt;
-            read_all(alloc, &mut src, 12).err(),
-            Some(ReadError::ReadFault)
-        );
+        let error = read_failing(&rt, alloc, call).err();
+        same(&rt, &error, &Some(ReadError::ReadFault));
     }
-    let fails = vec![in alloc; 4u32]?;
-    let mut src = MemSource::new(b"twelve bytes".to_vec(alloc)?, 6, fails);
-    assert_eq!(rt; read_all(alloc, &mut src, 12)?.len(), 12);
-    Ok(())
+    let read = read_failing(&rt, alloc, 4).expect(&rt, "bytes");
+    same(&rt, &read.len(), &12);
 }
 
 #[test]
-fn one_byte_over_the_limit_is_too_large(rt: HostRuntime) -> Result<(), Fail> {
+fn one_byte_over_the_limit_is_too_large(rt: HostRuntime) {
     let alloc = rt.alloc();
-    let mut src = SureSource::new(b"twelve bytes".to_vec(alloc)?);
-    assert_eq!(rt;
-        read_all(alloc, &mut src, 11).err(),
-        Some(ReadError::TooLarge)
-    );
-    Ok(())
+    let mut src = SureSource::new(twelve(&rt, alloc));
+    let error = read_all(alloc, &mut src, 11).err();
+    same(&rt, &error, &Some(ReadError::TooLarge));
+}
+
+/// Twelve bytes are written to the sink, of which it takes so many.
+fn takes<W: Sink>(rt: &impl Abort, out: &mut W, written: usize) {
+    let fault = write_all(out, TWELVE).err();
+    same(rt, &fault, &Some(WriteFault { written }));
+}
+
+/// Twelve bytes are written to the sink, which takes them all.
+fn takes_all<W: Sink>(rt: &impl Abort, out: &mut W) {
+    same(rt, &write_all(out, TWELVE), &Ok(()));
 }
 
 #[test]
-fn a_write_fault_tells_what_was_taken(rt: HostRuntime) -> Result<(), Fail> {
+fn a_write_fault_tells_what_was_taken(rt: HostRuntime) {
     let alloc = rt.alloc();
-    let fails = vec![in alloc; 3u32]?;
-    let mut out = MemSink::open(alloc, 100, 5, fails).ok().ok_or("memory")?;
-    assert_eq!(rt;
-        write_all(&mut out, b"twelve bytes").err(),
-        Some(WriteFault { written: 10 })
-    );
-    assert_eq!(rt; out.bytes(), b"twelve byt".as_slice());
-    Ok(())
+    let fails = vec![in alloc; 3u32].ok().expect(&rt, "memory");
+    let sink = MemSink::open(alloc, 100, 5, fails);
+    let mut out = sink.ok().expect(&rt, "memory");
+    takes(&rt, &mut out, 10);
+    same(&rt, &out.bytes(), &b"twelve byt".as_slice());
 }
 
 #[test]
-fn a_write_past_the_room_fails(rt: HostRuntime) -> Result<(), Fail> {
+fn a_write_past_the_room_fails(rt: HostRuntime) {
     let alloc = rt.alloc();
-    let mut out = MemSink::open(alloc, 11, 5, Vec::new(alloc))
-        .ok()
-        .ok_or("memory")?;
-    assert_eq!(rt;
-        write_all(&mut out, b"twelve bytes").err(),
-        Some(WriteFault { written: 10 })
-    );
-    Ok(())
+    let sink = MemSink::open(alloc, 11, 5, Vec::new(alloc));
+    let mut out = sink.ok().expect(&rt, "memory");
+    takes(&rt, &mut out, 10);
 }
 
 #[test]
-fn a_sure_sink_keeps_what_fits(rt: HostRuntime) -> Result<(), Fail> {
-    let alloc = rt.alloc();
-    let mut out = SureSink::open(alloc, 6).ok().ok_or("memory")?;
-    assert_eq!(rt; write_all(&mut out, b"twelve bytes"), Ok(()));
-    assert_eq!(rt; out.bytes(), b"twelve".as_slice());
-    Ok(())
+fn a_sure_sink_keeps_what_fits(rt: HostRuntime) {
+    let sink = SureSink::open(rt.alloc(), 6);
+    let mut out = sink.ok().expect(&rt, "memory");
+    takes_all(&rt, &mut out);
+    same(&rt, &out.bytes(), &b"twelve".as_slice());
 }
 
 #[test]
-fn readers_and_writers_of_std_count_their_faults(rt: HostRuntime) -> Result<(), Fail> {
+fn readers_and_writers_of_std_count_their_faults(rt: HostRuntime) {
     let alloc = rt.alloc();
-    let text: &[u8] = b"twelve bytes";
-    let mut src = StdSource::new(text);
-    assert_eq!(rt; read_all(alloc, &mut src, 12)?.as_slice(), text);
+    let mut src = StdSource::new(TWELVE);
+    let read = read_all(alloc, &mut src, 12).expect(&rt, "bytes");
+    same(&rt, &read.as_slice(), &TWELVE);
     let mut src = StdSource::new(Broken);
-    assert_eq!(rt;
-        read_all(alloc, &mut src, 12).err(),
-        Some(ReadError::ReadFault)
-    );
+    let error = read_all(alloc, &mut src, 12).err();
+    same(&rt, &error, &Some(ReadError::ReadFault));
     let mut out = StdSink::new(Broken);
-    assert_eq!(rt;
-        write_all(&mut out, text).err(),
-        Some(WriteFault { written: 0 })
-    );
+    takes(&rt, &mut out, 0);
     let mut kept = [0u8; 12];
     let mut out = StdSink::new(&mut kept[..]);
-    assert_eq!(rt; write_all(&mut out, text), Ok(()));
-    Ok(())
+    takes_all(&rt, &mut out);
 }
 
 #[test]
@@ -172,19 +173,15 @@ fn a_sink_is_offered_all_that_is_left_and_flushed_after_each_write(rt: HostRunti
         writes: &mut writes,
         flushes: &mut flushes,
     });
-    assert_eq!(rt; write_all(&mut out, b"twelve bytes"), Ok(()));
+    takes_all(&rt, &mut out);
     drop(out);
-    assert_eq!(rt; writes, 3);
-    assert_eq!(rt; flushes, 3);
+    same(&rt, &(writes, flushes), &(3, 3));
 }
 
 #[test]
 fn a_flush_that_fails_is_a_fault(rt: HostRuntime) {
     let mut out = StdSink::new(Unflushed);
-    assert_eq!(rt;
-        write_all(&mut out, b"twelve bytes").err(),
-        Some(WriteFault { written: 0 })
-    );
+    takes(&rt, &mut out, 0);
 }
 
 #[test]

@@ -1,9 +1,11 @@
 ghost use Rattle.std.specs.Prelude.{◌≡◌, ◌<◌, List, [], Some, None, true, if◌then◌else◌, length};
 ghost use Rattle.shfl_line.specs.Steps.{NamesBelow};
 
+use crate::checks::{holds, same};
 use shfl_line::*;
+use std::alloc::Global;
+use std::process::Abort;
 use std::sync::Wait;
-use std::test::Fail;
 
 // Whether each pass that the event names is one of so many.
 fn is_named(event: &LineEvent, passes: usize) -> bool
@@ -48,103 +50,121 @@ const STEAL: LineEvent = LineEvent::Steal {
     mode: Mode::Write,
 };
 
+/// The state of a lock of so many passes.
+fn opened(rt: &impl Abort, alloc: Global, passes: u32) -> LineState {
+    LineState::open(alloc, passes).expect(rt, "memory")
+}
+
+/// So many of the events are admitted before the first that is not.
+fn plays(rt: &impl Abort, state: &mut LineState, events: &[LineEvent], limit: u16, admitted: usize)
+    requires { 0 < limit }
+{
+    same(rt, &play(state, events, limit), &admitted);
+}
+
+const JOIN: [LineEvent; 8] = [
+    STEAL,
+    LineEvent::Join { pass: 1 },
+    LineEvent::Join { pass: 2 },
+    LineEvent::Join { pass: 3 },
+    LineEvent::Join { pass: 4 },
+    LineEvent::Begin { pass: 1 },
+    LineEvent::Pick { pass: 1, who: 3 },
+    LineEvent::Pick { pass: 1, who: 2 },
+];
+
+const MOVE_UP: [LineEvent; 3] = [
+    LineEvent::Place { pass: 1 },
+    LineEvent::Keep { pass: 1 },
+    LineEvent::Pick { pass: 1, who: 2 },
+];
+
+const GIVE: [LineEvent; 1] = [LineEvent::Give { pass: 1 }];
+
 #[test]
-fn a_waiter_is_moved_up_behind_the_group(rt: HostRuntime) -> Result<(), Fail> {
-    let mut state = LineState::open(rt.alloc(), 5)?;
-    let join = [
-        STEAL,
-        LineEvent::Join { pass: 1 },
-        LineEvent::Join { pass: 2 },
-        LineEvent::Join { pass: 3 },
-        LineEvent::Join { pass: 4 },
-        LineEvent::Begin { pass: 1 },
-        LineEvent::Pick { pass: 1, who: 3 },
-        LineEvent::Pick { pass: 1, who: 2 },
-    ];
-    assert_eq!(rt; play(&mut state, &join, 1024), 7);
-    assert_eq!(rt;
-        waits(&state, &[1, 2, 4], Some(3), Role::Walk(1), &[0, 1, 0, 0, 0]),
-        true
+fn a_waiter_is_moved_up_behind_the_group(rt: HostRuntime) {
+    let mut state = opened(&rt, rt.alloc(), 5);
+    plays(&rt, &mut state, &JOIN, 1024, 7);
+    let walks = Role::Walk(1);
+    holds(
+        &rt,
+        waits(&state, &[1, 2, 4], Some(3), walks, &[0, 1, 0, 0, 0]),
     );
-    let move_up = [
-        LineEvent::Place { pass: 1 },
-        LineEvent::Keep { pass: 1 },
-        LineEvent::Pick { pass: 1, who: 2 },
-    ];
-    assert_eq!(rt; play(&mut state, &move_up, 1024), 2);
-    let give = [LineEvent::Give { pass: 1 }];
-    assert_eq!(rt; play(&mut state, &give, 1024), 1);
-    assert_eq!(rt;
-        waits(&state, &[1, 3, 2, 4], None, Role::Rest(3), &[0, 1, 0, 2, 0]),
-        true
+    plays(&rt, &mut state, &MOVE_UP, 1024, 2);
+    plays(&rt, &mut state, &GIVE, 1024, 1);
+    let rests = Role::Rest(3);
+    holds(
+        &rt,
+        waits(&state, &[1, 3, 2, 4], None, rests, &[0, 1, 0, 2, 0]),
     );
-    Ok(())
+}
+
+const FILL: [LineEvent; 6] = [
+    STEAL,
+    LineEvent::Join { pass: 1 },
+    LineEvent::Join { pass: 2 },
+    LineEvent::Begin { pass: 1 },
+    LineEvent::Keep { pass: 1 },
+    LineEvent::Keep { pass: 1 },
+];
+
+const LEAVE: [LineEvent; 6] = [
+    LineEvent::Give { pass: 1 },
+    LineEvent::Release { pass: 0 },
+    LineEvent::Grab {
+        pass: 1,
+        mode: Mode::Write,
+    },
+    LineEvent::Leave { pass: 1 },
+    LineEvent::Nothing,
+    LineEvent::Begin { pass: 2 },
+];
+
+const REST: [LineEvent; 1] = [LineEvent::Rest { pass: 2 }];
+
+#[test]
+fn a_full_group_begins_no_round(rt: HostRuntime) {
+    let mut state = opened(&rt, rt.alloc(), 3);
+    plays(&rt, &mut state, &FILL, 2, 5);
+    plays(&rt, &mut state, &LEAVE, 2, 5);
+    same(&rt, &state.hold(), &[(1, Mode::Write)].as_slice());
+    holds(&rt, waits(&state, &[2], None, Role::Rest(2), &[0, 0, 2]));
+    plays(&rt, &mut state, &REST, 2, 1);
+    same(&rt, state.role(), &Role::Nobody);
+}
+
+const READ: [LineEvent; 3] = [
+    LineEvent::Steal {
+        pass: 2,
+        mode: Mode::Read,
+    },
+    LineEvent::Steal {
+        pass: 0,
+        mode: Mode::Read,
+    },
+    LineEvent::Steal {
+        pass: 1,
+        mode: Mode::Write,
+    },
+];
+
+#[test]
+fn readers_hold_together_in_rising_order(rt: HostRuntime) {
+    let mut state = opened(&rt, rt.alloc(), 3);
+    plays(&rt, &mut state, &READ, 1, 2);
+    let readers = [(0, Mode::Read), (2, Mode::Read)];
+    same(&rt, &state.hold(), &readers.as_slice());
 }
 
 #[test]
-fn a_full_group_begins_no_round(rt: HostRuntime) -> Result<(), Fail> {
-    let mut state = LineState::open(rt.alloc(), 3)?;
-    let fill = [
-        STEAL,
-        LineEvent::Join { pass: 1 },
-        LineEvent::Join { pass: 2 },
-        LineEvent::Begin { pass: 1 },
-        LineEvent::Keep { pass: 1 },
-        LineEvent::Keep { pass: 1 },
-    ];
-    assert_eq!(rt; play(&mut state, &fill, 2), 5);
-    let leave = [
-        LineEvent::Give { pass: 1 },
-        LineEvent::Release { pass: 0 },
-        LineEvent::Grab {
-            pass: 1,
-            mode: Mode::Write,
-        },
-        LineEvent::Leave { pass: 1 },
-        LineEvent::Nothing,
-        LineEvent::Begin { pass: 2 },
-    ];
-    assert_eq!(rt; play(&mut state, &leave, 2), 5);
-    assert_eq!(rt; state.hold(), [(1, Mode::Write)].as_slice());
-    assert_eq!(rt; waits(&state, &[2], None, Role::Rest(2), &[0, 0, 2]), true);
-    let rest = [LineEvent::Rest { pass: 2 }];
-    assert_eq!(rt; play(&mut state, &rest, 2), 1);
-    assert_eq!(rt; *state.role(), Role::Nobody);
-    Ok(())
-}
-
-#[test]
-fn readers_hold_together_in_rising_order(rt: HostRuntime) -> Result<(), Fail> {
-    let mut state = LineState::open(rt.alloc(), 3)?;
-    let read = [
-        LineEvent::Steal {
-            pass: 2,
-            mode: Mode::Read,
-        },
-        LineEvent::Steal {
-            pass: 0,
-            mode: Mode::Read,
-        },
-        LineEvent::Steal {
-            pass: 1,
-            mode: Mode::Write,
-        },
-    ];
-    assert_eq!(rt; play(&mut state, &read, 1), 2);
-    assert_eq!(rt; state.hold(), [(0, Mode::Read), (2, Mode::Read)].as_slice());
-    Ok(())
-}
-
-#[test]
-fn a_state_is_filled_from_outside(rt: HostRuntime) -> Result<(), Fail> {
-    let mut state = LineState::open(rt.alloc(), 3)?;
+fn a_state_is_filled_from_outside(rt: HostRuntime) {
+    let mut state = LineState::open(rt.alloc(), 3).expect(&rt, "memory");
     state.clear();
     state.add_hold(1, Mode::Write);
     state.add_line(2, 1);
     state.set(None, Role::Rest(2));
-    assert_eq!(rt; state.hold(), [(1, Mode::Write)].as_slice());
-    assert_eq!(rt; waits(&state, &[2], None, Role::Rest(2), &[0, 0, 1]), true);
-    Ok(())
+    same(&rt, &state.hold(), &[(1, Mode::Write)].as_slice());
+    holds(&rt, waits(&state, &[2], None, Role::Rest(2), &[0, 0, 1]));
 }
 
 #[test]
@@ -154,7 +174,7 @@ fn words_have_their_layout(rt: HostRuntime) {
         closed: true,
         readers: 2,
     };
-    assert_eq!(rt; lock.pack(), 0x2_0000_0101);
+    same(&rt, &lock.pack(), &0x2_0000_0101);
     let state = NodeState {
         ready: false,
         shuffler: true,
@@ -162,15 +182,15 @@ fn words_have_their_layout(rt: HostRuntime) {
         spin: true,
         batch: 5,
     };
-    assert_eq!(rt; state.pack(), 0x5_000e);
+    same(&rt, &state.pack(), &0x5_000e);
     let attr = Attr {
         socket: 1,
         prio: 2,
         class: 3,
         kind: 4,
     };
-    assert_eq!(rt; attr.pack(), 0x4_0003_0002_0001);
-    assert_eq!(rt; Attr::unpack(0x4_0003_0002_0001), attr);
+    same(&rt, &attr.pack(), &0x4_0003_0002_0001);
+    same(&rt, &Attr::unpack(0x4_0003_0002_0001), &attr);
 }
 
 #[test]
@@ -183,7 +203,7 @@ fn each_bit_of_a_word_has_its_own_place(rt: HostRuntime) {
             spin: bit == 3,
             batch: 0,
         };
-        assert_eq!(rt; state.pack(), *word);
+        same(&rt, &state.pack(), word);
     }
     for (bit, word) in [1, 256].iter().enumerate() {
         let lock = LockWord {
@@ -191,7 +211,7 @@ fn each_bit_of_a_word_has_its_own_place(rt: HostRuntime) {
             closed: bit == 1,
             readers: 0,
         };
-        assert_eq!(rt; lock.pack(), *word);
+        same(&rt, &lock.pack(), word);
     }
 }
 
@@ -199,11 +219,11 @@ fn each_bit_of_a_word_has_its_own_place(rt: HostRuntime) {
 fn policies_answer_by_the_socket_or_always_alike(rt: HostRuntime) {
     let here = Attr::unpack(1);
     let there = Attr::unpack(2);
-    assert_eq!(rt; BySocket.should(&here, &here, 1), true);
-    assert_eq!(rt; BySocket.should(&here, &there, 1), false);
-    assert_eq!(rt; Always.should(&here, &there, 1), true);
-    assert_eq!(rt; Never.should(&here, &here, 1), false);
-    assert_eq!(rt; Always.skip(&here, 1), false);
+    holds(&rt, BySocket.should(&here, &here, 1));
+    holds(&rt, !BySocket.should(&here, &there, 1));
+    holds(&rt, Always.should(&here, &there, 1));
+    holds(&rt, !Never.should(&here, &here, 1));
+    holds(&rt, !Always.skip(&here, 1));
 }
 
 // A policy that tells its answers, until it has no memory for one more.
@@ -263,7 +283,7 @@ impl Chooser for Recorder {
 }
 
 #[test]
-fn a_policy_tells_its_answers(rt: HostRuntime) -> Result<(), Fail> {
+fn a_policy_tells_its_answers(rt: HostRuntime) {
     let mut policy = Recorder {
         answers: Vec::new(rt.alloc()),
         lost: false,
@@ -271,18 +291,16 @@ fn a_policy_tells_its_answers(rt: HostRuntime) -> Result<(), Fail> {
     };
     let here = Attr::unpack(1);
     policy.begin(&rt);
-    assert_eq!(rt; policy.skip(&here, 1), false);
-    assert_eq!(rt; policy.should(&here, &here, 2), true);
+    holds(&rt, !policy.skip(&here, 1));
+    holds(&rt, policy.should(&here, &here, 2));
     policy.end();
-    assert_eq!(rt; policy.answers.len(), 2);
-    assert_eq!(rt; policy.asking, false);
-    Ok(())
+    same(&rt, &policy.answers.len(), &2);
+    holds(&rt, !policy.asking);
 }
 
 #[test]
-fn want_of_memory_is_told(rt: HostRuntime) -> Result<(), Fail> {
+fn want_of_memory_is_told(rt: HostRuntime) {
     let error = NoMemory;
-    let told = format!(in rt.alloc(); "{error}")?;
-    assert_eq!(rt; told.as_str(), "there is not enough memory");
-    Ok(())
+    let told = format!(in rt.alloc(); "{error}").expect(&rt, "memory");
+    same(&rt, &told.as_str(), &"there is not enough memory");
 }

@@ -6,6 +6,7 @@ ghost use Rattle.std.specs.Prelude.{◌≡◌, ◌<◌, ◌≤◌};
 ghost use Rattle.shfl_core.specs.Waiting.{fresh};
 ghost use Rattle.shfl_line.specs.declared.events.Form.TheVariants.{Rw as RwForm, Park as ParkForm, RwPark as RwParkForm};
 
+use crate::checks::{holds, same};
 use boards::Boards;
 use draws::Draws;
 use shfl_core::{Board, Local, PlainWorld, Waiter};
@@ -15,7 +16,6 @@ use shfl_rw_core::RwLocal;
 use shfl_solo::Solo;
 use shfl_world::World;
 use std::alloc::Global;
-use std::test::Fail;
 
 /// How many events a schedule has.
 const EVENTS: u32 = 2_000;
@@ -111,58 +111,49 @@ fn limit(size: u16) -> u16
 }
 
 #[test]
-fn one_caller_takes_the_free_lock_and_gives_it_back(rt: HostRuntime) -> Result<(), Fail> {
+fn one_caller_takes_the_free_lock_and_gives_it_back(rt: HostRuntime) {
     let attrs = [PLAIN];
-    let mut lock = Solo::open(rt.alloc(), &attrs, Form::Spin, 1024)
-        .ok()
-        .ok_or("memory")?;
+    let mut lock = Solo::open(rt.alloc(), &attrs, Form::Spin, 1024).expect(&rt, "memory");
     let begun = lock.acquire(0, Mode::Write);
-    assert!(rt; begun);
+    holds(&rt, begun);
     let stolen = lock.step(0, false);
-    assert!(rt; stolen);
-    assert_eq!(rt; lock.word(), 1);
+    holds(&rt, stolen);
+    same(&rt, &lock.word(), &1);
     let given = lock.release(0);
-    assert!(rt; given);
+    holds(&rt, given);
     let freed = lock.step(0, false);
-    assert!(rt; freed);
-    assert_eq!(rt; lock.word(), 0);
-    Ok(())
+    holds(&rt, freed);
+    same(&rt, &lock.word(), &0);
 }
 
 #[test]
-fn writers_that_spin_run_alike(rt: HostRuntime) -> Result<(), Fail> {
+fn writers_that_spin_run_alike(rt: HostRuntime) {
     for size in 1..4u16 {
-        let mut boards = spinning(rt.alloc(), limit(size)).ok().ok_or("memory")?;
-        assert!(rt; runs_alike(&mut boards, u64::from(size)));
+        let mut boards = spinning(rt.alloc(), limit(size)).expect(&rt, "memory");
+        holds(&rt, runs_alike(&mut boards, u64::from(size)));
     }
-    Ok(())
 }
 
 #[test]
-fn readers_and_writers_run_alike(rt: HostRuntime) -> Result<(), Fail> {
+fn readers_and_writers_run_alike(rt: HostRuntime) {
     for size in 1..4u16 {
-        let mut boards = shared(rt.alloc(), limit(size)).ok().ok_or("memory")?;
-        assert!(rt; runs_alike(&mut boards, u64::from(size)));
+        let mut boards = shared(rt.alloc(), limit(size)).expect(&rt, "memory");
+        holds(&rt, runs_alike(&mut boards, u64::from(size)));
     }
-    Ok(())
 }
 
 #[test]
-fn writers_that_park_run_alike(rt: HostRuntime) -> Result<(), Fail> {
+fn writers_that_park_run_alike(rt: HostRuntime) {
     for size in 1..4u16 {
-        let mut boards = parked(rt.alloc(), limit(size)).ok().ok_or("memory")?;
-        assert!(rt; runs_alike(&mut boards, u64::from(size)));
+        let mut boards = parked(rt.alloc(), limit(size)).expect(&rt, "memory");
+        holds(&rt, runs_alike(&mut boards, u64::from(size)));
     }
-    Ok(())
 }
 
 #[test]
-fn readers_and_writers_that_park_run_alike(rt: HostRuntime) -> Result<(), Fail> {
+fn readers_and_writers_that_park_run_alike(rt: HostRuntime) {
     for size in 1..4u16 {
-        let mut boards = parked_and_shared(rt.alloc(), limit(size))
-            .ok()
-            .ok_or("memory")?;
-        assert!(rt; runs_alike(&mut boards, u64::from(size)));
+        let mut boards = parked_and_shared(rt.alloc(), limit(size)).expect(&rt, "memory");
+        holds(&rt, runs_alike(&mut boards, u64::from(size)));
     }
-    Ok(())
 }

@@ -5,6 +5,7 @@ mod trial;
 
 ghost use Rattle.std.specs.Prelude.{◌≡◌, ◌<◌, ◌≤◌};
 
+use crate::checks::{holds, same};
 use crate::one_seat::draws::{Act, Draws, Event};
 use crate::one_seat::{parking, parking_and_sharing, sharing};
 use shfl_core::{Local, Waiter};
@@ -13,7 +14,6 @@ use shfl_park::Parked;
 use shfl_rw_core::RwLocal;
 use shfl_world::World;
 use std::alloc::Global;
-use std::test::Fail;
 use trial::{Policy, Trial};
 
 /// How many events a schedule has. Each form has six schedules.
@@ -113,45 +113,35 @@ fn both_stay_within<W: Waiter + Drop>(trial: &mut Trial<W>, size: u16) -> bool {
 }
 
 #[test]
-fn no_policy_overtakes_a_writer_that_spins_more_often_than_it_may(
-    rt: HostRuntime,
-) -> Result<(), Fail> {
+fn no_policy_overtakes_a_writer_that_spins_more_often_than_it_may(rt: HostRuntime) {
     for limit in 1..4u16 {
-        let mut trial = spinning(rt.alloc(), limit).ok().ok_or("memory")?;
-        assert!(rt; both_stay_within(&mut trial, limit));
+        let mut trial = spinning(rt.alloc(), limit).expect(&rt, "memory");
+        holds(&rt, both_stay_within(&mut trial, limit));
     }
-    Ok(())
 }
 
 #[test]
-fn no_policy_overtakes_a_reader_more_often_than_it_may(rt: HostRuntime) -> Result<(), Fail> {
+fn no_policy_overtakes_a_reader_more_often_than_it_may(rt: HostRuntime) {
     for limit in 1..4u16 {
-        let mut trial = shared(rt.alloc(), limit).ok().ok_or("memory")?;
-        assert!(rt; both_stay_within(&mut trial, limit));
+        let mut trial = shared(rt.alloc(), limit).expect(&rt, "memory");
+        holds(&rt, both_stay_within(&mut trial, limit));
     }
-    Ok(())
 }
 
 #[test]
-fn no_policy_overtakes_a_writer_that_parks_more_often_than_it_may(
-    rt: HostRuntime,
-) -> Result<(), Fail> {
+fn no_policy_overtakes_a_writer_that_parks_more_often_than_it_may(rt: HostRuntime) {
     for limit in 1..4u16 {
-        let mut trial = parked(rt.alloc(), limit).ok().ok_or("memory")?;
-        assert!(rt; both_stay_within(&mut trial, limit));
+        let mut trial = parked(rt.alloc(), limit).expect(&rt, "memory");
+        holds(&rt, both_stay_within(&mut trial, limit));
     }
-    Ok(())
 }
 
 #[test]
-fn no_policy_overtakes_a_reader_that_parks_more_often_than_it_may(
-    rt: HostRuntime,
-) -> Result<(), Fail> {
+fn no_policy_overtakes_a_reader_that_parks_more_often_than_it_may(rt: HostRuntime) {
     for limit in 1..4u16 {
-        let mut trial = parked_and_shared(rt.alloc(), limit).ok().ok_or("memory")?;
-        assert!(rt; both_stay_within(&mut trial, limit));
+        let mut trial = parked_and_shared(rt.alloc(), limit).expect(&rt, "memory");
+        holds(&rt, both_stay_within(&mut trial, limit));
     }
-    Ok(())
 }
 
 // A pass, which begins to take the lock or gives it back where it can, and the steps that it makes then. With a limit of
@@ -206,13 +196,12 @@ fn plays<W: Waiter + Drop>(trial: &mut Trial<W>, pass: u32, steps: u32) -> bool 
 }
 
 #[test]
-fn a_policy_overtakes_as_often_as_it_may(rt: HostRuntime) -> Result<(), Fail> {
-    let mut trial = spinning(rt.alloc(), 2).ok().ok_or("memory")?;
+fn a_policy_overtakes_as_often_as_it_may(rt: HostRuntime) {
+    let mut trial = spinning(rt.alloc(), 2).expect(&rt, "memory");
     for (at, row) in OVERTAKEN.iter().enumerate() {
         let within = plays(&mut trial, row.0, row.1);
         assert!(rt; within, "row {at}");
     }
     // 2, which joined behind 1, and 3
-    assert_eq!(rt; trial.reached(), 2);
-    Ok(())
+    same(&rt, &trial.reached(), &2);
 }

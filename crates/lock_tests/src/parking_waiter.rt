@@ -1,8 +1,8 @@
 //! Two callers.
+use crate::checks::{holds, same};
 use shfl_core::{Access, Local, Nap, Phase, Waiter, Word};
 use shfl_line::{Attr, Mode};
 use shfl_park::Parked;
-use std::test::Fail;
 
 const PLAIN: Attr = Attr {
     socket: 0,
@@ -12,34 +12,33 @@ const PLAIN: Attr = Attr {
 };
 
 #[test]
-fn a_waiter_in_no_batch_dozes(rt: HostRuntime) -> Result<(), Fail> {
+fn a_waiter_in_no_batch_dozes(rt: HostRuntime) {
     let mut waiter = Parked::new(Local::new(2, PLAIN, 1024));
     let begun = waiter.acquire(Mode::Write);
-    assert!(rt; begun);
+    holds(&rt, begun);
 
     // The lock is held, and pass 1 stands before it: lost, cleared, queued behind 1, linked, looked.
     waiter.take(1, false);
     waiter.take(0, false);
     waiter.take(2, false);
     waiter.take(0, false);
-    assert_eq!(rt; waiter.phase(), Phase::Look);
+    same(&rt, &waiter.phase(), &Phase::Look);
     waiter.take(0, false);
-    assert_eq!(rt; waiter.nap(), Nap::Doze);
+    same(&rt, &waiter.nap(), &Nap::Doze);
     let announces = Access::Or {
         w: Word::State(2),
         v: 4,
     };
-    assert_eq!(rt; waiter.plan(), announces);
+    same(&rt, &waiter.plan(), &announces);
     waiter.take(0, false);
-    assert_eq!(rt; waiter.nap(), Nap::Hear);
-    Ok(())
+    same(&rt, &waiter.nap(), &Nap::Hear);
 }
 
 #[test]
-fn a_holder_rings_the_successor_that_sleeps(rt: HostRuntime) -> Result<(), Fail> {
+fn a_holder_rings_the_successor_that_sleeps(rt: HostRuntime) {
     let mut waiter = Parked::new(Local::new(0, PLAIN, 1024));
     let begun = waiter.acquire(Mode::Write);
-    assert!(rt; begun);
+    holds(&rt, begun);
 
     // The lock is held, and nobody waits: lost, cleared, queued, closed, and a round that is skipped.
     waiter.take(1, false);
@@ -53,19 +52,18 @@ fn a_holder_rings_the_successor_that_sleeps(rt: HostRuntime) -> Result<(), Fail>
     waiter.take(256, false);
     waiter.take(256, false);
     waiter.take(3, false);
-    assert_eq!(rt; waiter.phase(), Phase::Ready);
+    same(&rt, &waiter.phase(), &Phase::Ready);
     waiter.take(4, false);
-    assert_eq!(rt; waiter.nap(), Nap::Ring { whom: 2 });
+    same(&rt, &waiter.nap(), &Nap::Ring { whom: 2 });
     let early = waiter.release();
-    assert!(rt; !early);
+    holds(&rt, !early);
     let rings = Access::Store {
         w: Word::Bell(2),
         v: 1,
     };
-    assert_eq!(rt; waiter.plan(), rings);
+    same(&rt, &waiter.plan(), &rings);
     waiter.take(0, false);
-    assert_eq!(rt; waiter.nap(), Nap::Awake);
+    same(&rt, &waiter.nap(), &Nap::Awake);
     let freed = waiter.release();
-    assert!(rt; freed);
-    Ok(())
+    holds(&rt, freed);
 }

@@ -3,7 +3,6 @@ use shfl_core::{Board, Local};
 use shfl_line::{Attr, LineState, Mode, NoMemory, Role};
 use shfl_world::World;
 use std::alloc::Global;
-use std::test::Fail;
 
 const PLAIN: Attr = Attr {
     socket: 0,
@@ -67,9 +66,10 @@ const ROUND: [Row; 18] = [
     (1, 1, false, TAKEN, SHORTER, None, REST, (0, 2)),
 ];
 
+const FIVE: [Attr; 5] = [PLAIN, PLAIN, PLAIN, PLAIN, PLAIN];
+
 fn open(alloc: Global) -> Result<World<Local>, NoMemory> {
-    let attrs = [PLAIN, PLAIN, PLAIN, PLAIN, PLAIN];
-    World::open(alloc, &attrs, 1024, Local::new)
+    World::open(alloc, &FIVE, 1024, Local::new)
 }
 
 // An idle pass begins to take the lock, and a holder to give it back; then the steps.
@@ -94,19 +94,18 @@ fn queue_is(out: &LineState, line: &[u32], hand: Option<u32>, role: Role, batch:
 }
 
 #[test]
-fn each_part_of_a_round_is_shown(rt: HostRuntime) -> Result<(), Fail> {
-    let mut lock = open(rt.alloc()).ok().ok_or("memory")?;
-    let mut out = LineState::open(rt.alloc(), 5).ok().ok_or("memory")?;
+fn each_part_of_a_round_is_shown(rt: HostRuntime) {
+    let mut lock = open(rt.alloc()).expect(&rt, "memory");
+    let mut out = LineState::open(rt.alloc(), 5).expect(&rt, "memory");
     for (at, row) in ROUND.iter().enumerate() {
         let made = moves(&mut lock, row.0, row.1, row.2);
         assert!(rt; made, "row {at}");
         if out.mark().len() != lock.count() {
-            return Err("passes".into());
+            panic!(rt; "passes");
         }
         lock.show(&mut out);
         assert!(rt; out.hold() == row.3, "row {at}");
         let shown = queue_is(&out, row.4, row.5, row.6, row.7);
         assert!(rt; shown, "row {at}");
     }
-    Ok(())
 }

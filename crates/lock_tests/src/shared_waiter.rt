@@ -1,8 +1,8 @@
 //! One caller.
+use crate::checks::{holds, same};
 use shfl_core::{Access, Phase, Waiter, Word};
 use shfl_line::{Attr, Form, Mode};
 use shfl_rw_core::RwLocal;
-use std::test::Fail;
 
 const PLAIN: Attr = Attr {
     socket: 0,
@@ -12,16 +12,15 @@ const PLAIN: Attr = Attr {
 };
 
 #[test]
-fn a_reader_counts_itself(rt: HostRuntime) -> Result<(), Fail> {
+fn a_reader_counts_itself(rt: HostRuntime) {
     let mut waiter = RwLocal::new(3, PLAIN, 1024, Form::Rw);
     let begun = waiter.acquire(Mode::Read);
-    assert!(rt; begun);
+    holds(&rt, begun);
     let one_more = Access::Add {
         w: Word::Lock,
         v: 4294967296,
     };
-    assert_eq!(rt; waiter.plan(), one_more);
+    same(&rt, &waiter.plan(), &one_more);
     waiter.take(0, false);
-    assert_eq!(rt; waiter.phase(), Phase::Held);
-    Ok(())
+    same(&rt, &waiter.phase(), &Phase::Held);
 }

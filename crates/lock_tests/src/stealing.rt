@@ -1,8 +1,10 @@
 //! A queue's head beside passes that don't queue, on one thread.
+use crate::checks::{holds, same};
+use crate::tickets::last;
 use shfl_line::{Form, Mode};
 use shfl_ticket::{Ticket, open, outcome_told};
 use std::alloc::Global;
-use std::test::Fail;
+use std::process::Abort;
 
 const FORMS: [Form; 4] = [Form::Spin, Form::Rw, Form::Park, Form::RwPark];
 
@@ -28,31 +30,45 @@ fn advanced(ticket: &mut Ticket, count: u32) -> u8 {
     last
 }
 
-/// The first pass queues behind the other, and leaves the queue last: its tail word is 0 before the second one joins, and stealing is
-/// enabled after that one has disabled it.
-fn opened_behind(alloc: Global, form: Form) -> Result<Passed, Fail> {
-    let mut tickets = open(alloc, &[0; 3], form, 1024)?;
-    let mut other = tickets.pop().ok_or("no ticket")?;
-    let mut head = tickets.pop().ok_or("no ticket")?;
-    let mut holder = tickets.pop().ok_or("no ticket")?;
-    let _ = other.acquire(Mode::Write);
-    let _ = advanced(&mut other, 1);
-    // Steal, Init, Swap, Close, Begin, Give.
-    let _ = holder.acquire(Mode::Write);
-    let _ = advanced(&mut holder, 6);
-    let _ = other.release();
-    let _ = advanced(&mut other, 1);
-    // Peek, Grab, Take, Cut.
-    let _ = advanced(&mut holder, 4);
-    let _ = head.acquire(Mode::Write);
-    let _ = advanced(&mut head, 6);
-    // Open.
-    let _ = advanced(&mut holder, 1);
-    Ok(Passed {
+/// The tickets of a lock of three passes.
+fn open_three(rt: &impl Abort, alloc: Global, form: Form) -> Passed {
+    let mut tickets = open(alloc, &[0; 3], form, 1024).ok().expect(rt, "a lock");
+    let other = last(rt, &mut tickets);
+    let head = last(rt, &mut tickets);
+    let holder = last(rt, &mut tickets);
+    Passed {
         holder,
         head,
         other,
-    })
+    }
+}
+
+/// Begins to take the lock, and makes so many steps.
+fn begin(ticket: &mut Ticket, count: u32) {
+    let _ = ticket.acquire(Mode::Write);
+    let _ = advanced(ticket, count);
+}
+
+/// Gives the lock back.
+fn free(ticket: &mut Ticket) {
+    let _ = ticket.release();
+    let _ = advanced(ticket, 1);
+}
+
+/// The first pass queues behind the other, and leaves the queue last: its tail word is 0 before the second one joins, and stealing is
+/// enabled after that one has disabled it.
+fn opened_behind(rt: &impl Abort, alloc: Global, form: Form) -> Passed {
+    let mut passes = open_three(rt, alloc, form);
+    begin(&mut passes.other, 1);
+    // Steal, Init, Swap, Close, Begin, Give.
+    begin(&mut passes.holder, 6);
+    free(&mut passes.other);
+    // Peek, Grab, Take, Cut.
+    let _ = advanced(&mut passes.holder, 4);
+    begin(&mut passes.head, 6);
+    // Open.
+    let _ = advanced(&mut passes.holder, 1);
+    passes
 }
 
 /// The holder leaves.
@@ -60,59 +76,58 @@ fn leave(ticket: &mut Ticket) -> bool {
     ticket.resting() && !ticket.leave()
 }
 
-#[test]
-fn a_head_finds_stealing_enabled_and_is_passed(rt: HostRuntime) -> Result<(), Fail> {
-    for form in FORMS {
-        let mut passes = opened_behind(rt.alloc(), form)?;
-        let found = advanced(&mut passes.head, 1);
-        let left = leave(&mut passes.holder);
-        let stolen = passes.other.attempt(Mode::Write);
-        assert!(rt; found == IN_VAIN_OPEN && left && stolen);
-    }
-    Ok(())
+/// Whether the ticket has the lock by an attempt.
+fn steals(ticket: &mut Ticket) -> bool {
+    ticket.attempt(Mode::Write)
 }
 
 #[test]
-fn a_head_that_disables_stealing_again_is_not_passed(rt: HostRuntime) -> Result<(), Fail> {
+fn a_head_finds_stealing_enabled_and_is_passed(rt: HostRuntime) {
     for form in FORMS {
-        let mut passes = opened_behind(rt.alloc(), form)?;
-        let disabled = passes.head.disable_stealing().is_some();
-        let found = advanced(&mut passes.head, 1);
-        let left = leave(&mut passes.holder);
-        assert!(rt; disabled && found == IN_VAIN && left);
+        let mut passes = opened_behind(&rt, rt.alloc(), form);
+        same(&rt, &advanced(&mut passes.head, 1), &IN_VAIN_OPEN);
+        holds(&rt, leave(&mut passes.holder));
+        holds(&rt, steals(&mut passes.other));
+    }
+}
+
+/// The head disables stealing again, and the holder leaves.
+fn disable_and_leave(rt: &impl Abort, passes: &mut Passed) {
+    holds(rt, passes.head.disable_stealing().is_some());
+    same(rt, &advanced(&mut passes.head, 1), &IN_VAIN);
+    holds(rt, leave(&mut passes.holder));
+}
+
+#[test]
+fn a_head_that_disables_stealing_again_is_not_passed(rt: HostRuntime) {
+    for form in FORMS {
+        let mut passes = opened_behind(&rt, rt.alloc(), form);
+        disable_and_leave(&rt, &mut passes);
         for _ in 0..1000 {
-            let stolen = passes.other.attempt(Mode::Write);
-            assert!(rt; !stolen);
+            holds(&rt, !steals(&mut passes.other));
         }
         // Peek, Grab, Take, Cut, Open.
         let _ = advanced(&mut passes.head, 5);
-        let holds = passes.head.resting();
-        assert!(rt; holds);
-        let left = leave(&mut passes.head);
-        let taken = passes.other.attempt(Mode::Write);
-        assert!(rt; left && taken);
+        holds(&rt, passes.head.resting());
+        holds(&rt, leave(&mut passes.head));
+        holds(&rt, steals(&mut passes.other));
     }
-    Ok(())
 }
 
 #[test]
-fn a_pass_that_is_not_the_head_disables_nothing(rt: HostRuntime) -> Result<(), Fail> {
-    let mut passes = opened_behind(rt.alloc(), Form::Rw)?;
-    let by_holder = passes.holder.disable_stealing().is_none();
-    let by_other = passes.other.disable_stealing().is_none();
-    assert!(rt; by_holder && by_other);
-    Ok(())
+fn a_pass_that_is_not_the_head_disables_nothing(rt: HostRuntime) {
+    let mut passes = opened_behind(&rt, rt.alloc(), Form::Rw);
+    holds(&rt, passes.holder.disable_stealing().is_none());
+    holds(&rt, passes.other.disable_stealing().is_none());
 }
 
 #[test]
-fn an_attempt_of_a_holder_is_refused_and_forgets_nothing(rt: HostRuntime) -> Result<(), Fail> {
+fn an_attempt_of_a_holder_is_refused_and_forgets_nothing(rt: HostRuntime) {
     for form in FORMS {
-        let mut passes = opened_behind(rt.alloc(), form)?;
-        let again = passes.holder.attempt(Mode::Write);
-        let held = passes.holder.resting();
-        let left = leave(&mut passes.holder);
-        let taken = passes.other.attempt(Mode::Write);
-        assert!(rt; !again && held && left && taken);
+        let mut passes = opened_behind(&rt, rt.alloc(), form);
+        holds(&rt, !steals(&mut passes.holder));
+        holds(&rt, passes.holder.resting());
+        holds(&rt, leave(&mut passes.holder));
+        holds(&rt, steals(&mut passes.other));
     }
-    Ok(())
 }

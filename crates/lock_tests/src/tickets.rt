@@ -1,9 +1,10 @@
 //! Tickets of one lock, on one thread.
+use crate::checks::{holds, same};
 use bpf_isa::Profile;
 use shfl_line::{Form, Mode};
 use shfl_ticket::{ShflVerdict, ShflWatch, Ticket, ask_told, open, verdict_told, watch_told};
 use std::alloc::Global;
-use std::test::Fail;
+use std::process::Abort;
 
 const FORMS: [Form; 4] = [Form::Spin, Form::Rw, Form::Park, Form::RwPark];
 
@@ -28,19 +29,24 @@ struct Four {
     fourth: Ticket,
 }
 
+/// The last of the tickets that are left.
+pub(crate) fn last(rt: &impl Abort, tickets: &mut Vec<Ticket>) -> Ticket {
+    tickets.pop().expect(rt, "a ticket")
+}
+
 /// The tickets of a lock whose passes are on these sockets.
-fn open_four(alloc: Global, form: Form, sockets: [u64; 4]) -> Result<Four, Fail> {
-    let mut tickets = open(alloc, &sockets, form, 1024)?;
-    let fourth = tickets.pop().ok_or("no ticket")?;
-    let third = tickets.pop().ok_or("no ticket")?;
-    let second = tickets.pop().ok_or("no ticket")?;
-    let first = tickets.pop().ok_or("no ticket")?;
-    Ok(Four {
+fn open_four(rt: &impl Abort, alloc: Global, form: Form, sockets: [u64; 4]) -> Four {
+    let mut tickets = open(alloc, &sockets, form, 1024).ok().expect(rt, "a lock");
+    let fourth = last(rt, &mut tickets);
+    let third = last(rt, &mut tickets);
+    let second = last(rt, &mut tickets);
+    let first = last(rt, &mut tickets);
+    Four {
         first,
         second,
         third,
         fourth,
-    })
+    }
 }
 
 /// So many steps that choose no.
@@ -65,48 +71,53 @@ fn wins(ticket: &mut Ticket) -> bool {
     ticket.attempt(Mode::Write)
 }
 
+/// Begins to take the lock, and queues behind the others.
+fn queue_up(ticket: &mut Ticket) {
+    let _ = ticket.acquire(Mode::Write);
+    steps(ticket, 4);
+}
+
 /// The first holds the lock, and the others are queued behind it. A round doesn't ask about the queue's end.
-fn queued(alloc: Global, form: Form) -> Result<Four, Fail> {
-    queued_on(alloc, form, [0; 4])
+fn queued(rt: &impl Abort, alloc: Global, form: Form) -> Four {
+    queued_on(rt, alloc, form, [0; 4])
 }
 
 /// The same, with the passes on these sockets.
-fn queued_on(alloc: Global, form: Form, sockets: [u64; 4]) -> Result<Four, Fail> {
-    let mut tickets = open_four(alloc, form, sockets)?;
+fn queued_on(rt: &impl Abort, alloc: Global, form: Form, sockets: [u64; 4]) -> Four {
+    let mut tickets = open_four(rt, alloc, form, sockets);
     let _ = enters(&mut tickets.first);
-    let _ = tickets.second.acquire(Mode::Write);
-    steps(&mut tickets.second, 4);
-    let _ = tickets.third.acquire(Mode::Write);
-    steps(&mut tickets.third, 4);
-    let _ = tickets.fourth.acquire(Mode::Write);
-    steps(&mut tickets.fourth, 4);
-    Ok(tickets)
+    queue_up(&mut tickets.second);
+    queue_up(&mut tickets.third);
+    queue_up(&mut tickets.fourth);
+    tickets
 }
 
 #[test]
-fn tickets_come_in_order(rt: HostRuntime) -> Result<(), Fail> {
-    let tickets = open_four(rt.alloc(), Form::Spin, [5, 6, 7, 8])?;
-    assert_eq!(rt; tickets.first.number(), 0);
-    assert_eq!(rt; tickets.second.number(), 1);
-    assert_eq!(rt; tickets.third.number(), 2);
-    assert_eq!(rt; tickets.fourth.number(), 3);
-    Ok(())
+fn tickets_come_in_order(rt: HostRuntime) {
+    let tickets = open_four(&rt, rt.alloc(), Form::Spin, [5, 6, 7, 8]);
+    same(&rt, &tickets.first.number(), &0);
+    same(&rt, &tickets.second.number(), &1);
+    same(&rt, &tickets.third.number(), &2);
+    same(&rt, &tickets.fourth.number(), &3);
+}
+
+/// The first gives the lock back, and the second, which waits, has it then.
+fn hand_on(rt: &impl Abort, tickets: &mut Four) {
+    steps(&mut tickets.second, 60);
+    holds(rt, tickets.first.held() && !tickets.second.held());
+    holds(rt, tickets.first.release());
+    steps(&mut tickets.first, 2);
+    holds(rt, tickets.first.idle());
+    steps(&mut tickets.second, 60);
+    holds(rt, tickets.second.held() && !tickets.third.held());
 }
 
 #[test]
-fn the_second_has_the_lock_after_the_first(rt: HostRuntime) -> Result<(), Fail> {
+fn the_second_has_the_lock_after_the_first(rt: HostRuntime) {
     for form in FORMS {
-        let mut tickets = queued(rt.alloc(), form)?;
-        steps(&mut tickets.second, 60);
-        assert!(rt; tickets.first.held() && !tickets.second.held());
-        let freed = tickets.first.release();
-        assert!(rt; freed);
-        steps(&mut tickets.first, 2);
-        assert!(rt; tickets.first.idle());
-        steps(&mut tickets.second, 60);
-        assert!(rt; tickets.second.held() && !tickets.third.held());
+        let mut tickets = queued(&rt, rt.alloc(), form);
+        hand_on(&rt, &mut tickets);
     }
-    Ok(())
 }
 
 /// Whom the ticket makes ready within so many steps; 0 where it is nobody.
@@ -123,30 +134,22 @@ fn made_ready(ticket: &mut Ticket, count: u32) -> u32 {
 }
 
 #[test]
-fn a_step_tells_whom_it_makes_ready(rt: HostRuntime) -> Result<(), Fail> {
-    let mut tickets = queued(rt.alloc(), Form::Spin)?;
-    let left = leaves(&mut tickets.first);
-    assert!(rt; left);
-    assert_eq!(rt;
-        watch_told(tickets.third.watch()),
-        ShflWatch { whom: 0, kind: 1 }
-    );
-    let whom = made_ready(&mut tickets.second, 60);
-    assert_eq!(rt; whom, 2);
-    assert!(rt; tickets.second.held());
-    Ok(())
+fn a_step_tells_whom_it_makes_ready(rt: HostRuntime) {
+    let mut tickets = queued(&rt, rt.alloc(), Form::Spin);
+    holds(&rt, leaves(&mut tickets.first));
+    let looks = ShflWatch { whom: 0, kind: 1 };
+    same(&rt, &watch_told(tickets.third.watch()), &looks);
+    same(&rt, &made_ready(&mut tickets.second, 60), &2);
+    holds(&rt, tickets.second.held());
 }
 
 #[test]
-fn an_attempt_has_the_lock_at_once_or_not_at_all(rt: HostRuntime) -> Result<(), Fail> {
-    let mut tickets = open_four(rt.alloc(), Form::Rw, [0; 4])?;
-    let first = wins(&mut tickets.first);
-    let second = wins(&mut tickets.second);
-    assert!(rt; first && !second);
-    let left = leaves(&mut tickets.first);
-    let again = wins(&mut tickets.second);
-    assert!(rt; left && again);
-    Ok(())
+fn an_attempt_has_the_lock_at_once_or_not_at_all(rt: HostRuntime) {
+    let mut tickets = open_four(&rt, rt.alloc(), Form::Rw, [0; 4]);
+    holds(&rt, wins(&mut tickets.first));
+    holds(&rt, !wins(&mut tickets.second));
+    holds(&rt, leaves(&mut tickets.first));
+    holds(&rt, wins(&mut tickets.second));
 }
 
 /// Whether any of the questions of so many steps is answered yes.
@@ -161,77 +164,65 @@ fn says_yes(ticket: &mut Ticket, count: u32) -> bool {
     yes
 }
 
+/// A policy is attached, whose first program is this one; it has no second one.
+fn attach(rt: &impl Abort, alloc: Global, ticket: &mut Ticket, program: &[u8]) {
+    let attached = ticket.attach(alloc, Profile::One, program, &[]);
+    holds(rt, attached.is_ok());
+}
+
 #[test]
-fn a_pass_answers_by_the_policy_attached_last(rt: HostRuntime) -> Result<(), Fail> {
+fn a_pass_answers_by_the_policy_attached_last(rt: HostRuntime) {
     let alloc = rt.alloc();
-    let mut grouped = queued(alloc, Form::Spin)?;
-    let attached = grouped
-        .second
-        .attach(alloc, Profile::One, &SAME_SOCKET, &[]);
-    assert!(rt; attached.is_ok());
-    let yes = says_yes(&mut grouped.second, 40);
-    assert!(rt; yes);
-    let mut alone = queued(alloc, Form::Spin)?;
-    let attached = alone.second.attach(alloc, Profile::One, &SAME_SOCKET, &[]);
-    let replaced = alone.second.attach(alloc, Profile::One, &NEVER, &[]);
-    assert!(rt; attached.is_ok() && replaced.is_ok());
-    let yes = says_yes(&mut alone.second, 40);
-    assert!(rt; !yes);
-    Ok(())
+    let mut grouped = queued(&rt, alloc, Form::Spin);
+    attach(&rt, alloc, &mut grouped.second, &SAME_SOCKET);
+    holds(&rt, says_yes(&mut grouped.second, 40));
+    let mut alone = queued(&rt, alloc, Form::Spin);
+    attach(&rt, alloc, &mut alone.second, &SAME_SOCKET);
+    attach(&rt, alloc, &mut alone.second, &NEVER);
+    holds(&rt, !says_yes(&mut alone.second, 40));
 }
 
 /// Whether the second pass, on one socket, moves up the third, on another, or on the same.
-fn groups_the_third(alloc: Global, sockets: [u64; 4]) -> Result<bool, Fail> {
-    let mut tickets = queued_on(alloc, Form::Spin, sockets)?;
-    let attached = tickets
-        .second
-        .attach(alloc, Profile::One, &SAME_SOCKET, &[]);
-    if attached.is_err() {
-        return Err("no policy")?;
-    }
-    Ok(says_yes(&mut tickets.second, 40))
+fn groups_the_third(rt: &impl Abort, alloc: Global, sockets: [u64; 4]) -> bool {
+    let mut tickets = queued_on(rt, alloc, Form::Spin, sockets);
+    attach(rt, alloc, &mut tickets.second, &SAME_SOCKET);
+    says_yes(&mut tickets.second, 40)
 }
 
 #[test]
-fn a_waiter_is_moved_up_where_its_own_socket_is_that_of_the_pass_that_asks(
-    rt: HostRuntime,
-) -> Result<(), Fail> {
+fn a_waiter_is_moved_up_where_its_own_socket_is_that_of_the_pass_that_asks(rt: HostRuntime) {
     let alloc = rt.alloc();
-    let near = groups_the_third(alloc, [0, 1, 1, 0])?;
-    let far = groups_the_third(alloc, [0, 1, 0, 1])?;
-    let first_socket = groups_the_third(alloc, [1, 0, 0, 1])?;
-    let not_the_first = groups_the_third(alloc, [1, 0, 1, 0])?;
-    assert!(rt; near && !far && first_socket && !not_the_first);
-    Ok(())
+    holds(&rt, groups_the_third(&rt, alloc, [0, 1, 1, 0]));
+    holds(&rt, !groups_the_third(&rt, alloc, [0, 1, 0, 1]));
+    // whatever the socket of the first pass is
+    holds(&rt, groups_the_third(&rt, alloc, [1, 0, 0, 1]));
+    holds(&rt, !groups_the_third(&rt, alloc, [1, 0, 1, 0]));
 }
 
-/// What a program is told that has this fault of its first slot.
-fn at_the_first_slot(fault: u8, hook: u8) -> ShflVerdict {
-    ShflVerdict {
+/// The programs are attached to the ticket, and this is told: the fault of the first slot, and the program that has it.
+fn is_judged(
+    rt: &impl Abort,
+    alloc: Global,
+    ticket: &mut Ticket,
+    programs: [&[u8]; 2],
+    fault: u8,
+    hook: u8,
+) {
+    let told = verdict_told(ticket.attach(alloc, Profile::One, programs[0], programs[1]));
+    let due = ShflVerdict {
         slot: 0,
         fault,
         hook,
         register: 0,
-    }
+    };
+    same(rt, &told, &due);
 }
 
 #[test]
-fn a_refused_program_is_told_and_the_old_policy_stays(rt: HostRuntime) -> Result<(), Fail> {
+fn a_refused_program_is_told_and_the_old_policy_stays(rt: HostRuntime) {
     let alloc = rt.alloc();
-    let mut tickets = queued(alloc, Form::Spin)?;
-    let good = verdict_told(
-        tickets
-            .second
-            .attach(alloc, Profile::One, &SAME_SOCKET, &[]),
-    );
-    assert_eq!(rt; good, at_the_first_slot(0, 0));
-    let bad = verdict_told(
-        tickets
-            .second
-            .attach(alloc, Profile::One, &NEVER, &NO_VALUE),
-    );
-    assert_eq!(rt; bad, at_the_first_slot(10, 1));
-    let yes = says_yes(&mut tickets.second, 40);
-    assert!(rt; yes);
-    Ok(())
+    let mut tickets = queued(&rt, alloc, Form::Spin);
+    is_judged(&rt, alloc, &mut tickets.second, [&SAME_SOCKET, &[]], 0, 0);
+    is_judged(&rt, alloc, &mut tickets.second, [&NEVER, &NO_VALUE], 10, 1);
+    holds(&rt, says_yes(&mut tickets.second, 40));
 }
