@@ -12,7 +12,7 @@ failed=0 count=0
 bin/syncord </dev/null >/dev/null 2> >(grep -v '^syncord: words$' >&2)
 [ "$?" = 2 ] || exit 1
 bin/accounts >/dev/null || exit 1
-bin/syncord-sim no-words </dev/null 2> >(grep -v '^syncord: words$' >&2)
+bin/syncord-sim no-words </dev/null 2> >(grep -v '^syncord-sim: words$' >&2)
 [ "$?" = 2 ] || exit 1
 
 judge() {

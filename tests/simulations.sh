@@ -11,7 +11,7 @@ failed=0 runs=0 refused=0
 # the programs are built before, so that they say nothing of that below
 "$top/bin/syncord" </dev/null >/dev/null 2> >(grep -v '^syncord: words$' >&2)
 [ "$?" = 2 ] || exit 1
-"$top/bin/syncord-sim" no-words </dev/null 2> >(grep -v '^syncord: words$' >&2)
+"$top/bin/syncord-sim" no-words </dev/null 2> >(grep -v '^syncord-sim: words$' >&2)
 [ "$?" = 2 ] || exit 1
 
 # the first sixteen that come to hold the lock in a report of `line`, with commas between them
@@ -48,7 +48,7 @@ for setup in "$top"/examples/*.sim; do
             # a schedule has 64 passes: the line of the next one is named
             line=$((74 + $(grep -c '^policy ' "$setup")))
             "$top/bin/syncord-sim" line "$policy" <"$setup" >"$got/run" 2>"$got/err"
-            [ "$?" = 1 ] && [ ! -s "$got/run" ] && [ "$(cat "$got/err")" = "syncord: line $line: fault 17" ] || fail "$name: $passes passes in a run of $policy"
+            [ "$?" = 1 ] && [ ! -s "$got/run" ] && [ "$(cat "$got/err")" = "syncord-sim: line $line: fault 17" ] || fail "$name: $passes passes in a run of $policy"
             refused=$((refused + 1))
             continue
         fi

@@ -1,7 +1,7 @@
 //! The program as one call: words and bytes in, a status, a report and an error line out.
 ghost use Rattle.std.specs.Prelude.{◌≡◌, map, string_bytes, codes, Some, None};
 ghost use Rattle.syncord_endings.specs.Traffic.{traffic, Told};
-ghost use Rattle.syncord_endings.specs.Endings.{Answers, Decides};
+ghost use Rattle.syncord_endings.specs.Endings.{AnswersAs, Decides};
 ghost use Rattle.syncord_sim.specs.Commands.{Wanted, command_in};
 ghost use Rattle.syncord_sim.specs.Simulations.{Writes, Refuses};
 
@@ -9,7 +9,7 @@ use crate::commands::{Command, command_of};
 use crate::simulation::simulation;
 use std::alloc::Global;
 use syn_outer::{Sink, Source};
-use syncord_endings::{Refusal, Work, perform, tell};
+use syncord_endings::{Refusal, Work, perform_as, tell};
 
 impl<'a> Work for Command<'a> {
     ghost use Rattle.syncord_sim.specs.Commands.{said};
@@ -38,11 +38,11 @@ pub fn simulate<R: Source, W: Sink, E: Sink>(
         (src.new ≡ src.old) × (out.new ≡ out.old) }
     ensures told { command_in (map string_bytes words.now) ≡ None →
         Told (traffic (E.held err.old) (E.held err.new) (E.faults err.old) (E.faults err.new))
-        (codes "syncord: words\n") }
+        (codes "syncord-sim: words\n") }
 
     // The status has its cause.
     ensures answer { (wanted : Wanted) → command_in (map string_bytes words.now) ≡ Some wanted →
-        Answers (Writes wanted) (Refuses wanted)
+        AnswersAs (codes "syncord-sim") (Writes wanted) (Refuses wanted)
         (traffic (R.left src.old) (R.left src.new) (R.faults src.old) (R.faults src.new))
         (traffic (W.held out.old) (W.held out.new) (W.faults out.old) (W.faults out.new))
         (traffic (E.held err.old) (E.held err.new) (E.faults err.old) (E.faults err.new)) result }
@@ -54,9 +54,9 @@ pub fn simulate<R: Source, W: Sink, E: Sink>(
         (traffic (W.held out.old) (W.held out.new) (W.faults out.old) (W.faults out.new)) result }
 {
     match command_of(words) {
-        Some(command) => perform(&command, alloc, src, out, err),
+        Some(command) => perform_as(b"syncord-sim", &command, alloc, src, out, err),
         None => {
-            tell(err, b"syncord: words\n");
+            tell(err, b"syncord-sim: words\n");
             2
         }
     }
