@@ -8,6 +8,7 @@
 
 #define SHFL_LOCKS_USUAL 65536
 #define SHFL_THREADS_USUAL 4096
+#define SHFL_LIMIT_USUAL 1024
 #define SHFL_MOST_THREADS (65535 - SHFL_CLASSES - 1)
 
 #define SHFL_COLD __attribute__((noinline, cold))
@@ -128,6 +129,8 @@ struct shfl_process {
     shfl_guard is_loading;
     struct shfl_seat loading; /* where a policy is judged before its class has it */
     uint32_t lock_count, thread_count;
+    uint16_t limit; /* of a batch */
+    uint8_t form;
 };
 
 extern struct shfl_process shfl_process;
@@ -182,6 +185,12 @@ void shfl_count_end(uint32_t lock);
 void shfl_sum_lock(uint32_t lock, struct shfl_stat *out, struct shfl_waits *waits);
 void shfl_sum_class(uint32_t class_of, struct shfl_class_stat *out, struct shfl_waits *waits);
 
+/* room.c: what the environment asks for, false where that can't be; and the memory beside the arena. */
+bool shfl_asked_for(struct shfl_process *all);
+bool shfl_make_room(struct shfl_process *all);
+void shfl_free_room(struct shfl_process *all);
+void shfl_own_room(struct shfl_process *all);
+
 /* waits.c */
 bool shfl_make_waits(struct shfl_process *all);
 void shfl_free_waits(struct shfl_process *all);
@@ -231,10 +240,13 @@ static inline struct shfl_stat *shfl_counts_of(struct shfl_thread *me, uint32_t 
 
 static inline void shfl_count_contended(struct shfl_thread *me, uint32_t lock) { shfl_more(&shfl_counts_of(me, lock)->contended, 1); }
 
-/* waiting.c: takes the lock, which an attempt found taken; and what a thread does that gives it back. */
+/* waiting.c: takes the lock, which an attempt found taken. */
 int shfl_wait(struct shfl_thread *me, uint32_t lock, bool shared);
 int shfl_wait_until(struct shfl_thread *me, uint32_t lock, bool shared, clockid_t clock, const struct timespec *deadline);
+
+/* waking.c: what a thread does that gives a lock back; and the wakeup of one outside the queue, false where nobody slept there. */
 void shfl_wake_next(struct shfl_thread *me, struct shfl_parking *parking);
+bool shfl_wake_outside(struct shfl_parking *parking);
 
 /* class.c: what the class's policy answers to what the next step asks. */
 bool shfl_answer(struct shfl_thread *me, uint32_t lock, struct shfl_class *its);

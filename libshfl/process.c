@@ -2,8 +2,6 @@
  * own, and no two locks in use one number, is this file's. */
 #include <pthread.h>
 #include <stdlib.h>
-#include <string.h>
-#include <sys/mman.h>
 #include "inside.h"
 #include "races.h"
 
@@ -29,13 +27,6 @@ void shfl_guard_lock(shfl_guard *guard) {
 
 void shfl_guard_unlock(shfl_guard *guard) {
     if (!forks && __atomic_exchange_n(guard, 0, __ATOMIC_SEQ_CST) == 2) shfl_wake_one(guard);
-}
-
-/* A number from the environment; what isn't one counts as not said. */
-static uint32_t told(const char *name, uint32_t usual) {
-    const char *text = getenv(name);
-    if (!text || !*text || strspn(text, "0123456789") != strlen(text) || strlen(text) > 9) return usual;
-    return (uint32_t)strtoul(text, NULL, 10);
 }
 
 /* Where a thread ends its seat goes to another, unless it holds a lock: that stays held, and the seat with it. A later destructor of the
@@ -112,39 +103,6 @@ static void deal(struct shfl_seat *seats) {
     all->loading = seats[all->thread_count + SHFL_CLASSES];
 }
 
-static void free_room(struct shfl_process *all) {
-    free(all->threads);
-    free(all->parkings);
-    free(all->totals);
-    shfl_free_waits(all);
-    if (all->counts) munmap(all->counts, all->thread_count * SHFL_COUNTED * sizeof *all->counts);
-    all->counts = NULL;
-}
-
-/* The memory of C, zero: a page of it is taken where it is first used. */
-static bool make_room(struct shfl_process *all) {
-    size_t size = all->thread_count * sizeof(struct shfl_thread);
-    if (posix_memalign((void **)&all->threads, 128, size)) all->threads = NULL;
-    else memset(all->threads, 0, size);
-    all->parkings = calloc((size_t)all->lock_count + 1, sizeof(struct shfl_parking));
-    all->totals = calloc((size_t)all->lock_count + 1, sizeof(struct shfl_total));
-    size = all->thread_count * SHFL_COUNTED * sizeof *all->counts;
-    void *counts = mmap(NULL, size, PROT_READ | PROT_WRITE, MAP_PRIVATE | MAP_ANONYMOUS | MAP_NORESERVE, -1, 0);
-    all->counts = counts == MAP_FAILED ? NULL : counts;
-    bool waits = shfl_make_waits(all);
-    if (all->threads && all->parkings && all->totals && all->counts && waits) return true;
-    free_room(all);
-    return false;
-}
-
-/* Where threads meet here, those who look for races need not look. */
-static void own_room(struct shfl_process *all) {
-    shfl_races_own(all->threads, all->thread_count * sizeof *all->threads);
-    shfl_races_own(all->parkings, ((size_t)all->lock_count + 1) * sizeof *all->parkings);
-    shfl_races_own(all->totals, ((size_t)all->lock_count + 1) * sizeof *all->totals);
-    shfl_races_own(all->counts, all->thread_count * SHFL_COUNTED * sizeof *all->counts);
-}
-
 #define OWN(it) shfl_races_own(&(it), sizeof(it))
 static void own_statics(void) {
     OWN(shfl_process), OWN(lists), OWN(is_open), OWN(seated), OWN(free_threads), OWN(fresh_locks), OWN(free_locks), OWN(at_end);
@@ -152,21 +110,19 @@ static void own_statics(void) {
 
 static int open_arena(void) {
     struct shfl_process *all = &shfl_process;
-    all->lock_count = told("SHFL_LOCKS", SHFL_LOCKS_USUAL);
-    all->thread_count = told("SHFL_THREADS", SHFL_THREADS_USUAL);
-    if (all->thread_count == 0 || all->thread_count > SHFL_MOST_THREADS || all->lock_count == 0 || all->lock_count > 1u << 24) return EINVAL;
+    if (!shfl_asked_for(all)) return EINVAL;
     size_t count = (size_t)all->thread_count + SHFL_CLASSES + 1;
     struct shfl_seat *seats = calloc(count, sizeof *seats);
-    if (!seats || !make_room(all)) {
+    if (!seats || !shfl_make_room(all)) {
         free(seats);
         return ENOMEM;
     }
-    own_room(all);
-    uint8_t answer = shfl_seats_open(all->lock_count, false, SHFL_RW, 1024, seats, count);
+    shfl_own_room(all);
+    uint8_t answer = shfl_seats_open(all->lock_count, false, all->form, all->limit, seats, count);
     if (answer == SHFL_DONE) deal(seats);
     free(seats);
     if (answer != SHFL_DONE) {
-        free_room(all);
+        shfl_free_room(all);
         return answer == SHFL_BAD ? EINVAL : ENOMEM;
     }
     return 0;

@@ -60,8 +60,9 @@ static void say_counts(struct shfl_reply *reply, const struct shfl_stat *it) {
 
 static void hello(struct request *request, struct shfl_reply *reply) {
     (void)request;
-    say(reply, "ok\npid %ld\nlibrary %d\nlocks %u of %u\nthreads %u of %u\nclasses %d\nend\n", (long)getpid(), SHFL_VERSION,
-        shfl_numbers_given(), shfl_process.lock_count, shfl_load(&shfl_process.threads_seen), shfl_process.thread_count, SHFL_CLASSES);
+    say(reply, "ok\npid %ld\nlibrary %d\nlocks %u of %u\nthreads %u of %u\nclasses %d\n", (long)getpid(), SHFL_VERSION, shfl_numbers_given(),
+        shfl_process.lock_count, shfl_load(&shfl_process.threads_seen), shfl_process.thread_count, SHFL_CLASSES);
+    say(reply, "form %s\nlimit %u\nend\n", shfl_process.form == SHFL_RW_PARK ? "rw-park" : "rw", shfl_process.limit);
 }
 
 static void say_lock(struct shfl_reply *reply, uint32_t lock, const void *address) {

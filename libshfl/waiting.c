@@ -16,11 +16,6 @@
 #define TRYING_NS 20000
 #define TRYING_AGAIN_NS 4000
 #define TRIES 1000
-/* One is woken to queue after so many holds that passed it, and so many nanoseconds. */
-#define PASSED 2
-#define PASSED_NS 50000
-/* Who was woken, and has not come after this long, has no processor. */
-#define WAKING_NS 200000
 #define ASLEEP_NS 100000000
 /* For how long a thread looks for its turn before it sleeps, and where more than so many wait; the first nap of a head or a shuffler. */
 #define LOOKING_NS 20000
@@ -70,48 +65,6 @@ static bool spin_trying(struct waiter *waiter, uint64_t most) {
         if (try_once(waiter)) return true;
     } while (waiter->tries > 0 && shfl_clock() < until);
     return false;
-}
-
-/* Wakes the one that has slept longest outside. It counts as inside from now on: until it runs nobody wakes another in its place. */
-static bool wake_outside(struct shfl_parking *parking) {
-    __atomic_store_n(&parking->woken_at, shfl_clock(), __ATOMIC_RELAXED);
-    __atomic_fetch_add(&parking->inside, 1, __ATOMIC_SEQ_CST);
-    __atomic_fetch_add(&parking->wakeups, 1, __ATOMIC_SEQ_CST);
-    if (shfl_wake_one(&parking->wakeups)) return true;
-    __atomic_fetch_sub(&parking->inside, 1, __ATOMIC_SEQ_CST);
-    return false;
-}
-
-enum wakes { WAKES_NOBODY, WAKES_ONE, WAKES_TO_QUEUE };
-
-/* Whom a holder that leaves is to wake outside. Where somebody waits awake no other is woken, unless the last one was so long ago that it
- * has no processor. Holders that share the lock may count two holds as one. */
-static enum wakes whom_to_wake(struct shfl_parking *parking) {
-    uint32_t holds = __atomic_load_n(&parking->holds, __ATOMIC_RELAXED) + 1;
-    __atomic_store_n(&parking->holds, holds, __ATOMIC_RELAXED);
-    bool alone = shfl_load(&parking->inside) == 0;
-    if (holds % PASSED != 0) return alone ? WAKES_ONE : WAKES_NOBODY;
-    uint64_t now = shfl_clock();
-    if (now - __atomic_load_n(&parking->promoted_at, __ATOMIC_RELAXED) >= PASSED_NS) {
-        __atomic_store_n(&parking->promoted_at, now, __ATOMIC_RELAXED);
-        return WAKES_TO_QUEUE;
-    }
-    uint64_t since = now - __atomic_load_n(&parking->woken_at, __ATOMIC_RELAXED);
-    return alone || since >= WAKING_NS ? WAKES_ONE : WAKES_NOBODY;
-}
-
-/* Who woke one that is to queue lets it go first: it doesn't try once where the lock isn't free. */
-static void after_passing(struct shfl_thread *me, struct shfl_parking *parking) {
-    enum wakes wakes = whom_to_wake(parking);
-    if (wakes == WAKES_NOBODY) return;
-    if (wakes == WAKES_TO_QUEUE) shfl_store(&parking->promoted, 1);
-    bool woke = wake_outside(parking);
-    if (woke && wakes == WAKES_TO_QUEUE) me->aside = 1;
-}
-
-void shfl_wake_next(struct shfl_thread *me, struct shfl_parking *parking) {
-    if (shfl_load(&parking->head_asleep)) shfl_ring(&parking->head_asleep);
-    else if (shfl_load(&parking->outside)) after_passing(me, parking);
 }
 
 /* Whether this thread is the one that is to queue. */
@@ -168,6 +121,7 @@ struct looks {
     uint64_t until; /* it stays awake until then; 0 afterwards */
     uint32_t rounds; /* that moved nobody */
     uint32_t naps;
+    bool once_more; /* before it sleeps */
 };
 
 /* True where it stays awake for now, having paused; after a round that moved nobody for longer each time. */
@@ -179,11 +133,17 @@ static bool stays_awake(struct looks *looks, bool alone) {
     return false;
 }
 
-/* Sleeps where it announced that before its last look, and announces it where it hasn't. Only who can't be told of all that it waits for
+/* Sleeps where it announced that before its last look, and announces it where it hasn't. Where waiters park, a look that finds the wakeup
+ * word set is told as one in vain is, so one more is made. Only who can't be told of all that it waits for
  * naps: the head of what stands beside the lock's words, and a shuffler of who comes. */
 static void sleep_or_announce(struct looks *looks, bool naps) {
     if (shfl_load(looks->asleep) == 0) {
         shfl_store(looks->asleep, 1);
+        looks->once_more = shfl_process.form == SHFL_RW_PARK;
+        return;
+    }
+    if (looks->once_more) {
+        looks->once_more = false;
         return;
     }
     uint64_t most = naps ? (uint64_t)NAP_NS << (looks->naps < 7 ? looks->naps : 7) : ASLEEP_NS;
@@ -216,19 +176,27 @@ static void went_on(struct waiter *waiter, struct looks *looks) {
     looks->asleep = NULL;
 }
 
-/* Wakes whom this step made ready, and the first one that a round grouped, whose turn is the next one. */
-static void call(const struct shfl_watch *watch, bool *grouped) {
-    bool calls = watch->kind == SHFL_WATCH_READY || (watch->kind == SHFL_WATCH_GROUPED && !*grouped);
-    if (calls) shfl_ring(&shfl_process.threads[watch->whom].asleep);
-    if (watch->kind == SHFL_WATCH_GROUPED) *grouped = true;
-    if (watch->kind == SHFL_WATCH_OWN_TURN) *grouped = false;
+/* Whether the round grouped somebody, and whom the last step called, plus one. */
+struct calls { bool grouped; uint32_t again; };
+
+/* Wakes whom this step made ready, and the first one that a round grouped, whose turn is the next one. Where waiters park, one that had parked
+ * goes on by its wakeup word, which the step behind this one sets: so it is woken then, too. */
+static void call(const struct shfl_watch *watch, struct calls *calls) {
+    if (calls->again) shfl_ring(&shfl_process.threads[calls->again - 1].asleep);
+    calls->again = 0;
+    if (watch->kind == SHFL_WATCH_READY || (watch->kind == SHFL_WATCH_GROUPED && !calls->grouped)) {
+        shfl_ring(&shfl_process.threads[watch->whom].asleep);
+        if (shfl_process.form == SHFL_RW_PARK) calls->again = watch->whom + 1;
+    }
+    if (watch->kind == SHFL_WATCH_GROUPED) calls->grouped = true;
+    if (watch->kind == SHFL_WATCH_OWN_TURN) calls->grouped = false;
 }
 
 /* Steps until the seat holds the lock and has no step to make. It has begun to take it. */
 static void drive(struct waiter *waiter) {
     struct shfl_seat *seat = &waiter->me->seat;
-    struct looks looks = {NULL, 0, 0, 0};
-    bool grouped = false;
+    struct looks looks = {NULL, 0, 0, 0, false};
+    struct calls calls = {false, 0};
     struct shfl_watch watch = shfl_seat_watch(seat);
     for (;;) {
         bool asks = waiter->me->in_round || shfl_load(&waiter->its->attached);
@@ -240,9 +208,9 @@ static void drive(struct waiter *waiter) {
             continue;
         }
         if (came == SHFL_ENDED_ROUND) __atomic_store_n(&waiter->me->in_round, 0, __ATOMIC_RELEASE);
-        bool alone = came == SHFL_ENDED_ROUND && !grouped;
+        bool alone = came == SHFL_ENDED_ROUND && !calls.grouped;
         if (!alone) went_on(waiter, &looks);
-        call(&watch, &grouped);
+        call(&watch, &calls);
         watch = shfl_seat_watch(seat);
         /* the head goes on from its round to the lock word */
         if (alone && watch.kind == SHFL_WATCH_OWN_TURN) pause_looking(waiter, &looks, true, true);
@@ -275,7 +243,7 @@ static void leave(struct waiter *waiter, bool in_vain) {
     bool woken = waiter->inside;
     leave_inside(waiter);
     bool passes_on = waiter->shared || (in_vain && woken);
-    if (passes_on && shfl_load(&parking->outside) > 0 && shfl_load(&parking->inside) == 0) wake_outside(parking);
+    if (passes_on && shfl_load(&parking->outside) > 0 && shfl_load(&parking->inside) == 0) shfl_wake_outside(parking);
 }
 
 SHFL_COLD int shfl_wait(struct shfl_thread *me, uint32_t lock, bool shared) {

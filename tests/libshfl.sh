@@ -44,6 +44,7 @@ run "counts" "$room/counts"
 run "storm" "$room/storm" 16 "$rounds" 120
 run "storm" "$room/storm" 64 "$((rounds / 4))" 120
 run "storm in a small arena" env SHFL_LOCKS=8 SHFL_THREADS=66 "$room/storm" 64 100 120
+run "storm in another form" env SHFL_FORM=rw-park SHFL_LIMIT=2 "$room/storm" 16 "$((rounds / 4))" 120
 if command -v c++ >/dev/null; then
     c++ -std=c++17 -O2 -g -Wall -Wextra -Werror "$top/tests/libshfl/locks.cpp" "${words[@]}" -o "$room/locks" && run "C++" "$room/locks" || failed=1
 fi
@@ -52,7 +53,8 @@ fi
 "$cc" -std=gnu11 -O2 -Wall -Wextra -Werror "$top/tests/libshfl/room.c" "${words[@]}" -o "$room/room" || exit 1
 run "room" env SHFL_LOCKS=3 SHFL_THREADS=2 "$room/room" full
 run "room" env SHFL_LOCKS=0 "$room/room" refused
-run "room" env SHFL_THREADS=65535 "$room/room" refused
+for asked in SHFL_THREADS=65535 SHFL_FORM=spin SHFL_FORM=park SHFL_LIMIT=0 SHFL_LIMIT=1025; do run "room, $asked" env "$asked" "$room/room" refused; done
+run "room, another form" env SHFL_FORM=rw-park SHFL_LIMIT=1 SHFL_LOCKS=3 SHFL_THREADS=2 "$room/room" full
 
 # unmodified programs, by themselves and under the preload library
 shown="$(nm -D --defined-only "$room/prefix/lib/libshfl_preload.so" | awk '$3 !~ /^(__)?pthread_(mutex|rwlock|cond)_/')"

@@ -1,4 +1,4 @@
-/* What a process is answered whose arena has three locks and two seats (full), or can't be opened (refused). */
+/* What a process is answered whose arena has three locks and two seats (full), or can't be opened as the environment asks for (refused). */
 #include <errno.h>
 #include <libshfl.h>
 #include <pthread.h>
@@ -76,6 +76,6 @@ int main(int count, char **words) {
         told = shfl_mutex_lock(&locks[0]) != EINVAL || shfl_class_policy(0, 1, NULL, 0, NULL, 0, NULL) != EINVAL || shfl_thread_attr(0, 0, 0) != EINVAL ||
                !all_answer(EINVAL);
     }
-    puts(told ? "another answer" : "locks and threads without room are refused");
+    puts(told ? "another answer" : "what has no room is refused");
     return told;
 }
