@@ -6,7 +6,7 @@ from shfl_locks import less
 from shfl_page import page
 from shfl_picture import picture
 from shfl_places import Places, shown
-from shfl_policy import drained, policy_of, programs_of, words_of_policy
+from shfl_policy import drained, policy_of, programs_of, with_line, words_of_policy
 from shfl_process import Failed, ask, class_of, classes_of, locks_of, pid_of
 from shfl_record import held, options, recorded, write_file
 from shfl_tables import bold, count_of, mean_ns, share_ns, told
@@ -153,7 +153,8 @@ def do_compare(words):
         raise Failed(2, usage + "; two rounds at least")
     pid, to = pid_of(words[0]), class_of(words[1])
     orders = {} if "--html" in values else None
-    found, before = turns(pid, to, programs_of(words[2], hook, profile), float(seconds), int(rounds), orders)
+    with with_line(words[2]):
+        found, before = turns(pid, to, programs_of(words[2], hook, profile), float(seconds), int(rounds), orders)
     said = verdicts(found)
     told_all = {"pid": pid, "class": int(to), "file": words[2], "turns": found, "verdicts": said, "verdict": whole_verdict(said)}
     if "--html" in values:

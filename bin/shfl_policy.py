@@ -1,5 +1,5 @@
 """Policies of classes: their digits, and how a class comes to have one."""
-import os, re, subprocess, tempfile, time
+import contextlib, os, re, subprocess, tempfile, time
 
 from shfl_process import Failed, ask, classes_of, refusal
 
@@ -19,16 +19,47 @@ def made_by(command, **more):
     return ran.stdout
 
 
+def object_of(file, room):
+    """The object of a C file, with the lines that its instructions come from, which change none of them."""
+    made_by(["clang", "-target", "bpf", "-O2", "-g", "-c", file, "-o", f"{room}/policy.o"])
+    return f"{room}/policy.o"
+
+
 def compiled(file):
     """The digits of the function in a C file, as bin/policy compiles it; whether it is accepted the process says."""
     with tempfile.TemporaryDirectory() as room:
-        made_by(["clang", "-target", "bpf", "-O2", "-g0", "-c", file, "-o", f"{room}/policy.o"])
-        made_by(["llvm-objcopy", "-O", "binary", "--only-section=.text", f"{room}/policy.o", f"{room}/policy.bin"])
+        made_by(["llvm-objcopy", "-O", "binary", "--only-section=.text", object_of(file, room), f"{room}/policy.bin"])
         with open(f"{room}/policy.bin", "rb") as made:
             digits = made.read(4097).hex()
     if not digits:
         raise Failed(1, f"{file}: no function in the section .text")
     return digits
+
+
+def line_of(file, slot):
+    """The line of C that a slot of the program comes from, as compilers show one; nothing where that isn't known."""
+    try:
+        with tempfile.TemporaryDirectory() as room:
+            told = made_by(["llvm-addr2line", "-e", object_of(file, room), f"{8 * slot:#x}"]).decode(errors="replace")
+        place = re.match(r"(.+):([1-9][0-9]*)\b", told)
+        if not place:
+            return ""
+        with open(place[1], encoding="utf-8", errors="replace") as source:
+            text = source.read().split("\n")[int(place[2]) - 1].strip()
+        return f"\n{file if os.path.samefile(file, place[1]) else place[1]}:{place[2]}: {text}"
+    except (Failed, OSError, IndexError):
+        return ""
+
+
+@contextlib.contextmanager
+def with_line(file):
+    """What a process refuses is told with the line of C, where the policy comes from there."""
+    try:
+        yield
+    except Failed as failed:
+        if failed.slot is None or not file.endswith(".c"):
+            raise
+        raise Failed(failed.status, f"{failed}{line_of(file, failed.slot)}", failed.slot) from None
 
 
 def digits_of(file, profile):
@@ -64,7 +95,8 @@ def programs_of(file, hook, profile):
 
 
 def attach(pid, to, file, hook, profile):
-    return ask(pid, "attach", to, *programs_of(file, hook, profile))[0].split()[1]
+    with with_line(file):
+        return ask(pid, "attach", to, *programs_of(file, hook, profile))[0].split()[1]
 
 
 def policy_of(pid, to):

@@ -12,10 +12,10 @@ FAULTS = {
 
 
 class Failed(Exception):
-    """What is said on standard error, and the exit status."""
-    def __init__(self, status, text):
+    """What is said on standard error, and the exit status; and where a program is refused at a slot, which."""
+    def __init__(self, status, text, slot=None):
         super().__init__(text)
-        self.status = status
+        self.status, self.slot = status, slot
 
 
 def pid_of(word):
@@ -98,7 +98,8 @@ def ask(pid, *words):
         raise Failed(3, f"process {pid} can't be asked: {error.strerror or error} ({place})") from None
     lines = text.decode("ascii", "replace").splitlines()
     if lines[0].startswith("refused"):
-        raise Failed(6, refusal(lines[0].split()))
+        words = lines[0].split()
+        raise Failed(6, refusal(words), int(words[3]) if int(words[1]) >= 4 else None)
     if lines[0] != "ok":
         raise Failed(1, f"process {pid}: {lines[0]}")
     return lines[1:-1]
