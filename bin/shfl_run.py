@@ -1,6 +1,7 @@
 """Starts a program that can be asked."""
-import os, signal, subprocess, sys, time
+import os, re, signal, subprocess, sys, time
 
+import shfl_help
 from shfl_locks import put
 from shfl_policy import TOP, attach
 from shfl_process import Failed, ask, class_of, directory, sweep
@@ -38,18 +39,49 @@ def set_up(child, wishes):
         print(f"shfl: {name}: not done in 10 seconds", file=sys.stderr)
 
 
-def do_run(words):
-    wishes = []
-    while words and words[0] in ("--class", "--policy"):
-        if len(words) < 2 or "=" not in words[1]:
-            raise Failed(2, f"{words[0]} NAME=VALUE")
-        name, value = words[1].rsplit("=", 1) if words[0] == "--class" else words[1].split("=", 1)
-        class_of(value if words[0] == "--class" else name)
-        wishes.append((words[0], name, value))
+def form_of(word):
+    if word not in ("rw", "rw-park"):
+        raise Failed(2, f"{word} is no form that readers can share: rw or rw-park")
+    return word
+
+
+def limit_of(word):
+    if not re.fullmatch(r"[1-9][0-9]{0,3}", word) or int(word) > 1024:
+        raise Failed(2, f"{word} is no limit of a batch: 1 to 1024")
+    return word
+
+
+def wish_of(option, text):
+    """A class or a policy that is to come to be, as set_up does it."""
+    name, found, value = text.rpartition("=") if option == "--class" else text.partition("=")
+    if not found:
+        raise Failed(2, f"{option} {'SELECTOR=CLASS' if option == '--class' else 'CLASS=FILE'}")
+    class_of(value if option == "--class" else name)
+    return option, name, value
+
+
+def options_of(words):
+    """What stands before the program: the wishes, and what the environment says to the library; and the program's own words."""
+    wishes, env = [], {}
+    while words and words[0].startswith("-"):
+        option, text = (words + [None])[:2]
+        if option not in ("--form", "--limit", "--class", "--policy") or text is None:
+            raise Failed(2, f"{option} is no option here, or has no value")
+        if option == "--form":
+            env["SHFL_FORM"] = form_of(text)
+        elif option == "--limit":
+            env["SHFL_LIMIT"] = limit_of(text)
+        else:
+            wishes.append(wish_of(option, text))
         words = words[2:]
     if not words:
-        raise Failed(2, "run [--class SELECTOR=CLASS].. [--policy CLASS=FILE].. PROGRAM ARGS..")
-    room, env = directory(), dict(os.environ)
+        raise Failed(2, shfl_help.usage("run"))
+    return wishes, env, words
+
+
+def do_run(words):
+    wishes, more, words = options_of(words)
+    room, env = directory(), {**os.environ, **more}
     os.makedirs(room, 0o700, exist_ok=True)
     env["SHFL_CONTROL"] = room
     library = preload()

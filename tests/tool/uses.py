@@ -1,24 +1,54 @@
-"""What bin/shfl shows of a program and does to it, and how bash completes its words: uses.py PROGRAM."""
-import json, re, subprocess, sys
-from target import TOP, must, shfl, with_target
+"""What bin/shfl shows of a program, how it starts one and what it does to it, and how bash completes its words: uses.py PROGRAM."""
+import json, os, re, subprocess, sys
+from target import TOP, must, shfl, until, with_target
 
 
-def told(target):
+def told(pid):
     """The locks and the classes as programs read them."""
-    status, text = shfl("stat", str(target.pid), "--json")
+    status, text = shfl("stat", str(pid), "--json")
     must(status == 0, text)
     return json.loads(text)
 
 
 def the_tool(target):
     pid = str(target.pid)
-    must(sorted(it["where"] for it in told(target)["locks"]) == ["hot", "other"], "the symbols of the locks")
+    must(sorted(it["where"] for it in told(pid)["locks"]) == ["hot", "other"], "the symbols of the locks")
     must(shfl("class", pid, "hot", "5") == (0, "1 lock in class 5\n"), "a class of locks")
     must(shfl("class", pid, "nobody", "5") == (1, "shfl: no lock in use is nobody\n"), "a lock that isn't there")
-    must([(it["class"], it["locks"]) for it in told(target)["classes"]] == [(0, 1), (5, 1)], "the classes")
+    must([(it["class"], it["locks"]) for it in told(pid)["classes"]] == [(0, 1), (5, 1)], "the classes")
     must(shfl("attach", pid, "5", f"{TOP}/examples/policies/socket.hex")[1].startswith("class 5: version 1; the one before is "), "the version")
     status, text = shfl("stat", pid)
     must(status == 0 and all(len(line) <= 80 for line in text.splitlines()), "more than 80 columns")
+
+
+def questions_of(target, *options):
+    """What a program says of itself that is started so, and how often the policy of its hot lock is asked while a thousand calls queue."""
+    words = [sys.executable, "-B", f"{TOP}/bin/shfl", "run", *options, "--class", "hot=5", "--policy", f"5={TOP}/examples/policies/socket.hex"]
+    child = subprocess.Popen([*words, sys.argv[1], "3"], stdin=subprocess.PIPE, stdout=subprocess.PIPE, text=True)
+    try:
+        must(child.stdout.readline() == "ready\n", "the program that is run doesn't start")
+        pid = until(lambda: [it for it in os.listdir(target.room) if it != f"shfl-{target.pid}"], "no socket of the program that is run")[0][5:]
+        its = lambda: next((it for it in told(pid)["classes"] if it["class"] == 5 and it["policy"] and it["locks"]), None)
+        before = until(its, "the class and the policy that were asked for")
+        after = until(lambda: (now := its())["queued"] > before["queued"] + 1000 and now, "nobody queues")
+        said = target.ask(b"shfl 1 hello\n", target.place_of(pid))
+    finally:
+        counts = child.communicate("stop\n")[0].split()
+    must(child.returncode == 0 and counts[1] == counts[2], f"the program that is run ends so: {child.returncode} {counts}")
+    return said, after["questions"]
+
+
+def runs(target):
+    """The form and the limit of the locks; with the limit 1 nobody is asked. Words that are none start nothing."""
+    said, questions = questions_of(target)
+    must("\nform rw\nlimit 1024\n" in said and questions > 0, f"as usual: {said} {questions} questions")
+    said, questions = questions_of(target, "--form", "rw-park", "--limit", "1")
+    must("\nform rw-park\nlimit 1\n" in said and questions == 0, f"with a form and a limit: {said} {questions} questions")
+    for words in (("--form", "spin"), ("--form", ""), ("--limit", "0"), ("--limit", "1025"), ("--limit", "x"), ("--many", "3"), ("--class", "hot"),
+                  ("--class", "hot=64"), ("--policy", "5"), ("--policy", "x=y")):
+        status, text = shfl("run", *words, sys.argv[1], "3")
+        must(status == 2 and text.startswith("shfl: ") and text.count("\n") == 1, f"run {words}: {status} {text}")
+    must(shfl("run", "--form", "rw")[0] == 2 and shfl("run", "--form")[0] == 2 and os.listdir(target.room) == [f"shfl-{target.pid}"], "run without a program")
 
 
 def completed(*words):
@@ -35,14 +65,29 @@ def completion(target):
     files = [f"examples/policies/socket.{it}" for it in ("asm", "c", "hex")]
     must(completed("attach", "1", "5", "examples/policies/so") == files, "the files of policies")
     must(completed("run", "--class", "hot", "=", "5", "--po") == ["--policy"], "the words of run")
+    must(completed("run", "--limit", "8", "--form", "") == ["rw", "rw-park"] and completed("run", "--limit", "") == [], "the forms")
+    must(completed("run", "--class", "hot", "=", "5", "--form", "rw", "--") == ["--class", "--form", "--limit", "--policy"], "the words of run")
+    must(completed("class", "1", "b") == ["by"] and completed("record", "1", "") == ["all", "by", "heap", "libc.so.6"], "the selectors")
+    must(completed("compare", "1", "5", "it.hex", "--seconds", "") == [], "a number")
+    must(completed("record", "1", "hot", "1", "-o", "examples/policies/socket.h") == ["examples/policies/socket.hex", "examples/policies/socket.hex.out"], "a file")
+    for word, before in (("stat", 1), ("attach", 3), ("record", 3), ("compare", 3)):
+        must(completed(word, *["1"] * before, "") == sorted(options_of(word)) != [], f"the options of {word}")
+
+
+def options_of(word):
+    """As the usage of the word has them."""
+    return re.findall(r"\[(--?[a-z]+|skip)", shfl(word, "--help")[1].split("\n\n")[0])
 
 
 def manual(_):
-    """The page has each command that the tool tells."""
+    """The page has each command that the tool tells, and each of its options."""
     with open(f"{TOP}/docs/shfl.1", encoding="utf-8") as file:
         page = file.read()
     for word in re.findall(r"^    shfl ([a-z]+)", shfl("--help")[1], re.M):
         must(f"\n.B shfl {word}\n" in page and f"\n.TP\n.B {word}\n" in page, f"docs/shfl.1 lacks {word}")
+        usage = page.split(f"\n.B shfl {word}\n")[1].split("\n.br\n")[0].split("\n.SH ")[0].replace("\\-", "-")
+        for it in options_of(word):
+            must(re.search(rf"(?<![a-z-]){it}(?![a-z])", usage), f"docs/shfl.1 lacks {it} of {word}")
 
 
-with_target(sys.argv[1], 3, [the_tool, completion, manual])
+with_target(sys.argv[1], 3, [the_tool, runs, completion, manual])
