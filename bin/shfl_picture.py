@@ -76,7 +76,7 @@ def picture(record, holds, waits):
             f'<text class="head" x="10" y="20">Who holds {escape(record.name)}, process {record.pid}</text>',
             f'<text class="small" x="10" y="40">{len(seen)} of {len(holds)} holds, {time_of(end - begin)} from the first event on. '
             'Bars hold (thin: as readers), lines wait, dots ask the policy (filled: yes). Colours are sockets.</text>']
-    for thread, (socket, name) in record.threads.items():
+    for thread, (socket, name) in sorted(record.threads.items()):
         rows.append(f'<rect class="lane" x="{LEFT}" y="{y(thread) - LANE / 2 + 1}" width="{WIDTH - LEFT - 20}" height="{LANE - 2}"/>')
         rows.append(f'<text x="10" y="{y(thread) + 4}"><tspan fill="{colour[thread]}">{socket}</tspan> {thread} {escape(name[:12])}</text>')
     rows += ticks(begin, end, x, bottom)

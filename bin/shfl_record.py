@@ -17,7 +17,7 @@ class Record:
     """The events (time, thread, words), the threads' sockets and names, and how many events are missing."""
 
     def __init__(self, pid, name, it):
-        self.pid, self.name, self.address, self.names = pid, name, it["address"], {}
+        self.pid, self.name, self.address, self.names = pid, name.replace(" ", "_"), it["address"], {}
         self.events, self.threads, self.lost, self.seconds = [], {}, 0, 0
 
     def add(self, line):
@@ -127,7 +127,7 @@ def table_of(record, holds, waits):
 def text_of(record, holds, waits):
     """The record's text: its head, the threads with their sums, the events, and an end."""
     held_by, waited_by = by_thread(record, holds), by_thread(record, waits)
-    yield f"shfl-record 1 process {record.pid} lock {record.name.replace(' ', '_')} at {record.address:#x} ns {int(record.seconds * 1e9)}"
+    yield f"shfl-record 1 process {record.pid} lock {record.name} at {record.address:#x} ns {int(record.seconds * 1e9)}"
     for thread, (socket, name) in sorted(record.threads.items()):
         (count, whole), (waited, long) = held_by[thread], waited_by[thread]
         yield f"thread {thread} socket {socket} name {name} holds {count} held_ns {whole} waits {waited} waited_ns {long}"

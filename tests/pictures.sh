@@ -1,5 +1,6 @@
 #!/usr/bin/env bash
 # The pictures in docs/ are what bin/draw makes of the examples' reports, the text pictures have a line for each change, and a page has its report.
+# A record is drawn alike from a file and through a pipe, and a report through a pipe as from a file.
 set -u
 cd "$(dirname "$0")/.." || exit 1
 failed=0
@@ -38,4 +39,13 @@ bin/draw --html --all </dev/null >"$page/page" 2>"$page/told"
 # the program's own name isn't looked at
 (exec -a $'\xff' crates/syncord_draw/out/syncord_draw --text <examples/half-done-relink.line.out) | cmp -s - <(bin/draw --text <examples/half-done-relink.line.out) ||
     { echo "FAILED a name of the program that is no text"; failed=1; }
+for word in '' --text --html; do
+    # no word, or one
+    # shellcheck disable=SC2086
+    bin/draw $word <examples/priority.record >"$page/page" && [ -s "$page/page" ] && cat examples/priority.record | bin/draw $word | cmp -s - "$page/page" ||
+        { echo "FAILED priority.record with the words '$word'"; failed=1; }
+done
+sed -n '/^<pre id="report">$/,/^<\/pre>$/p' "$page/page" | sed '1d;$d' | cmp -s - examples/priority.record || { echo "FAILED the page of priority.record has another record"; failed=1; }
+grep -n 'src=\|href=\|https\?:\|@import\|url(' "$page/page" && { echo "FAILED the page of a record loads something from outside"; failed=1; }
+cat examples/half-done-relink.line.out | bin/draw | cmp -s - docs/half-done-relink.svg || { echo "FAILED a report through a pipe"; failed=1; }
 exit "$failed"
