@@ -199,21 +199,23 @@ def check_keys(browser, folder):
 def check_pointer(browser, folder):
     told = "document.getElementById('told').textContent"
     browser.resize(1280, 860)
-    browser.open(f"file://{folder}/priority.html#event=9")
-    browser.mouse("mouseMoved", *middle(browser, "#queue [data-thread=\"6005\"]"))
+    browser.open(f"file://{folder}/priority.html#event=56")
+    browser.mouse("mouseMoved", *middle(browser, "#queue [data-thread=\"15561\"]"))
     due(
         "the thread under the pointer", browser.run(told),
-        "Thread 6005 (busy) of socket 0. It waits in the queue as a writer, since event 3, for 12.9 us so far. It joined the queue at event 4, "
-        "and 2 threads that joined before it stand there still. Whom a policy moved isn't in a record. Meanwhile others have taken the lock "
-        "1 time, 0 of them without having waited as long, and it has asked the policy 0 questions.",
+        "Thread 15561 (busy) of socket 0. It waits in the queue as a writer, since event 11, for 146 us so far. It joined the queue at event 12, "
+        "and 1 thread that joined before it stands there still. Whom a policy moved isn't in a record. Meanwhile others have taken the lock "
+        "5 times, of whom 1 asked for it later, as far as is known; it has asked the policy 0 questions.",
     )
-    browser.mouse("mouseMoved", *middle(browser, "#lanes [data-thread=\"6004\"]"))
-    due("the thread whose lane it is", browser.run(told)[:59], "Thread 6004 (busy) of socket 0. It waits outside the queue ")
+    move(browser, 15)
+    browser.mouse("mouseMoved", *middle(browser, "#lanes [data-thread=\"15564\"]"))
+    due("the thread whose lane it is", browser.run(told)[:60], "Thread 15564 (busy) of socket 0. It waits outside the queue ")
     browser.mouse("mouseMoved", 5, 5)
     due("no thread", browser.run(told).startswith("Point at a thread"), True)
     browser.resize(400, 800, phone=True)
     browser.open(f"file://{folder}/gaps.html#event=3")
-    browser.tap(*middle(browser, "#others .pass"))
+    browser.run("document.querySelector('.pass').scrollIntoView({block: 'center'}); null")
+    browser.tap(*middle(browser, ".pass"))
     due("a tapped thread", browser.run(told).startswith("Thread 1"), True)
     due("controls without a name", [it for it in browser.call("Accessibility.getFullAXTree")["nodes"]
                                     if it.get("role", {}).get("value") in ("button", "slider", "checkbox", "combobox") and not it["name"]["value"]], [])

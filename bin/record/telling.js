@@ -50,9 +50,8 @@ function passedWords(state, own) {
   if (own.asked === 0) {
     return "";
   }
-  return "Meanwhile others have taken the lock " + counted(own.others, "time", "times") + ", "
-    + (own.others === 0 ? "" : own.passed + " of them without having waited as long, ")
-    + "and it has asked the policy " + counted(own.asks, "question", "questions") + ".";
+  return "Meanwhile others have taken the lock " + counted(own.others, "time", "times")
+    + (own.others === 0 ? "" : ", of whom " + own.passed + " asked for it later, as far as is known") + "; it has asked the policy " + counted(own.asks, "question", "questions") + ".";
 }
 
 function unknownWords(state, own) {
@@ -122,7 +121,7 @@ function tellLock(state) {
 // What is not known there, or nothing.
 function tellUnknown(state) {
   const count = state.all.filter((own) => own.kind === "unknown").length;
-  const unknown = count === 0 ? "" : "Of " + counted(count, "thread", "threads") + " it isn't known yet what they do";
+  const unknown = count === 0 ? "" : "It isn't known what " + counted(count, "thread does", "threads do");
   const place = state.part === state.k && state.part > 0 ? "Here the record has a gap" : state.part > 0 ? "The last gap was at event " + state.part : "";
   return [place, unknown].filter((one) => one !== "").join(". ") + (place + unknown === "" ? "" : ".");
 }
