@@ -41,9 +41,10 @@ function waitedWords(state, own) {
 function queueWords(state, row) {
   const own = state.all[row];
   const place = queueOf(state).indexOf(row);
-  const joined = own.joined > 0 ? "It joined the queue at event " + own.joined : "It joined the queue " + beginning(state);
-  return joined + ", and " + counted(place, "thread that joined before it stands", "threads that joined before it stand") + " there still"
-    + (own.joined > 0 ? "" : " or beside it, in an order that isn't known") + ". Whom a policy moved isn't in a record.";
+  const words = own.joined > 0
+    ? "at event " + own.joined + ", and " + counted(place, "thread that joined before it stands", "threads that joined before it stand") + " there still"
+    : beginning(state) + "; in which order they joined who did isn't known";
+  return "It joined the queue " + words + ". Whom a policy moved isn't in a record.";
 }
 
 function passedWords(state, own) {
