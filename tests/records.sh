@@ -41,6 +41,11 @@ for file in short zeros nothing random; do is_handed_on "$made/$file"; done
 is_handed_on examples/half-done-relink.line.out --text --all
 is_handed_on examples/half-done-relink.line.out --html --all
 is_handed_on examples/priority.record 'other words' ''
+# what can't be read is the program's too
+"$made/top/bin/draw" </ >"$made/got" 2>&1
+[ "$?" -eq 7 ] || { echo "FAILED a folder as input"; failed=1; }
+"$made/top/bin/draw" <&- >"$made/got" 2>&1
+[ "$?" -eq 7 ] || { echo "FAILED no input"; failed=1; }
 
 python3 -B tests/records.py made "$made" || exit 1
 cp examples/*.record "$made"

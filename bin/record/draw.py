@@ -1,5 +1,5 @@
 """draw.py TOP WORDS: draws the record on standard input for bin/draw; what begins otherwise goes to the proved program, with all its bytes."""
-import os, signal, sys
+import fcntl, os, signal, sys
 
 TOP, WORDS = sys.argv[1], sys.argv[2:]
 sys.path[:0] = [f"{TOP}/bin", f"{TOP}/bin/record"]
@@ -34,16 +34,27 @@ def front_of_input():
     return taken, taken
 
 
+def pipe_above():
+    """A pipe's two ends, neither of them with a standard stream's number, which may be free."""
+    both = os.pipe()
+    above = [fcntl.fcntl(it, fcntl.F_DUPFD_CLOEXEC, 3) for it in both]
+    for it in both:
+        os.close(it)
+    return above
+
+
 def put_back(taken):
     """Whoever reads standard input next finds these bytes and then the others, from a process that hands them on."""
-    inner, outer = os.pipe()
+    inner, outer = pipe_above()
     if os.fork() == 0:
-        signal.signal(signal.SIGPIPE, signal.SIG_DFL)
-        for it in (inner, 1, 2):
-            os.close(it)
-        while taken:
-            taken = taken[os.write(outer, taken):] or os.read(0, 65536)
-        os._exit(0)
+        try:
+            signal.signal(signal.SIGPIPE, signal.SIG_DFL)
+            os.close(inner)
+            os.closerange(1, 3)
+            while taken:
+                taken = taken[os.write(outer, taken):] or os.read(0, 65536)
+        finally:
+            os._exit(0)
     os.dup2(inner, 0)
     os.close(inner)
     os.close(outer)
@@ -92,6 +103,14 @@ def write(text):
         raise Refused(4, f"write fault after {done} bytes") from None
 
 
+def tell(text):
+    """(A fault of the error stream changes no status.)"""
+    try:
+        os.write(2, text.encode())
+    except OSError:
+        pass
+
+
 def main():
     front, taken = front_of_input()
     if front != BEGIN:
@@ -99,7 +118,7 @@ def main():
     try:
         write(drawn(rest_of_input(taken)))
     except Refused as refused:
-        os.write(2, f"draw: {refused}\n".encode())
+        tell(f"draw: {refused}\n")
         return refused.status
     except MemoryError:
         return 5
