@@ -10,7 +10,6 @@ use Rattle.shfl_line.specs.Passes.{times}
 use Rattle.shfl_line.specs.Line.{Line, mark_of, IsWellFormed}
 use Rattle.shfl_line.specs.Steps.{Admits, after}
 use Rattle.shfl_line.proofs.Chain
-use Rattle.shfl_core.specs.declared.phase.Rules.{Rules}
 use Rattle.shfl_core.specs.declared.phase.Phase.TheVariants.{Idle}
 use Rattle.shfl_core.specs.Words.{look, site}
 use Rattle.shfl_core.specs.Plan.{attempt_plan}
@@ -24,7 +23,7 @@ use Rattle.shfl_laws.proofs.laws.MoveLaws.{moved-long}
 use Rattle.shfl_laws.proofs.laws.Opens.{opening-law}
 use Rattle.shfl_laws.proofs.shown.ShownLine.{shown-line-law}
 use Rattle.shfl_laws.proofs.shown.WellFormed.{agrees-well-formed}
-use Rattle.shfl_bound.specs.Changes.{Change, Moves, Tries, Disables, Fills, Replaces, is_idle_there, has_seat, after_change, after_changes, change_event, shown_events, EachMayChange}
+use Rattle.shfl_laws.specs.Changes.{Change, Moves, Tries, Disables, Fills, Replaces, is_idle_there, has_seat, after_change, after_changes, change_event, shown_events, EachMayChange}
 use Rattle.shfl_bound.specs.Departures.{Waits, ahead, leaver, left_before}
 use Rattle.shfl_bound.specs.Overtaking.{OvertakingNumber, WaiterBound, JoinerBound, OpenedBound}
 use Rattle.shfl_bound.proofs.Ahead.{ahead-end}
@@ -100,7 +99,7 @@ changed-full t w ok (Tries p mode) full = by (is_idle_there w p)
     by : (b : Bool) → length (cond b (tried w p (known w.passes p) mode) w).passes ≡ count t
     by true = length-set w.passes p (attempted mode (known w.passes p).reg (look w.words (site (attempt_plan mode)))) ∙ full
     by false = full
-changed-full t w ok Disables full = full
+changed-full t w ok (Disables z) full = full
 changed-full t w ok Fills full = by (has_seat w) (let a = ok.room in grind (arith, nat_tests))
   where
     by : (b : Bool) → b ≡ false → length (cond b (with_one_more w) w).passes ≡ count t

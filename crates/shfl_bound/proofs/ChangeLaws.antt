@@ -20,7 +20,7 @@ use Rattle.shfl_laws.proofs.laws.MoveRows.{forget-law}
 use Rattle.shfl_laws.proofs.laws.AttemptRows.{attempt-law}
 use Rattle.shfl_laws.proofs.laws.Opens.{seat-law}
 use Rattle.shfl_laws.proofs.laws.Stealing.{disable-law}
-use Rattle.shfl_bound.specs.Changes.{Moves, Tries, Disables, Fills, Replaces, is_idle_there, has_seat}
+use Rattle.shfl_laws.specs.Changes.{Moves, Tries, Disables, Fills, Replaces, is_idle_there, has_seat}
 use Rattle.shfl_bound.specs.Overtaking.{ChangeLaw}
 use Rattle.shfl_bound.proofs.Changing.{both-true}
 
@@ -39,7 +39,7 @@ change-law t w (Tries p mode) ok may = by (is_idle_there w p) refl
     by false e = record { lawful = ok; admitted = tt; shown = refl }
     by true e = let u = both-true (nat_lt p (length w.passes)) (is_idle (known w.passes p).phase) e in
         attempt-law t mode w p (known w.passes p) ok (at-read w.passes p (idle p) (below-is p (length w.passes) u.0)) (idle-is (known w.passes p).phase u.1) may
-change-law t w Disables ok may = disable-law t w ok
+change-law t w (Disables z) ok may = disable-law t w ok
 change-law t w Fills ok may = by (has_seat w) refl
   where
     by : (b : Bool) → has_seat w ≡ b → Advances t w ok event.Nothing (cond b (with_one_more w) w)

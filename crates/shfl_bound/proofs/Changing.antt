@@ -1,7 +1,6 @@
 -- How each change leaves the waiter that is moved up, as the event says that the line shows.
 use Rattle.std.proofs.Common.{◌≡◌, ◌≢◌, ℕ, suc, ◌+◌, ◌<◌, ◌⊎◌, Bool, true, false, cond, List, length, length-set, set, get_or-set_other, refl, sym, ap, ◌∙◌, inl, inr, subst, ⊎_elim, arith}
 use Rattle.std.specs.Prelude.{◌&&◌, ◌||◌, ◌==◌, nat_lt}
-use Rattle.std.proofs.lemmas.Bool.Decides.{nat_tests}
 use Rattle.shfl_line.specs.declared.events.Mode.{Mode}
 use Rattle.shfl_line.specs.declared.events.Mode.TheVariants.{Write, Read}
 use Rattle.shfl_line.specs.declared.events.LineEvent.{LineEvent}
@@ -15,7 +14,7 @@ use Rattle.shfl_core.specs.declared.phase.Phase.TheVariants as phase
 use Rattle.shfl_core.specs.declared.phase.Nap.{Nap}
 use Rattle.shfl_core.specs.declared.phase.Nap.TheVariants.{Awake, Doze, Hear, Rouse, Ring}
 use Rattle.shfl_core.specs.declared.phase.PassState.{PassState}
-use Rattle.shfl_core.specs.Words.{look, site, wide}
+use Rattle.shfl_core.specs.Words.{look, site}
 use Rattle.shfl_core.specs.Plan.{plan, moving, is_idle, is_awake, is_resting, attempt_plan}
 use Rattle.shfl_core.specs.Take.{to, take, take_at, take_by, entry, exit, acquired, released, attempted}
 use Rattle.shfl_core.specs.Waiting.{idle}
@@ -23,18 +22,12 @@ use Rattle.shfl_core.specs.Worlds.{World, known, placed_at, stepped, tried, Move
 use Rattle.shfl_core.specs.Events.{event as event_of, event_at, attempt_event}
 use Rattle.shfl_core.specs.Phases.{is_round}
 use Rattle.shfl_core.specs.Lawful.{Terms, Lawful, Advances}
-use Rattle.shfl_core.proofs.Lists.{past, below-or, at-read}
+use Rattle.shfl_core.proofs.Lists.{past, below-or}
 use Rattle.shfl_laws.specs.Stealing.{stealing_disabled}
 use Rattle.shfl_laws.proofs.words.Frame.{known-set}
-use Rattle.shfl_laws.proofs.laws.MoveLaws.{move-law}
-use Rattle.shfl_laws.proofs.laws.Laws.{laws}
-use Rattle.shfl_laws.proofs.laws.AttemptRows.{attempt-law}
-use Rattle.shfl_laws.proofs.laws.MoveRows.{forget-law}
-use Rattle.shfl_laws.proofs.laws.Opens.{known-one, seat-law}
+use Rattle.shfl_laws.proofs.laws.Opens.{known-one}
 use Rattle.shfl_laws.specs.Moves.{with_one_more}
-use Rattle.shfl_laws.proofs.laws.Stealing.{disable-law}
-use Rattle.shfl_bound.specs.Changes.{Change, Moves, Tries, Disables, Fills, Replaces, is_idle_there, has_seat, after_change, change_event}
-use Rattle.shfl_bound.specs.Overtaking.{ChangeLaw}
+use Rattle.shfl_laws.specs.Changes.{Change, Moves, Tries, Disables, Fills, Replaces, is_idle_there, has_seat, after_change, change_event}
 use Rattle.shfl_bound.proofs.LineSteps.{Chosen, Goes}
 use Rattle.shfl_bound.proofs.MovedUp.{moves_up, moved, moved-some, moved-up, marks-next, places-hand, still, turns-on, turns-off}
 use Rattle.shfl_bound.proofs.Steps.{is_plain, leads, goes-plain, goes-cond, asleep}
@@ -221,7 +214,7 @@ module _ (t : Terms) (w : World) (ok : Lawful t w) where
   pub goes : (c : Change) (a : Advances t w ok (change_event t.rules w c) (after_change t.rules w c)) → Goes ok.shown (change_event t.rules w c) (moved t w ok) (moved t (after_change t.rules w c) a.lawful)
   goes (Moves m) a = move m a
   goes (Tries p mode) a = try p mode (is_idle_there w p) refl a
-  goes Disables a = inl (unchanged (stealing_disabled w) a.lawful refl)
+  goes (Disables z) a = inl (unchanged (stealing_disabled w) a.lawful refl)
   goes Fills a = by (has_seat w) a
     where
       by : (b : Bool) (a : Advances t w ok event.Nothing (cond b (with_one_more w) w)) → Goes ok.shown event.Nothing (moved t w ok) (moved t (cond b (with_one_more w) w) a.lawful)

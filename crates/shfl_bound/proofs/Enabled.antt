@@ -13,7 +13,7 @@ use Rattle.shfl_core.specs.Worlds.{World, known}
 use Rattle.shfl_core.specs.View.{view}
 use Rattle.shfl_core.specs.Order.{Walks}
 use Rattle.shfl_core.specs.Lawful.{Terms, Lawful, Advances}
-use Rattle.shfl_bound.specs.Changes.{Change, after_change, change_event, MayChange}
+use Rattle.shfl_laws.specs.Changes.{Change, after_change, change_event, MayChange}
 use Rattle.shfl_bound.specs.Departures.{Waits}
 use Rattle.shfl_bound.specs.Stealing.{is_enabled, enablers, enabled_between, is_departure, times_enabled, OnlyEnablersEnable, EnabledBound}
 use Rattle.shfl_bound.proofs.Staying.{own-or}

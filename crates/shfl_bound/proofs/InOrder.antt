@@ -14,7 +14,7 @@ use Rattle.shfl_core.specs.declared.phase.Phase.TheVariants.{Give}
 use Rattle.shfl_core.specs.Phases.{has_hand}
 use Rattle.shfl_core.specs.Worlds.{World, known}
 use Rattle.shfl_core.specs.Lawful.{Terms, Lawful, Advances}
-use Rattle.shfl_bound.specs.Changes.{Change, after_change, change_event, shown_events, EachMayChange}
+use Rattle.shfl_laws.specs.Changes.{Change, after_change, change_event, shown_events, EachMayChange}
 use Rattle.shfl_bound.specs.Departures.{Waits, ahead, leaver, left_before}
 use Rattle.shfl_bound.specs.Overtaking.{FirstInFirstOut}
 use Rattle.shfl_bound.proofs.Ahead.{ahead-push, ahead-miss}

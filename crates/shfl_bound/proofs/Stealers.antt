@@ -25,7 +25,7 @@ use Rattle.shfl_core.specs.Holding.{write_of, read_of}
 use Rattle.shfl_core.specs.Lawful.{Terms, Lawful}
 use Rattle.shfl_laws.proofs.rows.Counts.{write-in, read-in}
 use Rattle.shfl_laws.proofs.laws.Stealing.{steals-where-enabled, attempts-where-enabled}
-use Rattle.shfl_bound.specs.Changes.{Change, Moves, Tries, Disables, Fills, Replaces, is_idle_there, change_event, MayChange}
+use Rattle.shfl_laws.specs.Changes.{Change, Moves, Tries, Disables, Fills, Replaces, is_idle_there, change_event, MayChange}
 use Rattle.shfl_bound.specs.Stealing.{is_enabling_at, enablers, stealer, stolen_before}
 use Rattle.shfl_bound.proofs.Enabling.{one}
 use Rattle.shfl_bound.proofs.Enabled.{departs, stays-on}
@@ -127,7 +127,7 @@ steals t w ok (Tries r m) p mode may e = by (is_idle_there w r) e
       writes = λ none. k.1 ∙ may none;
     }
     by false e = absurd (cc)
-steals t w ok Disables p mode may e = absurd (cc)
+steals t w ok (Disables z) p mode may e = absurd (cc)
 steals t w ok Fills p mode may e = absurd (cc)
 steals t w ok (Replaces q r) p mode may e = absurd (cc)
 

@@ -11,7 +11,7 @@ use Rattle.shfl_line.specs.Steps.{Admits}
 use Rattle.shfl_core.specs.Plan.{shares}
 use Rattle.shfl_core.specs.Worlds.{World}
 use Rattle.shfl_core.specs.Lawful.{Terms, Lawful, Advances}
-use Rattle.shfl_bound.specs.Changes.{Change, after_change, change_event, shown_events, EachMayChange}
+use Rattle.shfl_laws.specs.Changes.{Change, after_change, change_event, shown_events, EachMayChange}
 use Rattle.shfl_bound.specs.Departures.{Waits}
 use Rattle.shfl_bound.specs.Stealing.{is_enabled, enablers, enabled_between, stealer, stolen_before, IsDisabledAfter, StolenBound, WriterStolenBound, ExclusiveStolenBound, NoneStolen}
 use Rattle.shfl_bound.proofs.Staying.{own-or}

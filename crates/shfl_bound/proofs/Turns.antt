@@ -27,7 +27,7 @@ use Rattle.shfl_laws.specs.Moves.{with_one_more}
 use Rattle.shfl_laws.proofs.words.Frame.{look-else, look-same}
 use Rattle.shfl_laws.proofs.words.LockBits.{lock-or-held, lock-or-closed, lock-and-held}
 use Rattle.shfl_laws.proofs.laws.Opens.{known-one}
-use Rattle.shfl_bound.specs.Changes.{Change, Moves, Tries, Disables, Fills, Replaces, is_idle_there, has_seat, after_change}
+use Rattle.shfl_laws.specs.Changes.{Change, Moves, Tries, Disables, Fills, Replaces, is_idle_there, has_seat, after_change}
 use Rattle.shfl_bound.specs.Stealing.{is_enabling_at}
 use Rattle.shfl_bound.proofs.Changing.{both-true}
 use Rattle.shfl_bound.proofs.ChangeLaws.{below-is}
@@ -220,6 +220,6 @@ module _ (t : Terms) (w : World) (ok : Lawful t w) where
   turn (Moves (Release r)) = release r (is_resting (known w.passes r)) refl
   turn (Moves (Step r c)) = step r c (moving (known w.passes r)) refl
   turn (Tries p mode) = try p mode (is_idle_there w p) refl
-  turn Disables = Stays (word (bit_or (look w.words Lock) CLOSED) (λ h. (lock-or-closed (look w.words Lock) (ok.formed Lock)).closed)) (omega arith) (λ p h. h)
+  turn (Disables q) = Stays (word (bit_or (look w.words Lock) CLOSED) (λ h. (lock-or-closed (look w.words Lock) (ok.formed Lock)).closed)) (omega arith) (λ p h. h)
   turn Fills = fills (has_seat w)
   turn (Replaces p r) = replaces p (to phase.Idle (record r { me = p })) (is_idle_there w p) refl

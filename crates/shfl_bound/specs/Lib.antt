@@ -1,4 +1,3 @@
-pub mod Changes
 pub mod Departures
 pub mod Overtaking
 pub mod SharedSteps

@@ -8,7 +8,7 @@ use Rattle.shfl_core.specs.Worlds.{World, opening}
 use Rattle.shfl_core.specs.ShownLine.{shown_line}
 use Rattle.shfl_core.specs.Lawful.{Terms, Lawful, Advances}
 use Rattle.shfl_laws.specs.Moves.{MayOpen}
-use Rattle.shfl_bound.specs.Changes.{Change, after_change, after_changes, change_event, shown_events, MayChange, EachMayChange}
+use Rattle.shfl_laws.specs.Changes.{Change, after_change, after_changes, change_event, shown_events, MayChange, EachMayChange}
 use Rattle.shfl_bound.specs.Departures.{Waits, ahead, leaver, left_before}
 
 -- a change leads from a lawful world to one, and the shown states are one step of the line apart

@@ -11,7 +11,7 @@ use Rattle.shfl_core.specs.Worlds.{World, stepped}
 use Rattle.shfl_core.specs.Events.{event}
 use Rattle.shfl_core.specs.Lawful.{Terms}
 use Rattle.shfl_laws.specs.Seen.{SeenAs}
-use Rattle.shfl_bound.specs.Changes.{Change, after_changes, shown_events, EachMayChange}
+use Rattle.shfl_laws.specs.Changes.{Change, after_changes, shown_events, EachMayChange}
 use Rattle.shfl_bound.specs.Departures.{left_before}
 
 -- some changes lead from one world to the other, and by them there leave whom the event lets leave, and no others

@@ -14,7 +14,7 @@ use Rattle.shfl_core.specs.Words.{look}
 use Rattle.shfl_core.specs.Plan.{shares}
 use Rattle.shfl_core.specs.Worlds.{World, known}
 use Rattle.shfl_core.specs.Lawful.{Terms, Lawful}
-use Rattle.shfl_bound.specs.Changes.{Change, after_change, change_event, shown_events, MayChange, EachMayChange}
+use Rattle.shfl_laws.specs.Changes.{Change, after_change, change_event, shown_events, MayChange, EachMayChange}
 use Rattle.shfl_bound.specs.Departures.{Waits}
 
 abbrev pub is_enabled : World → Bool

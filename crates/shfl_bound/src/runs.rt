@@ -2,7 +2,8 @@
 ghost use Rattle.std.specs.Prelude.{List};
 ghost use Rattle.shfl_line.specs.declared.words.Attr.{Attr};
 ghost use Rattle.shfl_core.specs.declared.phase.Rules.{Rules};
-ghost use Rattle.shfl_bound.specs.Runs.{RunsGoOn, RunsAreSafe, MovesAreSchedules};
+ghost use Rattle.shfl_laws.specs.Runs.{RunsGoOn};
+ghost use Rattle.shfl_bound.specs.Runs.{RunsAreSafe, MovesAreSchedules};
 
 /// A lock that was opened, and on which passes made steps, attempts and the like, in any order, is what the list of these
 /// makes of its opening: each of them goes on with the list by what it is, also where a pass has entered or is about to leave

@@ -8,7 +8,7 @@ use Rattle.shfl_core.specs.Worlds.{World, known, Acquire, Release, Step, after_m
 use Rattle.shfl_core.specs.Lawful.{Terms, count, Lawful, Advances}
 use Rattle.shfl_laws.specs.Moves.{move_event}
 use Rattle.shfl_laws.specs.Rounds.{in_round}
-use Rattle.shfl_bound.specs.Changes.{Change, Moves, Tries, Disables, Fills, Replaces, after_change, change_event, shown_events, EachMayChange}
+use Rattle.shfl_laws.specs.Changes.{Change, Moves, Tries, Disables, Fills, Replaces, after_change, change_event, shown_events, EachMayChange}
 use Rattle.shfl_bound.proofs.ChangeLaws.{change-law}
 use Rattle.shfl_drain.specs.HandingOn.{is_step_of, steps_of, hands_on, steps_left, HandingOn, AlwaysHandsOn}
 use Rattle.shfl_drain.proofs.Slack.{left-some}
@@ -90,7 +90,7 @@ module _ (t : Terms) (p : ℕ) where
               subst (λ z. (a : Advances t w ok (move_event t.rules w (Step z choice)) (after_move t.rules w (Step z choice))) → After w ok (Moves (Step z choice)) rest → Made w ok (Moves (Step z choice) ∷ rest)) (sym i) (own choice) a ih
           step false e = other (Moves (Step q choice)) a ih e
       by (Tries q mode) a ih = other (Tries q mode) a ih refl
-      by Disables a ih = other Disables a ih refl
+      by (Disables q) a ih = other (Disables q) a ih refl
       by Fills a ih = other Fills a ih refl
       by (Replaces q g) a ih = other (Replaces q g) a ih refl
 

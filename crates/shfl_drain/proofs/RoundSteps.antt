@@ -37,7 +37,7 @@ use Rattle.shfl_laws.proofs.rounds.MeasureAttempts.{others-attempt-keeps}
 use Rattle.shfl_laws.proofs.rows.GiveRow.{ended}
 use Rattle.shfl_laws.proofs.shown.WellFormed.{last-number}
 use Rattle.shfl_laws.proofs.laws.Opens.{known-one}
-use Rattle.shfl_bound.specs.Changes.{Change, Moves, Tries, Disables, Fills, Replaces, is_idle_there, has_seat, after_change, change_event}
+use Rattle.shfl_laws.specs.Changes.{Change, Moves, Tries, Disables, Fills, Replaces, is_idle_there, has_seat, after_change, change_event}
 use Rattle.shfl_bound.proofs.Steps.{asleep}
 use Rattle.shfl_bound.proofs.Changing.{both-true}
 use Rattle.shfl_bound.proofs.ChangeLaws.{idle-is, below-is}
@@ -197,7 +197,7 @@ module _ (t : Terms) (w : World) (p : ℕ) (ok : Lawful t w) (r : in_round w p �
       by : (b : Bool) → is_idle_there w z ≡ b → known (cond b (tried w z (known w.passes z) mode) w).passes p ≡ known w.passes p
       by true e = set-else z _ (there-off z e)
       by false e = refl
-  stays Disables d = refl
+  stays (Disables z) d = refl
   stays Fills d = by (has_seat w)
     where
       by : (b : Bool) → known (cond b (with_one_more w) w).passes p ≡ known w.passes p
@@ -227,7 +227,7 @@ module _ (t : Terms) (w : World) (p : ℕ) (ok : Lawful t w) (r : in_round w p �
       by true e a = let u = both-true (nat_lt z (length w.passes)) (is_idle (known w.passes z).phase) e in
           (others-attempt-keeps t w ok p z (known w.passes z) mode a r (at-read w.passes z (idle z) (below-is z (length w.passes) u.0)) (idle-is (known w.passes z).phase u.1)).1
       by false e a = unshown w a refl
-  lefts Disables a d = unshown (stealing_disabled w) a refl
+  lefts (Disables z) a d = unshown (stealing_disabled w) a refl
   lefts Fills a d = unshown (after_change t.rules w Fills) a (stays Fills refl)
   lefts (Replaces z g) a d = unshown (after_change t.rules w (Replaces z g)) a (stays (Replaces z g) refl)
 

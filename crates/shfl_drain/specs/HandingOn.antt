@@ -9,7 +9,7 @@ use Rattle.shfl_core.specs.Lawful.{Terms, count, Lawful, Advances}
 use Rattle.shfl_laws.specs.Moves.{move_event}
 use Rattle.shfl_laws.specs.Headline.{HasFlag}
 use Rattle.shfl_laws.specs.Rounds.{in_round, left}
-use Rattle.shfl_bound.specs.Changes.{Change, Moves, after_change, change_event, shown_events, EachMayChange}
+use Rattle.shfl_laws.specs.Changes.{Change, Moves, after_change, change_event, shown_events, EachMayChange}
 
 -- the change is a step of p, of its phase or of parking
 abbrev pub is_step_of : ℕ → Change → Bool

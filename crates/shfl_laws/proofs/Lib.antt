@@ -5,3 +5,4 @@ pub mod laws
 pub mod shown
 pub mod plain
 pub mod rounds
+pub mod runs

@@ -14,3 +14,5 @@ pub mod Plain
 pub mod PlainMoves
 pub mod SeenAlike
 pub mod Stealing
+pub mod Changes
+pub mod Runs

@@ -25,7 +25,7 @@ module _ {X : Type 0} (initial_state : X → List ℕ) (history : X → List Act
     moved = at.other z good me'.1 out
 
     pub move-kept : PassInvariant initial_state history rules own id' me'
-    move-kept = subst (λ (w : TableId × View). PassInvariant initial_state history rules own w.0 (w.1, me'.1)) (λ j. (sym same j, sym view j)) (record { live = k.live; seen = k.seen; range = k.range; carries = moved.0; back = k.back; asks = k.asks })
+    move-kept = subst (λ (w : TableId × View). PassInvariant initial_state history rules own w.0 (w.1, me'.1)) (λ j. (sym same j, sym view j)) (record { live = k.live; seen = k.seen; range = k.range; carries = moved.0; back = k.back; parts = k.parts; asks = k.asks })
 
     pub move-told : record { board = record { table = id'; rules = rules; attrs = me'.0.attrs }; own = own; steps_taken = me'.0.steps_taken; decisions = me'.0.decisions; attempts = me'.0.attempts; initial_state = me'.0.initial_state; history = me'.0.history; values = values_of me'.1 } ≡ record m { values = set m.values (place_index m.own.reg.mode place) z }
     move-told = (λ j. record { board = record { table = same j; rules = rules; attrs = (view j).attrs }; own = own; steps_taken = (view j).steps_taken; decisions = (view j).decisions; attempts = (view j).attempts; initial_state = (view j).initial_state; history = (view j).history; values = moved.1 j })

@@ -1,11 +1,11 @@
 -- Splitting, joining and closing, with values.
 use Rattle.std.proofs.Common.{◌≡◌, ℕ, zero, suc, ◌+◌, ◌<◌, ◌≤◌, ◌⊎◌, Bool, true, cond, List, [], ◌∷◌, ◌++◌, map, length, set, get_or, sym, refl, ap, ◌∙◌, subst, inl, inr, ⊎_elim, arith, length-set, length-append, Option, Some, None, slice_get}
-use mathlib.Core.Option.{some, some-injective, some-ne-none}
+use mathlib.Core.Option.{some, some-injective}
 use native.Mathlib.Decide.{dec_lt}
 use lib.ListN.{get_elem?}
 use Rattle.std.proofs.lemmas.List.{get_or_past}
-use Rattle.atomic_table.specs.Table.{Splits, Joins, Final, Seen}
-use Rattle.atomic_table.proofs.Lists.{at_set, set_here, set_else, at_longer}
+use Rattle.atomic_table.specs.Table.{State, Splits, Joins, Final, Seen}
+use Rattle.atomic_table.proofs.Lists.{at_set, set_here, set_else}
 use Rattle.shfl_line.specs.declared.events.Mode.{Mode}
 use Rattle.shfl_line.specs.declared.events.Mode.TheVariants.{Write, Read}
 use Rattle.shfl_core.specs.declared.phase.Phase.TheVariants.{Idle}
@@ -20,23 +20,20 @@ use Rattle.shfl_laws.proofs.laws.Opens.{seat-law, known-one}
 use Rattle.shfl_table.proofs.Places.{there}
 use Rattle.shfl_table.specs.declared.kept.Action.{Action}
 use Rattle.shfl_table.specs.declared.view.Given.{Given}
+use Rattle.shfl_table.specs.declared.view.Part.{Part}
 use Rattle.shfl_table.specs.declared.view.View.{View}
 use Rattle.shfl_laws.specs.Holds.{hold_of}
 use Rattle.shfl_table.specs.Histories.{HasSeen, IsCurrent, actions_by}
 use Rattle.shfl_table.specs.Places.{Every}
-use Rattle.shfl_table.specs.Views.{number, IsAmong, IsSpent, given_view, new_view, next_view, not_last, pass_at, passes_from, spent_view, with_given}
+use Rattle.shfl_table.specs.Views.{number, IsAmong, IsSpent, given_view, part_of, new_view, next_view, not_last, pass_at, passes_from, spent_view, with_given}
 use Rattle.shfl_laws.specs.Moves.{told_terms}
 use Rattle.shfl_table.specs.BoardRule.{AreHome, BoardRule, Homes, SeatFacts, world_of}
 use Rattle.shfl_table.specs.PassModel.{BoardId, PassModel, fresh_pass}
-use Rattle.shfl_table.proofs.SeatViews.{passes-set, passes-at, live-pass, pass-there, dead_stays, hold-same}
+use Rattle.shfl_table.proofs.SeatViews.{passes-set, passes-at, live-pass, pass-there, at_end, dead_longer, dead_stays, hold-same}
+use Rattle.shfl_table.proofs.RunEnds.{run-splits, run-joins, run-closes}
+use Rattle.shfl_table.specs.ThreadRuns.{RanUntilClosed}
 use Rattle.shfl_table.proofs.First.{count-is}
 use Rattle.shfl_laws.proofs.laws.MoveRows.{forget-law}
-
-at_end : {A : Type 0} (l : List A) (a b : A) (j : ℕ) → get_elem? (l ++ a ∷ []) j ≡ some b → ((j < length l) × (get_elem? l j ≡ some b)) ⊎ ((j ≡ length l) × (a ≡ b))
-at_end [] a b zero e = inr (refl, some-injective a b e)
-at_end [] a b (suc j) e = absurd (some-ne-none b (sym e))
-at_end (x ∷ xs) a b zero e = inl (omega arith, e)
-at_end (x ∷ xs) a b (suc j) e = ⊎_elim (λ p. inl (let h = p.0 in omega arith, p.1)) (λ p. inr (ap suc p.0, p.1)) (at_end xs a b j e)
 
 passes-long : (i : ℕ) (vs : List View) → length (passes_from i vs) ≡ length vs
 passes-long i [] = refl
@@ -53,9 +50,6 @@ known-more i [] (suc q) = refl
 known-more i (x ∷ xs) zero = refl
 known-more i (x ∷ xs) (suc q) = let a : suc i + length xs ≡ i + suc (length xs) = omega arith in let b : suc i + q ≡ i + suc q = omega arith in
     subst (λ (z : ℕ × ℕ). get_or (xs ++ idle z.0 ∷ []) q (idle z.1) ≡ get_or xs q (idle z.1)) (λ j. (a j, b j)) (known-more (suc i) xs q)
-
-dead_longer : (vs : List View) (x : View) (k : ℕ) → IsSpent vs k → IsSpent (vs ++ x ∷ []) k
-dead_longer vs x k d = (d.0, at_longer vs (x ∷ []) k d.0 d.1, d.2)
 
 module _ {V : Type 0} (initial_state : V → List ℕ) (history : V → List Action) where
   -- what is free depends on the holds alone
@@ -75,6 +69,7 @@ module _ {V : Type 0} (initial_state : V → List ℕ) (history : V → List Act
       let longer : length (vs ++ n ∷ []) ≡ length s.views + 1 = omega (arith, length-append vs (n ∷ [])) in record {
         total = ok.total;
         lawful = subst (λ (z : List PassState). Lawful t (record { words = s.words; passes = z })) same (seat-law t (record { words = s.words; passes = passes }) ok.lawful (omega arith)).lawful;
+        run = run-splits t s.words s.views ok.run id v at live (omega arith) (let a = ok.lawful.room in omega arith) same;
         free = free-by r ok.total passes (passes_from 0 (vs ++ n ∷ [])) s.homes (λ q. ap hold_of (sym (ap (λ z. known z q) same) ∙ known-one passes q)) ok.free;
         unborn = λ k h. ok.unborn k (omega arith);
         seated = λ seat u e. ⊎_elim
@@ -122,6 +117,7 @@ module _ {V : Type 0} (initial_state : V → List ℕ) (history : V → List Act
       let now : IsSpent vs' (number w) = subst (IsSpent vs') (sym num) (spent_view, set_here vs other spent_view (there vs other w at'), refl) in record {
         total = ok.total;
         lawful = subst (λ (l : List PassState). Lawful t (record { words = s.words; passes = l })) (sym gone) f.lawful;
+        run = run-joins t s.words s.views ok.run id v other w at live at_other live' apart num here rests gone at' now;
         free = free-by r ok.total passes (passes_from 0 vs') s.homes (λ q. ap (λ l. hold_of (known l q)) gone ∙ hold-same passes other w.pass (idle other) here out q) ok.free;
         unborn = λ k h. ok.unborn k (omega arith);
         seated = λ seat u g. ⊎_elim
@@ -158,42 +154,47 @@ has_end : (xs : List Given) (y g : Given) → IsAmong g (xs ++ y ∷ []) → IsA
 has_end [] y g h = ⊎_elim (λ e. inr e) (λ no. absurd no) h
 has_end (x ∷ xs) y g h = ⊎_elim (λ e. inl (inl e)) (λ t. ⊎_elim (λ a. inl (inr a)) (λ b. inr b) (has_end xs y g t)) h
 
-past : (l : List PassState) (q : ℕ) → length l ≤ q → hold_of (known l q) ≡ None
-past l q h = ap hold_of (get_or_past l q (idle q) h)
-
 here-or : (vs : List View) (q : ℕ) → ((u : View) × (get_elem? vs q ≡ some u)) ⊎ (length vs ≤ q)
 here-or [] q = inr (omega arith)
 here-or (x ∷ xs) zero = inl (x, refl)
 here-or (x ∷ xs) (suc q) = ⊎_elim (λ p. inl p) (λ h. inr (omega arith)) (here-or xs q)
 
 -- where all are given back, each value is at home, with one history. All that was seen is a beginning of it, with all actions of its pass
-pub record Ended {V : Type 0} (initial_state : V → List ℕ) (history : V → List Action) (n : ℕ) (r : List ℕ) (given_all : List Given) (xs : List (Option V)) : Type 0 where
+pub record Ended {V : Type 0} (initial_state : V → List ℕ) (history : V → List Action) (rules : Rules) (attrs : List ℕ) (n : ℕ) (r : List ℕ) (given_all : List Given) (parts : List Part) (xs : List (Option V)) : Type 0 where
   pub total : List Action
   pub home : (k : ℕ) → k < length xs → (x : V) × (get_elem? xs k ≡ some (Some x)) × (initial_state x ≡ r) × (history x ≡ total)
   pub knew : (g : Given) → IsAmong g given_all → HasSeen total g.number g.history
   pub only : (k : ℕ) → n ≤ k → actions_by k total ≡ []
+  pub run : RanUntilClosed rules attrs n parts
 
 module _ {V : Type 0} (initial_state : V → List ℕ) (history : V → List Action) (t : Terms) (n : ℕ) (wide : count t ≡ n) (r : List ℕ) where
-  pub closes : (id : ℕ) (v : View) (ws : List ℕ) (xs : List (Option V)) → v.live ≡ true → v.pass.phase ≡ Idle
-      → ((k : ℕ) → k < n → (g : Given) × IsAmong g (v.back ++ given_view v ∷ []) × (g.number ≡ k))
-      → Final (Seen (BoardRule initial_state history t r) id v) ws xs → Ended initial_state history n r (v.back ++ given_view v ∷ []) xs
-  closes id v ws xs live rests all f = let s = f.0 in let ok = f.1.0 in let at = f.1.1 in let o = ok.seated id v at in
+  -- every pass is idle then
+  all-idle : (s : State (Option V) View) (id : ℕ) (v : View) → BoardRule initial_state history t r s → get_elem? s.views id ≡ some v → v.live ≡ true → v.pass.phase ≡ Idle
+      → ((k : ℕ) → k < n → (g : Given) × IsAmong g (v.back ++ given_view v ∷ []) × (g.number ≡ k)) → (k : ℕ) → (known (passes_from 0 s.views) k).phase ≡ Idle
+  all-idle s id v ok at live rests all k = let o = ok.seated id v at in
       let num : number v ≡ id = ok.lawful.numbers id v.pass (pass-there s.views id v at live) in
       let few : length s.views ≤ n = (let a = ok.lawful.seats in let b = passes-long 0 s.views in omega arith) in
-      let split : (g : Given) → IsAmong g (v.back ++ given_view v ∷ []) → IsAmong g v.back ⊎ (g ≡ given_view v) = has_end v.back (given_view v) in
-      let out : (z : View) → z.pass.phase ≡ Idle → hold_of z.pass ≡ None = λ z e. ap (λ p. cond (is_holding p) (Some z.pass.reg.mode) None) e in
-      let each : (k : ℕ) (u : View) → get_elem? s.views k ≡ some u → hold_of (pass_at (0 + k) u) ≡ None = λ k u e.
+      let each : (u : View) → get_elem? s.views k ≡ some u → (pass_at (0 + k) u).phase ≡ Idle = λ u e.
       let h = all k (let t = there s.views k u e in omega arith) in
       ⊎_elim
       (λ b. let d = (o.back h.0 b).0 in let same : d.0 ≡ u = some-injective d.0 u (sym d.1 ∙ (ap (get_elem? s.views) h.2 ∙ e)) in
-      ap (λ (z : Bool). hold_of (cond z u.pass (idle (0 + k)))) (ap (λ (z : View). z.live) (sym same) ∙ d.2))
+      ap (λ (z : Bool). (cond z u.pass (idle (0 + k))).phase) (ap (λ (z : View). z.live) (sym same) ∙ d.2))
       (λ is. let here : k ≡ id = sym h.2 ∙ (ap (λ (z : Given). z.number) is ∙ num) in
-      let same : v ≡ u = some-injective v u (sym at ∙ (ap (get_elem? s.views) (sym here) ∙ e)) in ap hold_of (live-pass (0 + k) u (ap (λ (z : View). z.live) (sym same) ∙ live)) ∙ out u (ap (λ (z : View). z.pass.phase) (sym same) ∙ rests))
-      (split h.0 h.1) in
-      let nobody : (k : ℕ) → hold_of (known (passes_from 0 s.views) k) ≡ None = λ k. ⊎_elim
-      (λ p. ap hold_of (seen-at (passes_from 0 s.views) k (pass_at (0 + k) p.0) (idle k) (passes-at 0 s.views k p.0 p.1)).0 ∙ each k p.0 p.1)
-      (λ h. past (passes_from 0 s.views) k (let a = passes-long 0 s.views in omega arith))
-      (here-or s.views k) in
+      let same : v ≡ u = some-injective v u (sym at ∙ (ap (get_elem? s.views) (sym here) ∙ e)) in ap (λ (z : PassState). z.phase) (live-pass (0 + k) u (ap (λ (z : View). z.live) (sym same) ∙ live)) ∙ (ap (λ (z : View). z.pass.phase) (sym same) ∙ rests))
+      (has_end v.back (given_view v) h.0 h.1) in
+      ⊎_elim
+      (λ p. ap (λ (z : PassState). z.phase) (seen-at (passes_from 0 s.views) k (pass_at (0 + k) p.0) (idle k) (passes-at 0 s.views k p.0 p.1)).0 ∙ each p.0 p.1)
+      (λ h. ap (λ (z : PassState). z.phase) (get_or_past (passes_from 0 s.views) k (idle k) (let a = passes-long 0 s.views in omega arith)))
+      (here-or s.views k)
+
+  pub closes : (id : ℕ) (v : View) (ws : List ℕ) (xs : List (Option V)) → v.live ≡ true → v.pass.phase ≡ Idle
+      → ((k : ℕ) → k < n → (g : Given) × IsAmong g (v.back ++ given_view v ∷ []) × (g.number ≡ k))
+      → Final (Seen (BoardRule initial_state history t r) id v) ws xs → Ended initial_state history t.rules t.attrs n r (v.back ++ given_view v ∷ []) (v.parts ++ part_of v ∷ []) xs
+  closes id v ws xs live rests all f = let s = f.0 in let ok = f.1.0 in let at = f.1.1 in let o = ok.seated id v at in
+      let num : number v ≡ id = ok.lawful.numbers id v.pass (pass-there s.views id v at live) in
+      let few : length s.views ≤ n = (let a = ok.lawful.seats in let b = passes-long 0 s.views in omega arith) in
+      let at_rest = all-idle s id v ok at live rests all in
+      let nobody : (k : ℕ) → hold_of (known (passes_from 0 s.views) k) ≡ None = λ k. ap (λ z. cond (is_holding z) (Some (known (passes_from 0 s.views) k).reg.mode) None) (at_rest k) in
       let no : (k : ℕ) (m : Mode) → hold_of (known (passes_from 0 s.views) k) ≡ Some m → ⊥ = λ k m h. (let z : None ≡ Some m = sym (nobody k) ∙ h in cc) in
       let long = f.3 in record {
         total = ok.total;
@@ -201,8 +202,9 @@ module _ {V : Type 0} (initial_state : V → List ℕ) (history : V → List Act
             (λ reads. absurd (no k Read reads))
             (λ home. (home.0, f.4 k (Some home.0) home.1, home.2, home.3))
             (ok.free (λ q w. no q Write w) k (omega arith));
-        knew = λ g h. ⊎_elim (λ b. (o.back g b).1) (λ is. subst (λ (z : Given). HasSeen ok.total z.number z.history) (sym is) (subst (λ z. HasSeen ok.total z v.history) (sym num) (o.knew live))) (split g h);
+        knew = λ g h. ⊎_elim (λ b. (o.back g b).1) (λ is. subst (λ (z : Given). HasSeen ok.total z.number z.history) (sym is) (subst (λ z. HasSeen ok.total z v.history) (sym num) (o.knew live))) (has_end v.back (given_view v) g h);
         only = λ k h. ok.unborn k (omega arith);
+        run = run-closes t s.words s.views ok.run id v n at live num few at_rest;
       }
 
 some_is : {X : Type 0} (x y : X) → Some x ≡ Some y → x ≡ y

@@ -67,6 +67,7 @@ module _ {X : Type 0} (initial_state : X → List ℕ) (history : X → List Act
     range = a.0;
     carries = a.1;
     back = k.back;
+    parts = k.parts;
     asks = asks-entered m own me.0.attrs k.asks;
   })
 
@@ -98,5 +99,6 @@ module _ {X : Type 0} (initial_state : X → List ℕ) (history : X → List Act
     range = a.0;
     carries = a.1;
     back = k.back;
+    parts = k.parts;
     asks = asks-left own me.0.attrs k.asks;
   })

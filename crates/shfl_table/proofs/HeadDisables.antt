@@ -23,6 +23,7 @@ use Rattle.shfl_table.specs.ValueMoves.{MovesValues}
 use Rattle.shfl_table.specs.Views.{no_deeds, view_after}
 use Rattle.shfl_table.proofs.Operations.{operate-permits}
 use Rattle.shfl_table.proofs.SeatViews.{none-some}
+use Rattle.shfl_table.proofs.ThreadRuns.{disabling-goes-on}
 
 -- the operation is permitted to any seat whose pass is there
 pub disabling-permits : {V : Type 0} (initial_state : V → List ℕ) (history : V → List Action) (slots id : ℕ) (r : List ℕ) (key t : Terms) (m : Me (Option V) View) (access : Access) → t ≡ key → m.0.live ≡ true → access ≡ disable_plan
@@ -31,6 +32,7 @@ disabling-permits initial_state history slots id r key t m access made live plan
     subst (λ (z : Terms × Access). Permits (BoardRule initial_state history key r) slots id m (disabling_play initial_state history z.0) z.1) (λ j. (sym made j, sym planned j))
     (operate-permits initial_state history key r slots id m disable_plan (λ _. m.0.pass) no_deeds live (λ n. refl)
     (λ num w ok at. subst (λ (l : List PassState). Lawful key (record { words = written w.words disable_plan; passes = l })) (sym (set-again w.passes id m.0.pass at)) (disable-law key w ok).lawful)
+    (λ num w ok at. disabling-goes-on key.rules w id m.0.pass at)
     (λ n x y e f. let s : Some x ≡ Some y = sym e ∙ f in cc)
     (λ n x e f. absurd (none-some (hold_of m.0.pass) x f e)))
 
@@ -52,6 +54,7 @@ module _ {X : Type 0} (initial_state : X → List ℕ) (history : X → List Act
       leaving = k.carries.leaving;
     };
     back = k.back;
+    parts = k.parts;
     asks = k.asks;
   })
 

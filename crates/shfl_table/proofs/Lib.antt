@@ -21,3 +21,5 @@ pub mod PackedStates
 pub mod LongerBooks
 pub mod BookVisits
 pub mod HeadDisables
+pub mod ThreadRuns
+pub mod RunEnds

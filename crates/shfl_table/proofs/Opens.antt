@@ -11,6 +11,7 @@ use Rattle.shfl_table.specs.Places.{Every}
 use Rattle.shfl_table.specs.BoardRule.{BoardRule, IsHome, SeatFacts}
 use Rattle.shfl_table.specs.Histories.{IsCurrent}
 use Rattle.shfl_table.specs.Views.{first_view}
+use Rattle.shfl_table.specs.ThreadRuns.{HasRun}
 use Rattle.shfl_table.proofs.Histories.{knew_itself}
 
 module _ {V : Type 0} (initial_state : V → List ℕ) (history : V → List Action) (r : List ℕ) where
@@ -19,10 +20,11 @@ module _ {V : Type 0} (initial_state : V → List ℕ) (history : V → List Act
   home-at (x ∷ xs) a zero h = (x, refl, a.0.0, a.0.1)
   home-at (x ∷ xs) a (suc k) h = home-at xs a.1 k (omega arith)
 
-  pub opens : (t : Terms) (words : List ℕ) (values : List V) → Lawful t (record { words = words; passes = idle 0 ∷ [] }) → Every (IsCurrent initial_state history r []) values → BoardRule initial_state history t r (opening words (map Some values) (first_view t.attrs r))
-  opens t words values ok alike = record {
+  pub opens : (t : Terms) (words : List ℕ) (values : List V) → Lawful t (record { words = words; passes = idle 0 ∷ [] }) → HasRun t words (first_view t.attrs r ∷ []) → Every (IsCurrent initial_state history r []) values → BoardRule initial_state history t r (opening words (map Some values) (first_view t.attrs r))
+  opens t words values ok run alike = record {
     total = [];
     lawful = ok;
+    run = run;
     free = λ out k small. inr (home-at values alike k small);
     unborn = λ k h. refl;
     seated = only;

@@ -181,6 +181,7 @@ module _ {X : Type 0} (initial_state : X → List ℕ) (history : X → List Act
       carries = subst (λ (z : TableId). Carries initial_state history z.slots q me'.0 me'.1) (sym same)
           (carries-after initial_state history id.slots own q me me' (λ i. take rules own.reg.me own i choice) (step_deeds rules own choice) n e number-is num' alike steady still k.carries r (hold_of own) (hold_of q) refl refl only);
       back = ap (λ (v : View). v.back) view.1 ∙ k.back;
+      parts = ap (λ (v : View). v.parts) view.1 ∙ k.parts;
       asks = subst (λ (z : PassState × List ℕ). z.0.phase ≡ Decide → z.0.reg.seen ≡ slice_index z.1 z.0.reg.cand) (λ j. (sym e j, ap (λ (v : View). v.attrs) (sym view.1) j))
           (asks-after rules own.reg.me own n choice me.0.attrs k.asks (finds told));
     }

@@ -1,6 +1,6 @@
 -- What a step is permitted, by what the pass knows of itself.
 use Rattle.shfl_table.specs.Views.{attempt_deeds, number}
-use Rattle.std.proofs.Common.{◌≡◌, ℕ, Bool, true, cond, List, [], Option, Some, None, refl, sym, ap, ◌∙◌, subst}
+use Rattle.std.proofs.Common.{◌≡◌, ℕ, Bool, true, cond, List, Option, Some, None, refl, sym, ap, ◌∙◌, subst}
 use Rattle.atomic_table.specs.Table.{Me}
 use Rattle.shfl_line.specs.declared.events.Mode.{Mode}
 use Rattle.shfl_line.specs.declared.events.Mode.TheVariants.{Write, Read}
@@ -13,7 +13,7 @@ use Rattle.shfl_laws.proofs.laws.AttemptRows.{attempt-law}
 use Rattle.shfl_core.specs.declared.phase.Rules.{Rules}
 use Rattle.shfl_core.specs.declared.phase.PassState.{PassState}
 use Rattle.shfl_core.specs.declared.words.Access.{Access}
-use Rattle.shfl_core.specs.Plan.{plan, attempt_plan}
+use Rattle.shfl_core.specs.Plan.{moving, plan, attempt_plan}
 use Rattle.shfl_core.specs.Lawful.{Terms}
 use Rattle.shfl_laws.specs.Seen.{SeenAs}
 use Rattle.shfl_table.specs.Perform.{Permits}
@@ -23,14 +23,15 @@ use Rattle.shfl_laws.specs.Holds.{hold_of, is_releasing}
 use Rattle.shfl_table.specs.BoardRule.{BoardRule}
 use Rattle.shfl_table.specs.ValueMoves.{MayFree, access_play, attempt_play, step_play}
 use Rattle.shfl_table.proofs.Operations.{row-permits, operate-permits}
+use Rattle.shfl_table.proofs.ThreadRuns.{attempt-goes-on}
 
 pub permits : {V : Type 0} (initial_state : V → List ℕ) (history : V → List Action) (slots id : ℕ) (r : List ℕ) (key t : Terms) (rules : Rules) (q q' : PassState) (choice choice' : Bool) (me : Me (Option V) View) (access : Access) → (t ≡ key) × (q' ≡ q) × (choice' ≡ choice) → key.rules ≡ rules
-    → (me.0.live ≡ true) × (number me.0 ≡ q.reg.me) × SeenAs rules.form q me.0.pass → ((x : Mode) → hold_of q ≡ Some x → is_releasing q.phase ≡ true → MayFree initial_state history x slots me) → access ≡ plan rules q.reg.me q
+    → (me.0.live ≡ true) × (number me.0 ≡ q.reg.me) × SeenAs rules.form q me.0.pass → moving q ≡ true → ((x : Mode) → hold_of q ≡ Some x → is_releasing q.phase ≡ true → MayFree initial_state history x slots me) → access ≡ plan rules q.reg.me q
     → Permits (BoardRule initial_state history key r) slots id me (step_play initial_state history t q' choice') access
-permits initial_state history slots id r key t rules q q' choice choice' me access made keyed seat ready planned =
+permits initial_state history slots id r key t rules q q' choice choice' me access made keyed seat goes ready planned =
     subst (λ (z : Terms × PassState × Bool × Access). Permits (BoardRule initial_state history key r) slots id me (step_play initial_state history z.0 z.1 z.2) z.3)
     (λ j. (sym made.0 j, sym made.1 j, sym made.2 j, ((λ i. plan (keyed i) (seat.1 i) q) ∙ sym planned) j))
-    (row-permits initial_state history key r slots id me q choice seat.0 (subst (λ (x : Rules). SeenAs x.form q me.0.pass) (sym keyed) seat.2) ready)
+    (row-permits initial_state history key r slots id me q choice seat.0 (subst (λ (x : Rules). SeenAs x.form q me.0.pass) (sym keyed) seat.2) goes ready)
 
 told-attempt : (mode : Mode) (n : ℕ) → told (attempt_plan mode) n ≡ n
 told-attempt Write n = refl
@@ -42,6 +43,7 @@ pub tried-permits : {V : Type 0} (initial_state : V → List ℕ) (history : V �
 tried-permits initial_state history t r slots id m mode live idle may = operate-permits initial_state history t r slots id m (attempt_plan mode) (attempted mode m.0.pass.reg) attempt_deeds live
     (λ n. ap (attempted mode m.0.pass.reg) (told-attempt mode n))
     (λ num w ok at. (attempt-law t mode w id m.0.pass ok at idle may).lawful)
+    (λ num w ok at. attempt-goes-on t.rules w id m.0.pass mode at idle may)
     (λ n x y e f. absurd (out x e))
     (λ n x e f. absurd (out x e))
   where

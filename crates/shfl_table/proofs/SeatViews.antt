@@ -1,10 +1,10 @@
 -- The views of the seats, and the passes that they show, where one of them changes.
-use Rattle.std.proofs.Common.{◌≡◌, ◌≢◌, ℕ, zero, suc, ◌+◌, true, false, cond, List, [], ◌∷◌, map, set, get_or-set_same, get_or-set_other, Option, Some, None, sym, refl, ap, ◌∙◌, subst, ⊎_elim, arith, length-set}
+use Rattle.std.proofs.Common.{◌≡◌, ◌≢◌, ℕ, zero, suc, ◌+◌, ◌<◌, ◌⊎◌, true, false, cond, List, [], ◌∷◌, ◌++◌, length, map, set, get_or-set_same, get_or-set_other, Option, Some, None, sym, refl, ap, ◌∙◌, subst, inl, inr, ⊎_elim, arith, length-set}
 use mathlib.Core.Logic.{dite}
 use native.Mathlib.Decide.{ℕ_discrete}
 use mathlib.Core.Option.{some, some-injective, some-ne-none}
 use lib.ListN.{get_elem?}
-use Rattle.atomic_table.proofs.Lists.{at_set, set_else}
+use Rattle.atomic_table.proofs.Lists.{at_longer, at_set, set_else}
 use Rattle.shfl_line.specs.declared.events.Mode.{Mode}
 use Rattle.shfl_line.specs.declared.events.Mode.TheVariants.{Write, Read}
 use Rattle.shfl_core.specs.declared.phase.PassState.{PassState}
@@ -43,8 +43,18 @@ dead_stays vs id v w at live k d = dite (ℕ_discrete k id)
     (λ e. let same : v ≡ d.0 = some-injective v d.0 (sym at ∙ (sym (ap (get_elem? vs) e) ∙ d.1)) in absurd (let x : v.live ≡ false = ap (λ (u : View). u.live) same ∙ d.2 in cc))
     (λ ne. (d.0, set_else vs id k w ne ∙ d.1, d.2))
 
-not_dead : (vs : List View) (id : ℕ) (v : View) → get_elem? vs id ≡ some v → v.live ≡ true → (k : ℕ) → IsSpent vs k → k ≢ id
+pub not_dead : (vs : List View) (id : ℕ) (v : View) → get_elem? vs id ≡ some v → v.live ≡ true → (k : ℕ) → IsSpent vs k → k ≢ id
 not_dead vs id v at live k d e = let same : v ≡ d.0 = some-injective v d.0 (sym at ∙ (sym (ap (get_elem? vs) e) ∙ d.1)) in absurd (let x : v.live ≡ false = ap (λ (u : View). u.live) same ∙ d.2 in cc)
+
+-- what stands in a list that is one longer
+pub at_end : {A : Type 0} (l : List A) (a b : A) (j : ℕ) → get_elem? (l ++ a ∷ []) j ≡ some b → ((j < length l) × (get_elem? l j ≡ some b)) ⊎ ((j ≡ length l) × (a ≡ b))
+at_end [] a b zero e = inr (refl, some-injective a b e)
+at_end [] a b (suc j) e = absurd (some-ne-none b (sym e))
+at_end (x ∷ xs) a b zero e = inl (omega arith, e)
+at_end (x ∷ xs) a b (suc j) e = ⊎_elim (λ p. inl (let h = p.0 in omega arith, p.1)) (λ p. inr (ap suc p.0, p.1)) (at_end xs a b j e)
+
+pub dead_longer : (vs : List View) (x : View) (k : ℕ) → IsSpent vs k → IsSpent (vs ++ x ∷ []) k
+dead_longer vs x k d = (d.0, at_longer vs (x ∷ []) k d.0 d.1, d.2)
 
 -- one live view changes, and perhaps the whole history
 pub seated_after : (r : List ℕ) (id : ℕ) (vs : List View) (v w : View) (total total' : List Action) → get_elem? vs id ≡ some v → v.live ≡ true → ((seat : ℕ) (u : View) → get_elem? vs seat ≡ some u → SeatFacts r total vs seat u)

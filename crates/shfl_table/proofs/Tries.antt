@@ -85,6 +85,7 @@ module _ {X : Type 0} (initial_state : X → List ℕ) (history : X → List Act
       carries = subst (λ (z : TableId). Carries initial_state history z.slots q me'.0 me'.1) (sym there)
           (carries-after initial_state history id.slots own q me me' (attempted mode me.0.pass.reg) attempt_deeds n is num num' same steady still k.carries r (hold_of own) (hold_of q) refl refl only);
       back = ap (λ (v : View). v.back) view.1 ∙ k.back;
+      parts = ap (λ (v : View). v.parts) view.1 ∙ k.parts;
       asks = λ f. absurd (asks-nobody mode own.reg n (ap (λ (z : PassState). z.phase) (sym e) ∙ f));
     }
 

@@ -1,10 +1,11 @@
--- A pass whose hold comes, goes or stays, in a world that stays lawful: the rule is kept, with the values.
+-- A pass whose hold comes, goes or stays, by an operation that goes on with the run, in a world that stays lawful: the rule is kept, with the values.
 use Rattle.std.proofs.Common.{◌≡◌, ◌≢◌, ℕ, ◌+◌, ◌<◌, ◌≤◌, true, List, [], length, set, Option, Some, None, sym, refl, ap, ◌∙◌, subst, inl, inr, ⊎_elim, arith, length-set}
 use mathlib.Core.Logic.{dite}
 use native.Mathlib.Decide.{ℕ_discrete}
 use mathlib.Core.Option.{some}
 use lib.ListN.{get_elem?}
 use Rattle.atomic_table.specs.Table.{State}
+use Rattle.atomic_table.proofs.Lists.{set_here}
 use Rattle.shfl_line.specs.declared.events.Mode.TheVariants.{Write, Read}
 use Rattle.shfl_core.specs.declared.phase.PassState.{PassState}
 use Rattle.shfl_core.specs.Waiting.{idle}
@@ -14,18 +15,19 @@ use Rattle.shfl_core.proofs.Lists.{seen-at}
 use Rattle.shfl_table.proofs.Places.{there}
 use Rattle.shfl_laws.specs.Holds.{hold_of}
 use Rattle.shfl_table.specs.Histories.{Continues, HasSeen, actions_by}
-use Rattle.shfl_table.specs.declared.view.Decision.{Decision}
 use Rattle.shfl_table.specs.declared.kept.Action.{Action}
 use Rattle.shfl_table.specs.declared.view.View.{View}
-use Rattle.shfl_table.specs.Views.{Deeds, passes_from, step_deeds, view_after}
+use Rattle.shfl_table.specs.Views.{Deeds, passes_from, view_after}
 use Rattle.shfl_table.specs.BoardRule.{AreHome, BoardRule, Homes, IsHome, SeatFacts, world_of}
 use Rattle.shfl_laws.proofs.laws.Holds.{alone}
 use Rattle.shfl_table.proofs.Histories.{knew_itself, knew_more}
+use Rattle.shfl_table.proofs.ThreadRuns.{GoesOn, run-after}
 use Rattle.shfl_table.proofs.SeatViews.{passes-set, live-pass, pass-there, seated_after, none-some, write-read, hold-here, hold-was, hold-else, hold-same}
 
 -- a pass, whose seat knows v and carries c, goes to q, and the world stays lawful
 module _ {V : Type 0} (initial_state : V → List ℕ) (history : V → List Action) (qs : Deeds) (t : Terms) (r : List ℕ) (id : ℕ) (v : View) (s : State (Option V) View) (ok : BoardRule initial_state history t r s) (at : get_elem? s.views id ≡ some v) (live : v.live ≡ true)
-    (q : PassState) (words : List ℕ) (law : Lawful t (record { words = words; passes = set (passes_from 0 s.views) id q })) where
+    (q : PassState) (words : List ℕ) (law : Lawful t (record { words = words; passes = set (passes_from 0 s.views) id q }))
+    (grown : GoesOn t.rules (world_of s) id qs (record { words = words; passes = set (passes_from 0 s.views) id q })) where
   abbrev P : List PassState
   P = passes_from 0 s.views
 
@@ -45,6 +47,7 @@ module _ {V : Type 0} (initial_state : V → List ℕ) (history : V → List Act
       let passes : passes_from 0 (set s.views id w) ≡ set (passes_from 0 s.views) id q = passes-set 0 s.views id w ∙ ap (set (passes_from 0 s.views) id) (live-pass (0 + id) w live) in record {
         total = total;
         lawful = subst (λ (l : List PassState). Lawful t (record { words = words; passes = l })) (sym passes) law;
+        run = run-after t s.words s.views ok.run id v at live qs q words seen (law.numbers id q (set_here (passes_from 0 s.views) id q (there (passes_from 0 s.views) id v.pass here))) grown;
         free = subst (λ (l : List PassState). AreHome initial_state history r total l homes) (sym passes) free;
         unborn = λ k h. unborn k (subst (λ n. n ≤ k) (length-set s.views id w) h);
         seated = seated;

@@ -14,6 +14,7 @@ use Rattle.shfl_table.specs.declared.view.View.{View}
 use Rattle.shfl_laws.specs.Holds.{hold_of}
 use Rattle.shfl_table.specs.Histories.{actions_by, HasSeen}
 use Rattle.shfl_table.specs.Views.{passes_from, IsAmong, IsSpent}
+use Rattle.shfl_table.specs.ThreadRuns.{HasRun}
 
 -- what holds of one seat beside the whole history
 pub record SeatFacts (r : List ℕ) (total : List Action) (views : List View) (seat : ℕ) (v : View) : Type 0 where
@@ -46,6 +47,8 @@ pub record BoardRule {V : Type 0} (initial_state : V → List ℕ) (history : V 
   -- the whole history
   pub total : List Action
   pub lawful : Lawful t (world_of s)
+  -- the list of what was done since the opening
+  pub run : HasRun t s.words s.views
   pub free : AreHome initial_state history r total (passes_from 0 s.views) s.homes
   -- a pass that isn't yet there did nothing
   pub unborn : (k : ℕ) → length s.views ≤ k → actions_by k total ≡ []

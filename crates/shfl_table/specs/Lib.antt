@@ -13,3 +13,4 @@ pub mod Queueing
 pub mod Disabling
 pub mod Books
 pub mod PlainWords
+pub mod ThreadRuns

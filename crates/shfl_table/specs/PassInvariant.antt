@@ -36,5 +36,6 @@ pub record PassInvariant {X : Type 0} (initial_state : X → List ℕ) (history 
   pub range : index (site (plan rules own.reg.me own)) < id.words
   pub carries : Carries initial_state history id.slots own me.0 me.1
   pub back : me.0.back ≡ []
+  pub parts : me.0.parts ≡ []
   -- where it asks of a candidate, it has that one's attributes
   pub asks : own.phase ≡ Decide → own.reg.seen ≡ slice_index me.0.attrs own.reg.cand

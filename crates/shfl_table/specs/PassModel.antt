@@ -10,6 +10,7 @@ use Rattle.shfl_core.specs.Waiting.{idle}
 use Rattle.shfl_table.specs.declared.view.Decision.{Decision}
 use Rattle.shfl_table.specs.declared.kept.Action.{Action}
 use Rattle.shfl_table.specs.declared.view.Given.{Given}
+use Rattle.shfl_table.specs.declared.view.Part.{Part}
 use Rattle.shfl_table.specs.Histories.{Continues, common_history}
 use Rattle.shfl_table.specs.Places.{Every, place_index}
 
@@ -82,7 +83,12 @@ AreIn {X} history seen values = (xs : List X) × (values ≡ map Some xs) × Eve
 abbrev pub as_given : {X : Type 0} → PassModel X → Given
 as_given p = record { number = p.own.reg.me; history = p.history }
 
--- a board that is closing: the passes that it has taken back
+-- and what it did: its operations, its attempts, and what it asked the policy
+abbrev pub as_part : {X : Type 0} → PassModel X → Part
+as_part p = record { number = p.own.reg.me; steps_taken = p.steps_taken; attempts = p.attempts; decisions = p.decisions }
+
+-- a board that is closing: the passes that it has taken back, and what each of them did
 pub record ClosingModel : Type 0 where
   pub board : BoardModel
   pub back : List Given
+  pub parts : List Part

@@ -10,6 +10,7 @@ use Rattle.shfl_table.specs.declared.kept.Action.{Action}
 use Rattle.shfl_table.specs.declared.view.View.{View}
 use Rattle.shfl_table.specs.Views.{passes_from}
 use Rattle.shfl_table.specs.BoardRule.{BoardRule, world_of}
+use Rattle.shfl_table.specs.ThreadRuns.{HasRun}
 
 -- the words and the passes show one line, of which the plain words hold: with the passes as others see them, and with the
 -- passes as they stand, wherever a pass stands that is seen so
@@ -23,3 +24,7 @@ pub record ShowsHeadline {V : Type 0} (t : Terms) (s : State (Option V) View) : 
 -- so does every board, between any two operations
 abbrev pub BoardHeadline : {V : Type 0} → (V → List ℕ) → (V → List Action) → Type 0
 BoardHeadline {V} initial_state history = (t : Terms) (r : List ℕ) (s : State (Option V) View) → BoardRule initial_state history t r s → ShowsHeadline t s
+
+-- every board has a run, between any two operations
+abbrev pub BoardHasRun : {V : Type 0} → (V → List ℕ) → (V → List Action) → Type 0
+BoardHasRun {V} initial_state history = (t : Terms) (r : List ℕ) (s : State (Option V) View) → BoardRule initial_state history t r s → HasRun t s.words s.views

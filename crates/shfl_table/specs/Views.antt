@@ -10,6 +10,7 @@ use Rattle.shfl_core.specs.declared.phase.Rules.{Rules}
 use Rattle.shfl_table.specs.declared.view.Decision.{Decision}
 use Rattle.shfl_table.specs.declared.kept.Action.{Action}
 use Rattle.shfl_table.specs.declared.view.Given.{Given}
+use Rattle.shfl_table.specs.declared.view.Part.{Part}
 use Rattle.shfl_table.specs.declared.view.View.{View}
 
 abbrev pub number : View → ℕ
@@ -35,6 +36,7 @@ new_view attrs initial_state k = record {
   live = true;
   last = true;
   back = [];
+  parts = [];
 }
 
 abbrev pub first_view : List ℕ → List ℕ → View
@@ -83,8 +85,12 @@ view_after qs v q told = record v {
 abbrev pub given_view : View → Given
 given_view v = record { number = v.pass.reg.me; history = v.history }
 
+-- and what it did
+abbrev pub part_of : View → Part
+part_of v = record { number = v.pass.reg.me; steps_taken = v.steps_taken; attempts = v.attempts; decisions = v.decisions }
+
 abbrev pub with_given : View → View → View
-with_given v w = record v { back = record { number = w.pass.reg.me; history = w.history } ∷ v.back }
+with_given v w = record v { back = record { number = w.pass.reg.me; history = w.history } ∷ v.back; parts = part_of w ∷ v.parts }
 
 abbrev pub spent_view : View
 spent_view = record (new_view [] [] 0) { live = false; last = false }

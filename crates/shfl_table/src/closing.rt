@@ -6,9 +6,10 @@ ghost use lib.ListN.{get_elem?};
 ghost use Rattle.shfl_core.specs.Plan as plan;
 ghost use Rattle.shfl_core.specs.declared.phase.Phase.TheVariants.{Idle};
 ghost use Rattle.shfl_table.specs.Histories.{HasSeen, IsCurrent, actions_by};
-ghost use Rattle.shfl_table.specs.PassModel.{as_given};
+ghost use Rattle.shfl_table.specs.PassModel.{as_given, as_part};
 ghost use Rattle.shfl_table.specs.Places.{Every};
-ghost use Rattle.shfl_table.specs.Views.{IsAmong, given_view};
+ghost use Rattle.shfl_table.specs.ThreadRuns.{RanUntilClosed};
+ghost use Rattle.shfl_table.specs.Views.{IsAmong, given_view, part_of};
 ghost use Rattle.shfl_table.specs.declared.kept.Action.{Action};
 ghost use Rattle.shfl_table.specs.declared.view.Given.{Given};
 
@@ -25,7 +26,8 @@ fn seat_of<V: Kept + Drop>(pass: Pass<V>) -> Seat<Option<V>, View>
     requires { plan.is_idle pass.own.phase ≡ true }
     ensures { (result.table_id ≡ pass.board.table) × (result.me.0.live ≡ true)
         × (result.me.0.pass.phase ≡ Idle) × (result.me.0.back ≡ []) × (result.me.1 ≡ [])
-        × (given_view result.me.0 ≡ as_given pass) }
+        × (given_view result.me.0 ≡ as_given pass)
+        × (result.me.0.parts ≡ []) × (part_of result.me.0 ≡ as_part pass) }
 {
     let Pass {
         own: _,
@@ -68,13 +70,14 @@ impl<V: Kept + Drop> Model for Closing<V> {
     ghost use Rattle.std.specs.Prelude.{◌≡◌, true, [], ◌∷◌, ◌++◌};
     ghost use Rattle.shfl_core.specs.declared.phase.Phase.TheVariants.{Idle};
     ghost use Rattle.shfl_table.specs.PassModel.{ClosingModel};
-    ghost use Rattle.shfl_table.specs.Views.{given_view};
+    ghost use Rattle.shfl_table.specs.Views.{given_view, part_of};
 
     ghost Value = { ClosingModel };
 
     ghost view = { λ c. record {
       board = c.board;
       back = c.desk.me.0.back ++ given_view c.desk.me.0 ∷ [];
+      parts = c.desk.me.0.parts ++ part_of c.desk.me.0 ∷ [];
     } };
 
     ghost invariant = { λ c. (c.desk.table_id ≡ c.board.id.table) × (c.desk.me.0.live ≡ true)
@@ -86,7 +89,11 @@ impl<V: Kept + Drop> Closing<V> {
     pub fn new(board: SharedBoard<V>, first: Pass<V>) -> Closing<V>
         requires board { first.board ≡ board.id }
         requires idle { plan.is_idle first.own.phase ≡ true }
-        ensures { result ≡ record { board = board; back = as_given first ∷ [] } }
+        ensures { result ≡ record {
+          board = board;
+          back = as_given first ∷ [];
+          parts = as_part first ∷ [];
+        } }
     {
         let desk = seat_of(first);
         Closing { board, desk }
@@ -96,7 +103,10 @@ impl<V: Kept + Drop> Closing<V> {
     pub fn give(&mut self, pass: Pass<V>)
         requires board { pass.board ≡ self.old.board.id }
         requires idle { plan.is_idle pass.own.phase ≡ true }
-        ensures { self.new ≡ record self.old { back = as_given pass ∷ self.old.back } }
+        ensures { self.new ≡ record self.old {
+          back = as_given pass ∷ self.old.back;
+          parts = as_part pass ∷ self.old.parts;
+        } }
     {
         let other = seat_of(pass);
         let board = &self.board;
@@ -105,7 +115,8 @@ impl<V: Kept + Drop> Closing<V> {
     }
 
     /// The values, once all passes are given back: with the initial state of the opening and one history, which begins with what each
-    /// pass saw, has each pass's actions as that pass saw them, and no others.
+    /// pass saw, has each pass's actions as that pass saw them, and no others. All that was done to the lock since its opening is one
+    /// list of changes, in which each pass did what it tells, and nobody else did anything.
     pub fn finish(self) -> Vec<V>
         requires all { (k : ℕ) → k < self.board.count
             → (g : Given) × IsAmong g self.back × (g.number ≡ k) }
@@ -115,6 +126,8 @@ impl<V: Kept + Drop> Closing<V> {
             result.items
             × ((g : Given) → IsAmong g self.back → HasSeen total g.number g.history)
             × ((k : ℕ) → self.board.count ≤ k → actions_by k total ≡ []) }
+        ensures run { RanUntilClosed self.board.id.rules self.board.id.attrs self.board.count
+            self.parts }
     {
         let Closing { board, desk } = self;
         let SharedBoard {

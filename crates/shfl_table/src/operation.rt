@@ -2,7 +2,7 @@
 ghost use Rattle.std.specs.Prelude.{◌≡◌, ◌<◌, true, Some};
 ghost use Rattle.shfl_line.specs.declared.events.Mode.{Mode};
 ghost use Rattle.shfl_core.specs.declared.phase.Phase.TheVariants.{Idle};
-ghost use Rattle.shfl_core.specs.Plan.{plan, attempt_plan};
+ghost use Rattle.shfl_core.specs.Plan.{moving, plan, attempt_plan};
 ghost use Rattle.shfl_core.specs.Words.{index, site};
 ghost use Rattle.shfl_core.specs.Take.{take, attempted};
 ghost use Rattle.shfl_core.specs.Waiting.{MayUse};
@@ -38,6 +38,7 @@ pub fn operate<V: Kept, M: StepTerms>(
     requires place { index (site (plan rules own.reg.me own)) < shared.now.table_id.words }
     requires seat { (seat.old.me.0.live ≡ true) × (number seat.old.me.0 ≡ own.reg.me)
         × SeenAs rules.form own seat.old.me.0.pass }
+    requires moving { moving own ≡ true }
     requires ready { (x : Mode) → hold_of own ≡ Some x → is_releasing own.phase ≡ true
         → MayFree V.initial_state V.history x seat.old.table_id.slots seat.old.me }
     ensures seat { (seat.new.table_id ≡ seat.old.table_id) × (seat.new.id ≡ seat.old.id) }

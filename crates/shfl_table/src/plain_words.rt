@@ -1,5 +1,5 @@
-//! What the rule of a board says in plain words. The function does nothing when it runs: its contract is the law.
-ghost use Rattle.shfl_table.specs.PlainWords.{BoardHeadline};
+//! What the rule of a board says. The functions do nothing when they run: their contracts are the laws.
+ghost use Rattle.shfl_table.specs.PlainWords.{BoardHeadline, BoardHasRun};
 
 use crate::kept::Kept;
 
@@ -8,4 +8,11 @@ use crate::kept::Kept;
 /// within the limit. It is so with the passes as others see them, and as they stand.
 pub fn a_board_in_plain_words<V: Kept>()
     ensures headline { BoardHeadline V.initial_state V.history }
+{}
+
+/// Between any two operations the words and the passes, as they are seen, are what a list of changes makes of the opening: of
+/// acquires, releases and steps with their choices, attempts, stealing disabled, seats filled and passes given back. The steps, the
+/// attempts and the questions that each pass knows of itself are just those that the list has for it where it is admitted there.
+pub fn what_threads_did_is_a_run<V: Kept>()
+    ensures run { BoardHasRun V.initial_state V.history }
 {}

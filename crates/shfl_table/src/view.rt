@@ -11,6 +11,14 @@ pub struct Given {
     pub history: LinkedList<Action>,
 }
 
+/// What a pass did: its operations on the words, its attempts, and what it asked the policy. No value of it is made.
+pub struct Part {
+    pub number: u64,
+    pub steps_taken: u64,
+    pub attempts: u64,
+    pub decisions: LinkedList<Decision>,
+}
+
 /// A question that a step put to the policy, with the choice that it was given. No value of it is made.
 pub struct Decision {
     pub ask: Ask,
@@ -36,6 +44,8 @@ pub struct View {
     pub last: bool,
     /// The passes that it took back.
     pub back: LinkedList<Given>,
+    /// What these did.
+    pub parts: LinkedList<Part>,
 }
 
 /// What the opening fixes.
@@ -47,7 +57,8 @@ pub struct Opening<V> {
     pub values: Snapshot<Vec<V>>,
 }
 
-/// The words and the passes are a lawful world, and every value is at home or out with a holder.
+/// The words and the passes are a lawful world, which a list of changes makes of the opening; each seat knows what its pass did in that
+/// list; and every value is at home or out with a holder.
 pub struct LawfulBoard;
 
 impl<V: Kept> TableRule<Option<V>, View, Opening<V>> for LawfulBoard {

@@ -16,7 +16,7 @@ use Rattle.shfl_core.specs.Take.{take, acquired, released, entry, exit}
 use Rattle.shfl_core.specs.Events.{event as event_of}
 use Rattle.shfl_core.specs.Holding.{total}
 use Rattle.shfl_core.specs.Worlds.{World, Move, Acquire, Release, known, placed_at, stepped, after_move, run}
-use Rattle.shfl_bound.specs.Changes.{Moves, shown_events}
+use Rattle.shfl_laws.specs.Changes.{Moves, shown_events}
 use Rattle.shfl_bound.specs.Departures.{leaver, is_through}
 use Rattle.shfl_bound.specs.Stealing.{stealer}
 use Rattle.sim_model.specs.declared.bench.Bench.{Bench}

@@ -13,7 +13,7 @@ use Rattle.shfl_core.specs.Lawful.{Terms, Lawful}
 use Rattle.shfl_laws.specs.Moves.{EachMayMove, terms}
 use Rattle.shfl_laws.proofs.laws.Opens.{opening-law}
 use Rattle.shfl_laws.proofs.shown.ShownLine.{shown-line-law}
-use Rattle.shfl_bound.specs.Changes.{Change, Moves, after_changes, shown_events, EachMayChange}
+use Rattle.shfl_laws.specs.Changes.{Change, Moves, after_changes, shown_events, EachMayChange}
 use Rattle.shfl_bound.specs.Departures.{Waits, ahead, leaver, left_before}
 use Rattle.shfl_bound.proofs.Staying.{left-more}
 use Rattle.shfl_bound.proofs.Bound.{waiter-bound, history-lawful}

@@ -7,7 +7,7 @@ use Rattle.shfl_core.specs.Holding.{total}
 use Rattle.shfl_core.specs.ShownLine.{shown_line}
 use Rattle.shfl_core.specs.Worlds.{known}
 use Rattle.shfl_laws.specs.Moves.{MayOpen}
-use Rattle.shfl_bound.specs.Changes.{Moves, shown_events}
+use Rattle.shfl_laws.specs.Changes.{Moves, shown_events}
 use Rattle.shfl_bound.specs.Departures.{Waits, ahead, leaver, is_through}
 use Rattle.shfl_bound.specs.Stealing.{stealer}
 use Rattle.sim_model.specs.declared.setup.Setup.{Setup}

@@ -1,4 +1,5 @@
-use Rattle.shfl_bound.proofs.SharedRuns.{runs-go-on, runs-are-safe, moves-are-schedules}
+use Rattle.shfl_laws.proofs.runs.Runs.{runs-go-on}
+use Rattle.shfl_bound.proofs.SharedRuns.{runs-are-safe, moves-are-schedules}
 use Rattle.shfl_bound.proofs.runs.what_threads_do_is_a_run.Goals as goal
 
 pub returns : goal.returns

@@ -17,7 +17,7 @@ use Rattle.shfl_table.proofs.operation.operate.Goals as goal
 pub perform-requires-clause-permits : goal.perform-requires-clause-permits
 perform-requires-clause-permits g c = let a = c.args in let k = a.shared.now.key in
     permits g.V.Kept.initial_state g.V.Kept.history a.shared.now.table_id.slots a.seat.now.id (initial_state_of g.V.Kept.initial_state k.values.value.items) (told_terms k.rules k.count k.words.value.items) g.M.StepTerms.terms a.rules a.own g.M.StepTerms.own a.choice g.M.StepTerms.choice a.seat.now.me c.plan_row-access.result
-    c.requires.made c.requires.table.1 c.requires.seat (subst (λ n. (x : Mode) → hold_of a.own ≡ Some x → is_releasing a.own.phase ≡ true → MayFree g.V.Kept.initial_state g.V.Kept.history x n a.seat.now.me) (ap (λ (z : TableId). z.slots) c.requires.table.0) c.requires.ready) c.plan_row-access.ensures
+    c.requires.made c.requires.table.1 c.requires.seat c.requires.moving (subst (λ n. (x : Mode) → hold_of a.own ≡ Some x → is_releasing a.own.phase ≡ true → MayFree g.V.Kept.initial_state g.V.Kept.history x n a.seat.now.me) (ap (λ (z : TableId). z.slots) c.requires.table.0) c.requires.ready) c.plan_row-access.ensures
 
 pub returns-clause-played : goal.returns-clause-played
 returns-clause-played g c = let a = c.args in

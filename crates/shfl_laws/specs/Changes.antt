@@ -16,12 +16,12 @@ use Rattle.shfl_core.specs.Events.{attempt_event}
 use Rattle.shfl_laws.specs.Moves.{MayMove, move_event, with_one_more}
 use Rattle.shfl_laws.specs.Stealing.{stealing_disabled}
 
--- a move of a schedule, the one operation of an attempt, stealing disabled beside the rows, a seat that is filled, or an
--- idle pass that is replaced by an idle one with these registers
+-- a move of a schedule, the one operation of an attempt, stealing disabled beside the rows by a pass, a seat that is filled,
+-- or an idle pass that is replaced by an idle one with these registers
 pub data Change : Type 0 where
   Moves : Move → Change
   Tries : ℕ → Mode → Change
-  Disables : Change
+  Disables : ℕ → Change
   Fills : Change
   Replaces : ℕ → Registers → Change
 
@@ -37,7 +37,7 @@ has_seat w = nat_lt (wide (length w.passes)) (length w.words)
 abbrev pub after_change : Rules → World → Change → World
 after_change t w (Moves m) = after_move t w m
 after_change t w (Tries p mode) = cond (is_idle_there w p) (tried w p (known w.passes p) mode) w
-after_change t w Disables = stealing_disabled w
+after_change t w (Disables p) = stealing_disabled w
 after_change t w Fills = cond (has_seat w) (with_one_more w) w
 after_change t w (Replaces p r) = cond (is_idle_there w p) (placed_at w p (to Idle (record r { me = p }))) w
 
@@ -45,7 +45,7 @@ after_change t w (Replaces p r) = cond (is_idle_there w p) (placed_at w p (to Id
 abbrev pub change_event : Rules → World → Change → LineEvent
 change_event t w (Moves m) = move_event t w m
 change_event t w (Tries p mode) = cond (is_idle_there w p) (attempt_event mode p (look w.words (site (attempt_plan mode)))) Nothing
-change_event t w Disables = Nothing
+change_event t w (Disables p) = Nothing
 change_event t w Fills = Nothing
 change_event t w (Replaces p r) = Nothing
 
@@ -53,7 +53,7 @@ change_event t w (Replaces p r) = Nothing
 abbrev pub MayChange : Form → Change → Type 0
 MayChange form (Moves m) = MayMove form m
 MayChange form (Tries p mode) = MayUse form mode
-MayChange form Disables = Unit {0}
+MayChange form (Disables p) = Unit {0}
 MayChange form Fills = Unit {0}
 MayChange form (Replaces p r) = Unit {0}
 

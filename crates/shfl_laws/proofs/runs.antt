@@ -1,0 +1,3 @@
+-- What threads did since the opening is a run.
+pub mod OwnChanges
+pub mod Runs

@@ -1,0 +1,154 @@
+-- An operation of one pass goes on with the run of the board, and with what its seat knows of it.
+use Rattle.std.proofs.Common.{◌≡◌, ◌≢◌, ℕ, ◌+◌, ◌≤◌, Bool, true, false, cond, List, [], ◌∷◌, ◌++◌, set, sym, refl, ap, ◌∙◌, subst, ⊎_elim, arith, append-nil, append_assoc, ne_eqb, eq-eqb, length-set, length-append}
+use Rattle.std.specs.Prelude.{◌==◌, ◌&&◌}
+use mathlib.Core.Option.{some}
+use lib.ListN.{get_elem?}
+use Rattle.atomic_table.proofs.Lists.{at_set}
+use Rattle.shfl_line.specs.declared.events.Mode.{Mode}
+use Rattle.shfl_core.specs.declared.phase.Phase.TheVariants.{Idle}
+use Rattle.shfl_core.specs.declared.phase.PassState.{PassState}
+use Rattle.shfl_core.specs.declared.phase.Rules.{Rules}
+use Rattle.shfl_core.specs.Plan.{moving}
+use Rattle.shfl_core.specs.Waiting.{MayUse}
+use Rattle.shfl_core.specs.Worlds.{World, known, stepped, tried, Step}
+use Rattle.shfl_core.specs.Lawful.{Terms}
+use Rattle.shfl_core.proofs.Lists.{set-again}
+use Rattle.shfl_laws.specs.Changes.{Change, Moves, Tries, Disables, is_idle_there, after_change, after_changes, EachMayChange}
+use Rattle.shfl_laws.specs.Moves.{first_seated}
+use Rattle.shfl_laws.specs.Runs.{IsRun, step_changes, unseen_move}
+use Rattle.shfl_laws.specs.Seen.{SeenAs, Alike, Enters, Leaves}
+use Rattle.shfl_laws.specs.Stealing.{stealing_disabled}
+use Rattle.shfl_laws.proofs.runs.OwnChanges.{stands, step-changes-lead}
+use Rattle.shfl_laws.proofs.runs.Runs.{more, there-is, tries}
+use Rattle.shfl_table.specs.declared.kept.Action.{Action}
+use Rattle.shfl_table.specs.declared.view.Decision.{Decision}
+use Rattle.shfl_table.specs.declared.view.Part.{Part}
+use Rattle.shfl_table.specs.declared.view.View.{View}
+use Rattle.shfl_table.specs.Places.{Every}
+use Rattle.shfl_table.specs.Views.{Deeds, step_deeds, attempt_deeds, no_deeds, part_of, passes_from, view_after, IsSpent}
+use Rattle.shfl_table.specs.ThreadRuns.{own_deeds, did_in, attempts_in, decisions_in, part_in, IsTold, HasRun}
+use Rattle.shfl_table.proofs.Places.{there}
+use Rattle.shfl_table.proofs.SeatViews.{passes-set, live-pass, dead_stays, not_dead}
+
+-- one operation of the pass id, as changes: they lead from the world w to another, and are just this operation of this pass
+pub record GoesOn (t : Rules) (w : World) (id : ℕ) (d : Deeds) (w' : World) : Type 0 where
+  pub added : List Change
+  pub may : EachMayChange t.form added
+  pub leads : after_changes t w added ≡ w'
+  pub own : did_in t w id added ≡ d ∷ []
+  pub others : (k : ℕ) → k ≢ id → did_in t w k added ≡ []
+
+-- what is done by two lists of changes, one behind the other
+pub did-both : (t : Rules) (w : World) (k : ℕ) (xs ys : List Change) → did_in t w k (xs ++ ys) ≡ did_in t w k xs ++ did_in t (after_changes t w xs) k ys
+did-both t w k [] ys = refl
+did-both t w k (c ∷ xs) ys = ap (λ (l : List Deeds). own_deeds t w k c ++ l) (did-both t (after_change t w c) k xs ys)
+    ∙ sym (append_assoc (own_deeds t w k c) (did_in t (after_change t w c) k xs) (did_in t (after_changes t (after_change t w c) xs) k ys))
+
+-- one change, of the pass p, which is admitted
+mine : (p : ℕ) (b : Bool) (ds : List Deeds) → b ≡ true → cond (p == p && b) ds [] ++ [] ≡ ds
+mine p b ds e = (λ j. cond (eq-eqb p p refl j && e j) ds [] ++ []) ∙ append-nil ds
+
+theirs : (p k : ℕ) (b : Bool) (ds : List Deeds) → k ≢ p → cond (p == k && b) ds [] ++ [] ≡ []
+theirs p k b ds ne = (λ j. cond (ne_eqb p k (λ e. ne (sym e)) j && b) ds [] ++ [])
+
+-- what a move that the others haven't seen yet adds is no operation
+unseen-does : (t : Rules) (w : World) (p k : ℕ) (own seen : PassState) (as_seen : SeenAs t.form own seen) → did_in t w k (unseen_move p as_seen) ≡ []
+unseen-does t w p k own seen (Alike e) = refl
+unseen-does t w p k own seen (Enters m may f e) = refl
+unseen-does t w p k own seen (Leaves r e) = refl
+
+-- the step of a pass
+pub step-goes-on : (t : Rules) (w : World) (p : ℕ) (own seen : PassState) (choice : Bool) → get_elem? w.passes p ≡ some seen → SeenAs t.form own seen → moving own ≡ true → GoesOn t w p (step_deeds t own choice) (stepped t w p own choice)
+step-goes-on t w p own seen choice at as_seen goes = let s = step-changes-lead t w p own seen at choice goes as_seen in let v : World = after_changes t w (unseen_move p as_seen) in
+    let k : known v.passes p ≡ own = stands t w p own seen at as_seen in
+    let split = λ (z : ℕ). did-both t w z (unseen_move p as_seen) (Moves (Step p choice) ∷ []) ∙ ap (λ (l : List Deeds). l ++ did_in t v z (Moves (Step p choice) ∷ [])) (unseen-does t w p z own seen as_seen) in record {
+      added = step_changes p choice as_seen;
+      may = s.0;
+      leads = s.1;
+      own = split p ∙ (mine p (moving (known v.passes p)) (step_deeds t (known v.passes p) choice ∷ []) (ap moving k ∙ goes) ∙ ap (λ (q : PassState). step_deeds t q choice ∷ []) k);
+      others = λ z ne. split z ∙ theirs p z (moving (known v.passes p)) (step_deeds t (known v.passes p) choice ∷ []) ne;
+    }
+
+-- the one operation of an attempt
+pub attempt-goes-on : (t : Rules) (w : World) (p : ℕ) (q : PassState) (mode : Mode) → get_elem? w.passes p ≡ some q → q.phase ≡ Idle → MayUse t.form mode → GoesOn t w p attempt_deeds (tried w p q mode)
+attempt-goes-on t w p q mode at rests may = record {
+  added = Tries p mode ∷ [];
+  may = (may, tt);
+  leads = tries t w p q mode at rests;
+  own = mine p (is_idle_there w p) (attempt_deeds ∷ []) (there-is w p q at rests).0;
+  others = λ z ne. theirs p z (is_idle_there w p) (attempt_deeds ∷ []) ne;
+}
+
+-- stealing disabled beside the rows, by a pass that stands as it stood
+pub disabling-goes-on : (t : Rules) (w : World) (p : ℕ) (q : PassState) → get_elem? w.passes p ≡ some q → GoesOn t w p no_deeds (record { words = (stealing_disabled w).words; passes = set w.passes p q })
+disabling-goes-on t w p q at = record {
+  added = Disables p ∷ [];
+  may = (tt, tt);
+  leads = λ j. record { words = (stealing_disabled w).words; passes = sym (set-again w.passes p q at) j };
+  own = (λ j. cond (eq-eqb p p refl j) (no_deeds ∷ []) [] ++ []);
+  others = λ z ne. (λ j. cond (ne_eqb p z (λ e. ne (sym e)) j) (no_deeds ∷ []) [] ++ []);
+}
+
+-- a part that goes on by one operation
+attempts-more : (ds : List Deeds) (d : Deeds) → attempts_in (ds ++ d ∷ []) ≡ attempts_in ds + cond d.attempts 1 0
+attempts-more [] d = omega arith
+attempts-more (x ∷ xs) d = let h = attempts-more xs d in omega arith
+
+decisions-more : (ds : List Deeds) (d : Deeds) → decisions_in (ds ++ d ∷ []) ≡ decisions_in ds ++ d.decisions
+decisions-more [] d = append-nil d.decisions
+decisions-more (x ∷ xs) d = ap (λ (l : List Decision). x.decisions ++ l) (decisions-more xs d) ∙ sym (append_assoc x.decisions (decisions_in xs) d.decisions)
+
+counted : (b : Bool) (n : ℕ) → cond b (n + 1) n ≡ n + cond b 1 0
+counted true n = refl
+counted false n = omega arith
+
+-- the part of a view after an operation
+part-after : (d : Deeds) (v : View) (q : PassState) (seen : List Action) (seat : ℕ) (ds : List Deeds) → part_of v ≡ part_in seat ds → q.reg.me ≡ seat → part_of (view_after d v q seen) ≡ part_in seat (ds ++ d ∷ [])
+part-after d v q seen seat ds told num = λ j. record {
+  number = num j;
+  steps_taken = (ap (λ (x : Part). x.steps_taken + 1) told ∙ sym (length-append ds (d ∷ []))) j;
+  attempts = (counted d.attempts v.attempts ∙ (ap (λ (x : Part). x.attempts + cond d.attempts 1 0) told ∙ sym (attempts-more ds d))) j;
+  decisions = (ap (λ (x : Part). x.decisions ++ d.decisions) told ∙ sym (decisions-more ds d)) j;
+}
+
+-- what holds of each part, of another world
+pub every-part : {A B : Part → Type 0} → ((x : Part) → A x → B x) → (xs : List Part) → Every A xs → Every B xs
+every-part f [] h = tt
+every-part f (x ∷ xs) h = (f x h.0, every-part f xs h.1)
+
+module _ (t : Terms) (words : List ℕ) (views : List View) (old : HasRun t words views) (id : ℕ) (v : View) (at : get_elem? views id ≡ some v) (live : v.live ≡ true) where
+  abbrev W : World
+  W = record { words = words; passes = passes_from 0 views }
+
+  -- the list goes on, and what each pass did in it
+  longer : (added : List Change) (k : ℕ) → did_in t.rules (first_seated old.attrs) k (old.changes ++ added) ≡ did_in t.rules (first_seated old.attrs) k old.changes ++ did_in t.rules (record { words = words; passes = passes_from 0 views }) k added
+  longer added k = did-both t.rules (first_seated old.attrs) k old.changes added
+      ∙ ap (λ (w : World). did_in t.rules (first_seated old.attrs) k old.changes ++ did_in t.rules w k added) old.run.made
+
+  -- an operation of a pass goes on with the run
+  pub run-after : (d : Deeds) (q : PassState) (words' : List ℕ) (seen : List Action) → q.reg.me ≡ id → GoesOn t.rules (record { words = words; passes = passes_from 0 views }) id d (record { words = words'; passes = set (passes_from 0 views) id q })
+      → HasRun t words' (set views id (view_after d v q seen))
+  run-after d q words' seen num g = let w : View = view_after d v q seen in let vs : List View = set views id w in
+      let passes : passes_from 0 vs ≡ set (passes_from 0 views) id q = passes-set 0 views id w ∙ ap (set (passes_from 0 views) id) (live-pass (0 + id) w live) in
+      let did : ℕ → List Deeds = λ k. did_in t.rules (first_seated old.attrs) k old.changes in
+      let did' : ℕ → List Deeds = λ k. did_in t.rules (first_seated old.attrs) k (old.changes ++ g.added) in
+      let mine : did' id ≡ did id ++ d ∷ [] = longer g.added id ∙ ap (λ (l : List Deeds). did id ++ l) g.own in
+      let theirs : (k : ℕ) → k ≢ id → did' k ≡ did k = λ k ne. longer g.added k ∙ (ap (λ (l : List Deeds). did k ++ l) (g.others k ne) ∙ append-nil (did k)) in
+      let parts : (xs : List Part) → Every (λ (x : Part). IsSpent views x.number × IsTold did x) xs → Every (λ (x : Part). IsSpent vs x.number × IsTold did' x) xs = every-part (λ x h.
+      let ne = not_dead views id v at live x.number h.0 in (dead_stays views id v w at live x.number h.0, h.1 ∙ ap (part_in x.number) (sym (theirs x.number ne)))) in record {
+        attrs = old.attrs;
+        opened = old.opened;
+        changes = old.changes ++ g.added;
+        run = subst (λ (l : List PassState). IsRun t.rules old.attrs (old.changes ++ g.added) (record { words = words'; passes = l })) (sym passes) (more t.rules old.attrs old.changes g.added (record { words = words; passes = passes_from 0 views }) (record { words = words'; passes = set (passes_from 0 views) id q }) old.run g.may g.leads);
+        parts = record {
+          own = λ seat u e l. ⊎_elim
+              (λ p. subst (λ (z : ℕ × View). part_of z.1 ≡ part_in z.0 (did' z.0)) (λ i. (sym p.0 i, p.1 i)) (part-after d v q seen id (did id) (old.parts.own id v at live) num ∙ ap (part_in id) (sym mine)))
+              (λ p. old.parts.own seat u p.1 l ∙ ap (part_in seat) (sym (theirs seat p.0)))
+              (at_set views id seat w u e);
+          back = λ seat u e. ⊎_elim
+              (λ p. parts u.parts (subst (λ (z : View). Every (λ (x : Part). IsSpent views x.number × IsTold did x) z.parts) p.1 (old.parts.back id v at)))
+              (λ p. parts u.parts (old.parts.back seat u p.1))
+              (at_set views id seat w u e);
+          unborn = λ k h. theirs k (λ is. absurd (let x = there views id v at in let y = length-set views id w in omega arith)) ∙ old.parts.unborn k (subst (λ n. n ≤ k) (length-set views id w) h);
+        };
+      }

@@ -1,0 +1,83 @@
+-- What threads did on a board since its opening: a list of changes that makes its words and its passes, and in that list what
+-- each pass did.
+use Rattle.std.specs.Prelude.{◌≡◌, ℕ, ◌+◌, ◌≤◌, ◌==◌, ◌&&◌, true, cond, List, [], ◌∷◌, ◌++◌, map, length}
+use mathlib.Core.Option.{some}
+use lib.ListN.{get_elem?}
+use Rattle.shfl_line.specs.declared.words.Attr.{Attr}
+use Rattle.shfl_line.specs.Words.{attr_word}
+use Rattle.shfl_core.specs.declared.phase.Rules.{Rules}
+use Rattle.shfl_core.specs.Plan.{moving, is_idle}
+use Rattle.shfl_core.specs.Worlds.{World, known, Acquire, Release, Step}
+use Rattle.shfl_core.specs.Lawful.{Terms}
+use Rattle.shfl_laws.specs.Changes.{Change, Moves, Tries, Disables, Fills, Replaces, is_idle_there, after_change}
+use Rattle.shfl_laws.specs.Moves.{first_seated}
+use Rattle.shfl_laws.specs.Runs.{IsRun}
+use Rattle.shfl_table.specs.declared.view.Decision.{Decision}
+use Rattle.shfl_table.specs.declared.view.Part.{Part}
+use Rattle.shfl_table.specs.declared.view.View.{View}
+use Rattle.shfl_table.specs.Places.{Every}
+use Rattle.shfl_table.specs.Views.{Deeds, step_deeds, attempt_deeds, no_deeds, part_of, passes_from, IsSpent}
+
+-- the operation of the pass k that this change is, or none: a change counts only where it is admitted
+abbrev pub own_deeds : Rules → World → ℕ → Change → List Deeds
+own_deeds t w k (Moves (Acquire p mode)) = []
+own_deeds t w k (Moves (Release p)) = []
+own_deeds t w k (Moves (Step p choice)) = cond (p == k && moving (known w.passes p)) (step_deeds t (known w.passes p) choice ∷ []) []
+own_deeds t w k (Tries p mode) = cond (p == k && is_idle_there w p) (attempt_deeds ∷ []) []
+own_deeds t w k (Disables p) = cond (p == k) (no_deeds ∷ []) []
+own_deeds t w k Fills = []
+own_deeds t w k (Replaces p r) = []
+
+-- the operations of the pass k among these changes, from this world on, in their order
+abbrev pub did_in : Rules → World → ℕ → List Change → List Deeds
+did_in t w k [] = []
+did_in t w k (c ∷ rest) = own_deeds t w k c ++ did_in t (after_change t w c) k rest
+
+-- how many of them are attempts
+abbrev pub attempts_in : List Deeds → ℕ
+attempts_in [] = 0
+attempts_in (d ∷ rest) = cond d.attempts 1 0 + attempts_in rest
+
+-- what they asked the policy, with the choices
+abbrev pub decisions_in : List Deeds → List Decision
+decisions_in [] = []
+decisions_in (d ∷ rest) = d.decisions ++ decisions_in rest
+
+-- the part of the pass k, which made these operations
+abbrev pub part_in : ℕ → List Deeds → Part
+part_in k ds = record { number = k; steps_taken = length ds; attempts = attempts_in ds; decisions = decisions_in ds }
+
+-- the part tells what its pass did
+abbrev pub IsTold : (ℕ → List Deeds) → Part → Type 0
+IsTold did x = x ≡ part_in x.number (did x.number)
+
+-- what the seats know of what the passes did is what these did
+pub record TellsParts (did : ℕ → List Deeds) (views : List View) : Type 0 where
+  -- a seat knows the part of its own pass
+  pub own : (seat : ℕ) (v : View) → get_elem? views seat ≡ some v → v.live ≡ true → part_of v ≡ part_in seat (did seat)
+  -- and that of each pass that it took back, which is spent
+  pub back : (seat : ℕ) (v : View) → get_elem? views seat ≡ some v → Every (λ (x : Part). IsSpent views x.number × IsTold did x) v.parts
+  -- a pass that isn't yet there did nothing
+  pub unborn : (k : ℕ) → length views ≤ k → did k ≡ []
+
+-- the words and the passes, as they are seen, are what a list of changes makes of the opening, and in it each pass made just the
+-- operations that its seat knows
+pub record HasRun (t : Terms) (words : List ℕ) (views : List View) : Type 0 where
+  -- the attributes of the opening
+  pub attrs : List Attr
+  pub opened : t.attrs ≡ map attr_word attrs
+  pub changes : List Change
+  pub run : IsRun t.rules attrs changes (record { words = words; passes = passes_from 0 views })
+  pub parts : TellsParts (λ k. did_in t.rules (first_seated attrs) k changes) views
+
+-- a list of changes leads from the opening with these attribute words to a world in which all passes are idle; in it each pass did
+-- what it told as it was given back, and nobody else did anything
+pub record RanUntilClosed (rules : Rules) (attr_words : List ℕ) (count : ℕ) (parts : List Part) : Type 0 where
+  pub attrs : List Attr
+  pub opened : attr_words ≡ map attr_word attrs
+  pub changes : List Change
+  pub world : World
+  pub run : IsRun rules attrs changes world
+  pub idle : (p : ℕ) → is_idle (known world.passes p).phase ≡ true
+  pub told : Every (IsTold (λ k. did_in rules (first_seated attrs) k changes)) parts
+  pub nobody_else : (p : ℕ) → count ≤ p → did_in rules (first_seated attrs) p changes ≡ []
