@@ -1,6 +1,7 @@
 /* libshfl's locks beside pthread's, in one process. Words:
  *   free                                the best and the median of 300 short runs of a lock and unlock with nobody else there, in nanoseconds, each
  *                                       lock in turn; the process has another thread, which sleeps
+ *   pairs LOCK COUNT                    so many of them, for who counts instructions
  *   crowd LOCK THREADS HOLD THINK MS    threads that take one lock again and again: holds a second, Jain's index of the threads' holds, the longest
  *                                       wait in milliseconds, and the processors used. HOLD and THINK are nanoseconds, by turns of a loop that is
  *                                       timed first
@@ -64,16 +65,36 @@ static void *sleeps(void *until) {
     return NULL;
 }
 
-static int alone(void) {
+/* Runs while another thread sleeps. */
+static int beside_a_sleeper(void (*run)(uint64_t), uint64_t count) {
     static pthread_mutex_t until = PTHREAD_MUTEX_INITIALIZER;
-    static double took[KINDS][RUNS];
     pthread_t other;
     pthread_mutex_lock(&until);
     if (pthread_create(&other, NULL, sleeps, &until)) return 2;
-    for (int run = 0; run < RUNS; run++)
-        for (enum kind kind = 0; kind < KINDS; kind++) took[kind][run] = per_pair(kind);
+    run(count);
     pthread_mutex_unlock(&until);
     pthread_join(other, NULL);
+    return 0;
+}
+
+static enum kind crowded;
+static double took[KINDS][RUNS];
+
+/* (a loop of each, so that little is counted besides) */
+static void pairs(uint64_t count) {
+    for (; crowded == SHFL && count > 0; count--) take(SHFL), give(SHFL);
+    for (; crowded == SHFL_READ && count > 0; count--) take(SHFL_READ), give(SHFL_READ);
+    for (; crowded == MUTEX && count > 0; count--) take(MUTEX), give(MUTEX);
+    for (; crowded == RWLOCK_READ && count > 0; count--) take(RWLOCK_READ), give(RWLOCK_READ);
+}
+
+static void time_runs(uint64_t count) {
+    for (uint64_t run = 0; run < count; run++)
+        for (enum kind kind = 0; kind < KINDS; kind++) took[kind][run] = per_pair(kind);
+}
+
+static int alone(void) {
+    if (beside_a_sleeper(time_runs, RUNS)) return 2;
     for (enum kind kind = 0; kind < KINDS; kind++) {
         qsort(took[kind], RUNS, sizeof took[kind][0], by_size);
         printf("%s %.1f %.1f\n", names[kind], took[kind][0], took[kind][RUNS / 2]);
@@ -83,7 +104,6 @@ static int alone(void) {
 
 struct worker { pthread_t thread; uint64_t holds, longest; double processor; char apart[LINE]; };
 static struct worker workers[MOST_THREADS];
-static enum kind crowded;
 static uint64_t hold, think;
 static _Alignas(LINE) int going;
 static _Alignas(LINE) volatile uint64_t begun, ended;
@@ -147,10 +167,13 @@ static int crowd(int count, uint64_t ms) {
 
 int main(int n, char **word) {
     if (n == 2 && strcmp(word[1], "free") == 0) return alone();
-    if (n != 7 || strcmp(word[1], "crowd") != 0) return 2;
+    bool counts = n == 4 && strcmp(word[1], "pairs") == 0;
+    if (!counts && (n != 7 || strcmp(word[1], "crowd") != 0)) return 2;
     for (crowded = 0; crowded < KINDS && strcmp(names[crowded], word[2]) != 0; crowded++) {}
+    if (crowded == KINDS) return 2;
+    if (counts) return beside_a_sleeper(pairs, strtoull(word[3], NULL, 10));
     int count = atoi(word[3]);
-    if (crowded == KINDS || count < 1 || count > MOST_THREADS) return 2;
+    if (count < 1 || count > MOST_THREADS) return 2;
     hold = turns_in(strtoull(word[4], NULL, 10));
     think = turns_in(strtoull(word[5], NULL, 10));
     return crowd(count, strtoull(word[6], NULL, 10));

@@ -1,8 +1,9 @@
 #!/usr/bin/env bash
 # libshfl's locks beside pthread's, in turn (bench/libshfl.c): a free lock's lock and unlock, the best and the median of short runs; and holds a
 # second by 4 and 16 threads, holds of 0, 0.1, 1 and 10 microseconds and as long between two, with the longest wait, Jain's index and the
-# processors used. The median and the worst of the rounds. Words: libshfl.sh [ROUNDS [PART ..]]; a part is free, 4 (threads), 16, and all where
-# none is given; 5 rounds where none are said. With LIBSHFL_PREFIX set what libshfl/install put there is timed; else it is built first.
+# processors used. The median and the worst of the rounds. Words: libshfl.sh [ROUNDS [PART ..]]; a part is free, 4 (threads), 16, and these three
+# where none is given; or instructions, how many valgrind counts in a free lock's lock and unlock, with the loop around them. 5 rounds where none are
+# said. With LIBSHFL_PREFIX set what libshfl/install put there is timed; else it is built first.
 set -u
 top="$(cd "$(dirname "$(readlink -f "${BASH_SOURCE[0]}")")/.." && pwd)"
 rounds="${1:-5}"
@@ -48,10 +49,21 @@ crowd() {
     done
 }
 
+# 10,000 pairs more are so many instructions more
+all_of() { valgrind --tool=callgrind --callgrind-out-file=/dev/null "$room/bench" pairs "$1" "$2" 2>&1 | awk '/Collected/ { print $NF }'; }
+instructions() {
+    local lock
+    command -v valgrind >/dev/null || { echo "libshfl.sh: no valgrind is there" >&2; return; }
+    for lock in shfl mutex shfl-read rwlock-read; do
+        printf '%-14s %10s instructions\n' "$lock" "$((($(all_of "$lock" 11000) - $(all_of "$lock" 1000) + 5000) / 10000))"
+    done
+}
+
 for part in "${parts[@]}"; do
     case "$part" in
     free) alone ;;
     4 | 16) crowd "$part" ;;
+    instructions) instructions ;;
     *) echo "libshfl.sh: no part is called $part" >&2; exit 2 ;;
     esac
 done

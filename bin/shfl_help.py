@@ -15,7 +15,7 @@ isn't skip; the profile is 1."""
 
 # the usage, what it does in a line, and what is to know
 WORDS = {
-    "run": ("run [--form F] [--limit N] [--class SELECTOR=CLASS]..\n             [--policy CLASS=FILE].. PROGRAM ARGS..", "starts a program that can be asked",
+    "run": ("run [--form F] [--limit N] [--class CLASS=SELECTOR]..\n             [--policy CLASS=FILE].. PROGRAM ARGS..", "starts a program that can be asked",
             """The program runs under libshfl_preload.so where that is found: what SHFL_PRELOAD
 names, or in ../lib, /usr/local/lib or /usr/lib. Classes and policies come to be
 as soon as the locks are there, in 10 seconds at most. The status is the

@@ -27,16 +27,16 @@ def set_up(child, wishes):
             time.sleep(0.02)
             continue
         left = []
-        for option, name, value in wishes:
+        for option, to, value in wishes:
             # (a lock has an address from its first use on)
             if option == "--policy":
-                attach(child.pid, name, value, "should", "1")
-            elif put(child.pid, name, value) == 0:
-                left.append((option, name, value))
+                attach(child.pid, to, value, "should", "1")
+            elif put(child.pid, value, to) == 0:
+                left.append((option, to, value))
         wishes = left
         time.sleep(0.05)
-    for _, name, _ in wishes:
-        print(f"shfl: {name}: not done in 10 seconds", file=sys.stderr)
+    for option, to, value in wishes:
+        print(f"shfl: {option} {to}={value}: not done in 10 seconds", file=sys.stderr)
 
 
 def form_of(word):
@@ -53,11 +53,15 @@ def limit_of(word):
 
 def wish_of(option, text):
     """A class or a policy that is to come to be, as set_up does it."""
-    name, found, value = text.rpartition("=") if option == "--class" else text.partition("=")
-    if not found:
-        raise Failed(2, f"{option} {'SELECTOR=CLASS' if option == '--class' else 'CLASS=FILE'}")
-    class_of(value if option == "--class" else name)
-    return option, name, value
+    form = "CLASS=SELECTOR" if option == "--class" else "CLASS=FILE"
+    to, _, value = text.partition("=")
+    if not value:
+        raise Failed(2, f"{option} {form}")
+    try:
+        class_of(to)
+    except Failed as failed:
+        raise Failed(2, f"{option} {form}: {failed}") from None
+    return option, to, value
 
 
 def options_of(words):

@@ -25,7 +25,7 @@ bool shfl_answer(struct shfl_thread *me, uint32_t lock, struct shfl_class *its) 
     else if (ask.kind == SHFL_ASK_SKIP) __atomic_store_n(&me->in_round, 0, __ATOMIC_RELEASE);
     if (me->in_round == 0) return false;
     bool yes = shfl_seat_answer(&me->seat), skips = ask.kind == SHFL_ASK_SKIP;
-    if (!SHFL_LIKELY(shfl_load(&shfl_process.recorded) != lock + 1))
+    if (shfl_load(&me->unusual) & SHFL_IS_WATCHED)
         shfl_record(me, lock, yes ? (skips ? SHFL_YES_SKIP : SHFL_YES_SHOULD) : skips ? SHFL_ASKS_SKIP : SHFL_ASKS_SHOULD, ask.waiter);
     struct shfl_stat *counts = shfl_counts_of(me, lock);
     shfl_more(&counts->questions, 1);

@@ -75,18 +75,22 @@ struct shfl_total {
 /* A read lock that a thread took again. */
 struct shfl_again { uint32_t lock, times; };
 
+/* In the child of a fork, of the thread that forked and had locks; and of all threads, while a lock is recorded. */
+enum { SHFL_IS_STALE = 1, SHFL_IS_WATCHED = 2 };
+
 /* A thread, or a place for one. The first line is written by those who wake it, too; what each lock and unlock reads stands first in the next. */
 struct shfl_thread {
     uint32_t asleep; /* 1 while it sleeps in the queue, or is about to */
     uint32_t unused[31];
     struct shfl_seat seat;
-    struct shfl_counted *counts;
+    struct shfl_counted *known; /* where it looks first when it took a lock: its counts, or none while a lock is recorded */
     uint32_t mark; /* its number plus one, and in the low half its socket */
     uint32_t holding; /* how many locks it has */
-    uint32_t again_count, again_room;
+    uint32_t again_count;
+    uint32_t unusual; /* bits: why it looks twice when it gives a lock back */
+    struct shfl_counted *counts;
     struct shfl_again *again;
-    uint32_t stale; /* 1 in the child of a fork, where this thread forked and had locks */
-    uint32_t number;
+    uint32_t again_room, number;
     uint32_t follows, version; /* the class whose policy its seat follows, plus one; and which version of it */
     uint32_t in_round; /* the class whose policy answers its round, plus one */
     uint32_t held_room;
@@ -118,7 +122,6 @@ struct shfl_process {
     struct shfl_parking *parkings;
     struct shfl_counted *counts;
     struct shfl_total *totals;
-    uint32_t recorded; /* the lock that is recorded, plus one, or 0 */
     uint32_t threads_seen; /* no thread with this number or a higher one was ever there */
     struct shfl_class classes[SHFL_CLASSES];
     struct shfl_waits *waits, *lock_waits; /* beside counts, and beside totals */
@@ -212,13 +215,14 @@ void shfl_begins_to_wait(struct shfl_thread *me, uint32_t lock, bool shared, con
 #define SHFL_CALLER(me) __builtin_return_address(0)
 #endif
 
-/* record.c: what happens at the lock that is recorded, if one is. */
+/* record.c: what happens at the lock that is recorded, if one is. A call that finds a lock free asks nothing for that: while a lock is recorded no
+ * thread finds its counts at once, and each looks twice, so all come to where they are asked. */
 enum shfl_event { SHFL_WAITS_ALONE = 'w', SHFL_WAITS_SHARED = 'r', SHFL_GIVES_UP = 'u', SHFL_QUEUES = 'q', SHFL_TAKES_ALONE = 'W',
                   SHFL_TAKES_SHARED = 'R', SHFL_FREES = 'f', SHFL_ASKS_SKIP = 'k', SHFL_ASKS_SHOULD = 's', SHFL_YES_SKIP = 'K', SHFL_YES_SHOULD = 'S' };
 void shfl_record(struct shfl_thread *me, uint32_t lock, enum shfl_event event, uint64_t about);
 void shfl_record_end(uint32_t lock); /* it isn't any more */
 static inline void shfl_happens(struct shfl_thread *me, uint32_t lock, enum shfl_event event) {
-    if (!SHFL_LIKELY(__atomic_load_n(&shfl_process.recorded, __ATOMIC_RELAXED) != lock + 1)) shfl_record(me, lock, event, 0);
+    if (__atomic_load_n(&me->unusual, __ATOMIC_RELAXED) & SHFL_IS_WATCHED) shfl_record(me, lock, event, 0);
 }
 
 static inline void shfl_more(uint64_t *count, uint64_t more) {

@@ -51,6 +51,7 @@ void shfl_count_taken_anew(struct shfl_thread *me, uint32_t lock, bool shared) {
     struct shfl_stat *counts = shfl_counts_of(me, lock);
     shfl_more(&counts->taken, 1);
     if (!shared && __atomic_load_n(&parking->last, __ATOMIC_RELAXED) != me->mark) shfl_count_hand_over(parking, counts, me->mark);
+    shfl_happens(me, lock, shared ? SHFL_TAKES_SHARED : SHFL_TAKES_ALONE);
 }
 
 SHFL_COLD int shfl_take_first(uint32_t *word, bool shared) {
@@ -135,11 +136,11 @@ static SHFL_COLD bool leave_number(struct shfl_thread *me, uint32_t *word, uint3
 
 SHFL_COLD int shfl_not_given_back(uint32_t *word) { return shfl_refuse(EPERM, word, "a thread gives a lock back that it doesn't have"); }
 
-/* A lock that was taken again, or one that is stale or recorded; or another one of a thread that has such a lock. */
+/* A lock that was taken again, or one that is stale or recorded; or another one of a thread that has such a lock, or while one is recorded. */
 int shfl_give_back_other(struct shfl_thread *me, uint32_t *word, uint32_t number) {
     uint32_t lock = number - 1;
     if (me->again_count > 0 && give_again(me, lock)) return 0;
-    if (me->stale && lock < shfl_process.lock_count && leave_number(me, word, lock)) return 0;
+    if ((shfl_load(&me->unusual) & SHFL_IS_STALE) && lock < shfl_process.lock_count && leave_number(me, word, lock)) return 0;
     shfl_happens(me, lock, SHFL_FREES);
     if (shfl_seat_release(&me->seat, lock) != SHFL_DONE) return shfl_not_given_back(word);
     shfl_given(me, word);

@@ -14,14 +14,20 @@ int shfl_try(uint32_t *word, bool shared);
 int shfl_take_until(uint32_t *word, bool shared, clockid_t clock, const struct timespec *deadline);
 int shfl_end(uint32_t *word);
 
-/* Whoever took the lock alone last counts there already, unless another lock has come to that place since. */
+/* Where this thread looks for its counts of a lock; read once, since another one may change it meanwhile (record.c). */
+SHFL_IN_LINE struct shfl_counted *shfl_known_at(struct shfl_thread *me, uint32_t lock) {
+    struct shfl_counted *at = &me->known[shfl_counted_at(lock)];
+    __asm__("" : "+r"(at));
+    return at;
+}
+
+/* Whoever took the lock alone last counts there already, unless another lock has come to that place since, or one is recorded. */
 SHFL_IN_LINE void shfl_count_taken(struct shfl_thread *me, uint32_t lock, bool shared) {
-    struct shfl_counted *at = &me->counts[shfl_counted_at(lock)];
+    struct shfl_counted *at = shfl_known_at(me, lock);
     bool counts = shared ? at->tag == shfl_tag(lock)
                          : (uint32_t)at->tag == lock + 1 && __atomic_load_n(&shfl_parking_of(lock)->last, __ATOMIC_RELAXED) == me->mark;
     if (SHFL_LIKELY(counts)) shfl_more(&at->counts.taken, 1);
     else shfl_count_taken_anew(me, lock, shared);
-    shfl_happens(me, lock, shared ? SHFL_TAKES_SHARED : SHFL_TAKES_ALONE);
 }
 
 SHFL_IN_LINE int shfl_take(uint32_t *word, bool shared) {
@@ -40,8 +46,7 @@ SHFL_IN_LINE int shfl_give_back(uint32_t *word) {
     struct shfl_thread *me = shfl_me;
     uint32_t number = __atomic_load_n(word, __ATOMIC_ACQUIRE);
     if (!SHFL_LIKELY(me && number)) return shfl_not_given_back(word);
-    bool usual = (me->again_count | me->stale) == 0 && __atomic_load_n(&shfl_process.recorded, __ATOMIC_RELAXED) != number;
-    if (!SHFL_LIKELY(usual)) return shfl_give_back_other(me, word, number);
+    if (!SHFL_LIKELY((me->again_count | __atomic_load_n(&me->unusual, __ATOMIC_RELAXED)) == 0)) return shfl_give_back_other(me, word, number);
     if (!SHFL_LIKELY(shfl_seat_release(&me->seat, number - 1) == SHFL_DONE)) return shfl_not_given_back(word);
     shfl_given(me, word);
     struct shfl_parking *parking = shfl_parking_of(number - 1);

@@ -79,7 +79,7 @@ static void in_child(void) {
         struct shfl_parking *parking = shfl_parking_of(shfl_number_at(k));
         parking->head_asleep = parking->outside = parking->inside = parking->queued = parking->promoted = 0;
         parking->stale = me && shfl_seat_hold(&me->seat, shfl_number_at(k)) != 0;
-        if (parking->stale) me->stale = 1;
+        if (parking->stale) me->unusual |= SHFL_IS_STALE;
     }
     for (uint32_t k = 0; k < shfl_process.threads_seen; k++)
         if (&shfl_process.threads[k] != me) shfl_process.threads[k].in_round = 0;
@@ -95,7 +95,7 @@ static void deal(struct shfl_seat *seats) {
         struct shfl_thread *thread = &all->threads[all->thread_count - 1 - k];
         thread->number = all->thread_count - 1 - k;
         thread->seat = seats[thread->number];
-        thread->counts = &all->counts[(size_t)thread->number * SHFL_COUNTED];
+        thread->counts = thread->known = &all->counts[(size_t)thread->number * SHFL_COUNTED];
         thread->next_free = free_threads;
         free_threads = thread;
     }

@@ -2,6 +2,9 @@
  * comes to a place where another one is still writing drops its event, and a reader that is too slow misses some; both are counted. What a
  * holder does is written while it holds, so the order of holders is the ring's.
  *
+ * Nobody asks whether a lock is recorded where a lock is free: for a record two words of each thread are changed that it looks at anyway, and lead
+ * it here. The words are all changed before the record begins, and back after its end.
+ *
  * The ring is mapped by the first record. Its memory goes back to the system at the end of each, and the addresses stay, so a thread that
  * is late writes into nothing else; its event has the old record's number and isn't read. */
 #include <string.h>
@@ -24,6 +27,20 @@ static uint64_t recording; /* the record's number, and in the low half the lock'
 static uint64_t since, until; /* by the clock: written before `recording` is */
 static uint32_t last_id, open_id; /* the record that may be read, or 0 */
 static uint64_t first, leased; /* its first event; until when its reader has to ask */
+static struct shfl_counted none[SHFL_COUNTED]; /* counts of no lock, which nobody writes */
+
+/* The child of a fork finds each thread so, or none, since nobody forks meanwhile. */
+static void watch_all(uint32_t id) {
+    shfl_control_stop();
+    open_id = id;
+    for (uint32_t k = 0; k < shfl_process.thread_count; k++) {
+        struct shfl_thread *thread = &shfl_process.threads[k];
+        if (id) __atomic_fetch_or(&thread->unusual, SHFL_IS_WATCHED, __ATOMIC_SEQ_CST);
+        else __atomic_fetch_and(&thread->unusual, ~(uint32_t)SHFL_IS_WATCHED, __ATOMIC_SEQ_CST);
+        __atomic_store_n(&thread->known, id ? none : thread->counts, __ATOMIC_SEQ_CST);
+    }
+    shfl_control_go_on();
+}
 
 /* Takes the k-th place, unless somebody writes there or has written later. */
 static bool begin_at(struct event *at, uint64_t k) {
@@ -55,18 +72,15 @@ SHFL_COLD void shfl_record(struct shfl_thread *me, uint32_t lock, enum shfl_even
     if (begin_at(at, k)) write_at(at, k, &it);
 }
 
-static void stop(void) {
-    __atomic_store_n(&shfl_process.recorded, 0, __ATOMIC_SEQ_CST);
-    __atomic_store_n(&recording, 0, __ATOMIC_SEQ_CST);
-}
-
+/* What a thread says whose lock isn't any more; who reads is still there. */
 SHFL_COLD void shfl_record_end(uint32_t lock) {
-    if ((uint32_t)__atomic_load_n(&recording, __ATOMIC_SEQ_CST) == lock + 1) stop();
+    uint64_t now = __atomic_load_n(&recording, __ATOMIC_SEQ_CST);
+    if ((uint32_t)now == lock + 1) __atomic_compare_exchange_n(&recording, &now, 0, false, __ATOMIC_SEQ_CST, __ATOMIC_SEQ_CST);
 }
 
 static void drop(void) {
-    stop();
-    open_id = 0;
+    __atomic_store_n(&recording, 0, __ATOMIC_SEQ_CST);
+    watch_all(0);
     if (ring) madvise(ring, EVENTS * sizeof *ring, MADV_DONTNEED);
 }
 
@@ -88,15 +102,15 @@ int shfl_record_begin(uint32_t lock, const void *address, uint64_t milliseconds,
     if (open_id) return EBUSY;
     if (__atomic_load_n(&shfl_process.totals[lock].address, __ATOMIC_SEQ_CST) != address) return ENOENT;
     if (!has_ring()) return ENOMEM;
-    *id = open_id = ++last_id ? last_id : ++last_id;
+    *id = ++last_id ? last_id : ++last_id;
+    watch_all(*id);
     first = __atomic_load_n(&next, __ATOMIC_SEQ_CST);
     since = shfl_clock();
     leased = since + LEASE_NS;
     __atomic_store_n(&until, since + milliseconds * 1000000u, __ATOMIC_SEQ_CST);
     __atomic_store_n(&recording, (uint64_t)open_id << 32 | (lock + 1), __ATOMIC_SEQ_CST);
-    __atomic_store_n(&shfl_process.recorded, lock + 1, __ATOMIC_SEQ_CST);
     /* the lock may have gone meanwhile, before its end could see the record */
-    if (__atomic_load_n(&shfl_process.totals[lock].address, __ATOMIC_SEQ_CST) != address) stop();
+    if (__atomic_load_n(&shfl_process.totals[lock].address, __ATOMIC_SEQ_CST) != address) __atomic_store_n(&recording, 0, __ATOMIC_SEQ_CST);
     return 0;
 }
 

@@ -17,6 +17,7 @@ _shfl_value() {
     case "${COMP_WORDS[COMP_CWORD - 1]}" in
     --form) compgen -W "rw rw-park" -- "$1" ;;
     --profile) compgen -W "1 2" -- "$1" ;;
+    --class | --policy) compgen -W "$(seq 0 63)" -- "$1" ;;
     -o | --svg | --html) compgen -f -- "$1" ;;
     --limit | --seconds | --rounds | --most) ;;
     *) return 1 ;;
@@ -24,13 +25,21 @@ _shfl_value() {
     return 0
 }
 
+# What may stand behind the `=` of a class or a policy. (A selector of two words is to be quoted.)
+_shfl_wish() {
+    if [ "$1" = --class ]; then compgen -W "all heap libc.so.6" -- "$2"; else compgen -f -- "$2"; fi
+}
+
 _shfl_run() {
-    local k=2 now="${COMP_WORDS[COMP_CWORD]}"
+    local k=2 now="${COMP_WORDS[COMP_CWORD]}" option=
     # (bash parts words at `=`)
-    while [ "$k" -lt "$COMP_CWORD" ] && [[ "${COMP_WORDS[k]}" == --* ]]; do k=$((k + 2)); while [ "${COMP_WORDS[k]:-}" = = ]; do k=$((k + 2)); done; done
+    while [ "$k" -lt "$COMP_CWORD" ] && [[ "${COMP_WORDS[k]}" == --* ]]; do
+        option="${COMP_WORDS[k]}" k=$((k + 2))
+        while [ "${COMP_WORDS[k]:-}" = = ]; do k=$((k + 2)); done
+    done
     if [ "$COMP_CWORD" -lt "$k" ]; then
         [ "$now" = = ] && now=
-        mapfile -t COMPREPLY < <(_shfl_value "$now" || compgen -f -- "$now")
+        mapfile -t COMPREPLY < <(_shfl_value "$now" || _shfl_wish "$option" "$now")
     elif [ "$COMP_CWORD" -gt "$k" ]; then
         mapfile -t COMPREPLY < <(compgen -f -- "$now")
     elif [[ "$now" == -* ]]; then

@@ -18,7 +18,7 @@ complain() { echo "tests/libshfl.sh: $*" >&2; failed=1; }
 run() {
     local what="$1"
     shift
-    if timeout 300 "$@" >"$room/got" 2>&1; then sed "s,^,tests/libshfl.sh: $what: ," "$room/got"; else complain "$what, status $?: $(tail -n 20 "$room/got")"; fi
+    if timeout 300 "$@" >"$room/got" 2>&1; then sed "s|^|tests/libshfl.sh: $what: |" "$room/got"; else complain "$what, status $?: $(tail -n 20 "$room/got")"; fi
 }
 
 for kind in "" checked; do

@@ -1,7 +1,7 @@
 #!/usr/bin/env bash
 # The walk of docs/OPERATING.md, 'The first hour', at Debian's memcached under a load (tests/walk/load.c): installs the packages that aren't there,
 # builds libshfl, runs the walk's commands and prints them with what they write. Fails where a command does, where the program doesn't go on, or where
-# the page has other commands. No part of the gate, since it wants packages: memcached, a C compiler and Python 3.
+# the page has other commands, or tables with other heads. No part of the gate, since it wants packages: memcached, a C compiler and Python 3.
 set -u
 top="$(cd "$(dirname "$(readlink -f "${BASH_SOURCE[0]}")")/.." && pwd)"
 cd "$top" || exit 1
@@ -47,7 +47,7 @@ walk() {
     # (a selector of two words stands in quotes)
     printf '%% %s\n' "$*" | sed -E 's/by memcached\+0x[0-9a-f]+/"&"/' | tee -a "$room/commands"
     "$@" >"$room/said" 2>&1 || status=$?
-    cat "$room/said"
+    tee -a "$room/written" <"$room/said"
     echo
     [ "$status" = "$due" ] || fail "$*: status $status"
 }
@@ -59,7 +59,7 @@ walk_top() {
     wait_for grep -qE '^ +0 ' "$room/shown"
     kill "$top"
     wait "$top" 2>/dev/null
-    awk '/^process/ && ++count == 2 { exit } { print }' "$room/shown" | tee "$room/said"
+    awk '/^process/ && ++count == 2 { exit } { print }' "$room/shown" | tee "$room/said" | tee -a "$room/written"
     echo
 }
 says() { grep -qE -- "$1" "$room/said" || fail "nothing says $1"; }
@@ -93,6 +93,11 @@ print(max(found, key=lambda it: it["contended"])["caller"]["where"])')"
 walk 0 shfl class "$pid" "$lock" 5
 says '^[1-9][0-9]* locks? in class 5$'
 walk 0 shfl record "$pid" "$lock" 0.001
+# (in so short a time none of the server's threads may have had a processor)
+for _ in $(seq 50); do
+    grep -qE '^end events [1-9]' "$room/said" && break
+    shfl record "$pid" "$lock" 0.001 >"$room/said" 2>&1 || fail "another record: $(cat "$room/said")"
+done
 says '^end events [1-9][0-9]* lost '
 walk 0 shfl compare "$pid" 5 examples/policies/socket.hex --seconds 3
 says '^ +2 on '
@@ -117,4 +122,6 @@ cat "$room/rate"
 plain() { sed -E 's/^ *% //; s/ [0-9]{2,} / PID /; s/ [0-9]{2,}$/ PID/; s/"?by memcached\+0x[0-9a-f]+"?/LOCK/; s/-u [a-z_-]+ /-u USER /'; }
 awk '/^## The first hour/ { on = 1; next } /^## / { on = 0 } on && /^    % shfl/' docs/OPERATING.md | plain >"$room/page"
 plain <"$room/commands" | diff "$room/page" - || fail "docs/OPERATING.md has other commands"
+heads() { grep -oE '(lock  |class +locks |    policy  ).*' "$1" | sort -u; }
+diff <(heads docs/OPERATING.md) <(heads "$room/written") || fail "docs/OPERATING.md has other tables"
 exit "$failed"

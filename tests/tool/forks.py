@@ -50,11 +50,27 @@ def ends(at):
         return True
 
 
+def is_recorded(target, place):
+    """The child's one thread writes and reads in turns, and no event is missing, though the parent's lock was recorded when it forked."""
+    at, found = None, []
+    while at is None or len(found) < 200:
+        if at is None:
+            record, at, found = target.begin_record(-1, place), 0, []
+        lines, at = target.events(record, at, place)
+        found += lines
+    must("".join(it[1] for it in found) in "WfRf" * len(found), f"the child's events: {found}")
+    must(len({it[3] for it in found}) == 1, "threads that the child doesn't have")
+    must(target.ask(f"shfl 1 forget {record}\n".encode(), place) == "ok\nend\n", "the child's record can't be ended")
+
+
 def a_child(target):
     """It has a socket of its own, and none of its parent's; a client that the parent dropped sees that while the child lives."""
     target.ask(SAMPLE)
     held = halves(target)
+    record = target.begin_record()
     child = int(target.command("child"))
+    lines, at = target.events(record, 0)
+    must(lines or at is None, "a fork ends the parent's record")
     place = target.place_of(child)
     until(lambda: os.path.exists(place), "the child has no socket")
     must(f"pid {child}\n" in target.ask(b"shfl 1 hello\n", place), "another process answers for the child")
@@ -63,6 +79,8 @@ def a_child(target):
         must(ends(at), "half a request is answered")
         at.close()
     until(lambda: len(sockets_of(child)) == 1, f"the child has {len(sockets_of(child))} sockets")
+    must(target.events(record, 0, place) == ([], None), "the child has its parent's record")
+    is_recorded(target, place)
     must(target.ask(b"shfl 1 attach 0 1 b7000000000000009500000000000000 -\n", place) == "ok\nversion 2\nend\n", "the child's policy")
     until(lambda: " drained 0" not in target.ask(b"shfl 1 classes\n", place), "the child waits for threads that it doesn't have")
     with target.connected(place) as at:
@@ -127,4 +145,4 @@ def dies():
 
 holds = with_target(program, 3, [brief_children, a_child, another_program])[0]
 dies()
-print(f"{times} children, one that can be asked, one that becomes another program, and exact counts of {holds} holds")
+print(f"{times} children, one that can be asked and recorded, one that becomes another program, and exact counts of {holds} holds")

@@ -1,6 +1,6 @@
 /* A program with a hot lock, for tests/tool.sh: hot THREADS [FILE]. The threads take it, and another one each 16 times; how often they took the
  * hot one stands in FILE's first eight bytes. Lines on standard input say what it does besides: `brief N`, N children one after another, each
- * of which ends at once; `child`, one whose own thread uses a lock until it is killed; `exec`, one that becomes another program after
+ * of which ends at once; `child`, one whose own thread writes and reads under a lock in turns until it is killed; `exec`, one that becomes another program after
  * that. Each is answered with the child's process, or 0. At any other line the threads end, and it tells how often they took the locks and
  * what the library counted; at the next one it ends. */
 #define _GNU_SOURCE
@@ -14,7 +14,8 @@
 #include <sys/wait.h>
 #include <unistd.h>
 
-shfl_mutex_t hot, other, childs;
+shfl_mutex_t hot, other;
+shfl_rwlock_t childs;
 static uint64_t here, others;
 static uint64_t *hots = &here;
 static int over;
@@ -41,8 +42,8 @@ static void *take(void *at) {
 
 static void *take_childs(void *times) {
     for (intptr_t k = 0; !times || k < (intptr_t)times; k++) {
-        must(shfl_mutex_lock(&childs));
-        must(shfl_mutex_unlock(&childs));
+        must(k % 2 ? shfl_rwlock_rdlock(&childs) : shfl_rwlock_wrlock(&childs));
+        must(shfl_rwlock_unlock(&childs));
         if (!times) usleep(1000);
     }
     return NULL;
@@ -61,7 +62,7 @@ static int fork_one(const char *line) {
     pid_t child = fork();
     must(child < 0);
     if (child > 0) return child;
-    if (strncmp(line, "brief", 5) == 0) _exit(shfl_mutex_trylock(&childs));
+    if (strncmp(line, "brief", 5) == 0) _exit(shfl_rwlock_trywrlock(&childs));
     live_as_child(strncmp(line, "exec", 4) == 0);
     return 0;
 }

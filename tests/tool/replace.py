@@ -1,5 +1,5 @@
 """Replaces the policy of a hot lock under threads that wait for it: replace.py PROGRAM TIMES THREADS. Each time the version before is to
-drain; at the end the counts are exact, and each round was answered by one version (rounds.c)."""
+drain; at the end the counts are exact, each round was answered by one version, and no thread asks for a record that has ended (rounds.c)."""
 import sys, time
 from target import must, until, with_target
 
@@ -39,7 +39,18 @@ def asked(target):
     until(lambda: target.counts(b"shfl 1 classes\n", "questions")[0] > before, "nobody is asked")
 
 
-holds, rounds, tell, yes, differ = with_target(program, threads, (draining, at_once, asked))
+def recorded(target):
+    """The hot lock; a record that is forgotten, and one that nobody asks for."""
+    for forgets in (True, False):
+        record = target.begin_record()
+        until(lambda: (it := target.events(record, 0)) and (it[0] or it[1] is None), "nothing is recorded")
+        if forgets:
+            target.ask(f"shfl 1 forget {record}\n".encode())
+    until(lambda: time.sleep(3) or target.events(record, 0)[1] is None, "a record that nobody reads goes on")
+
+
+holds, rounds, tell, yes, differ, changed = with_target(program, threads, (draining, at_once, asked, recorded))
+must(changed == 0, f"{changed} threads ask for a record that has ended")
 must(differ == 0, f"{differ} of {rounds} rounds were answered by two versions")
 must(tell > 0 and 0 < yes < rounds, f"no round tells: {rounds} {tell} {yes}")
 print(f"{2 * times} policies under {threads} threads, the last round of a version over after at most {longest[0]:.2f} s; {rounds} rounds, {tell} of "

@@ -1,7 +1,7 @@
 /* Looks at what the steps of the proved library are told, for tests/tool.sh: linked with the library's own files and the linker's word
  * --wrap=shfl_seat_step, it stands between them. The policies that the test attaches answer each question of a kind alike, so a round whose
  * answers differ was answered by two versions. At the end it tells how many rounds there were, how many of them have two answers
- * or more, how many of those said yes, and how many have answers that differ. */
+ * or more, how many of those said yes, and how many have answers that differ; and how many threads' words a record has left changed. */
 #include <pthread.h>
 #include <stdio.h>
 #include "../../libshfl/inside.h"
@@ -38,6 +38,9 @@ uint8_t __wrap_shfl_seat_step(struct shfl_seat *seat, bool choice) {
 }
 
 __attribute__((destructor)) static void say(void) {
-    printf("rounds %llu tell %llu yes %llu differ %llu\n", (unsigned long long)rounds, (unsigned long long)tell,
-           (unsigned long long)said_yes, (unsigned long long)differ);
+    unsigned changed = 0;
+    for (uint32_t k = 0; k < shfl_process.thread_count; k++)
+        changed += shfl_process.threads[k].unusual != 0 || shfl_process.threads[k].known != shfl_process.threads[k].counts;
+    printf("rounds %llu tell %llu yes %llu differ %llu changed %u\n", (unsigned long long)rounds, (unsigned long long)tell,
+           (unsigned long long)said_yes, (unsigned long long)differ, changed);
 }

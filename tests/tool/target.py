@@ -95,6 +95,21 @@ class Target:
     def versions(self):
         return re.findall(r"class (\d+) locks (\d+) policy (\d+) version (\d+)", self.ask(b"shfl 1 classes\n"))
 
+    def begin_record(self, which=0, place=None):
+        """Of the lock that was used first, or last (-1): the record's number."""
+        number, address = re.findall(r"^lock (\d+) at (\w+) ", self.ask(b"shfl 1 locks 0\n", place), re.M)[which]
+        said = self.ask(f"shfl 1 record {number} {address} 600000\n".encode(), place)
+        must(re.fullmatch(r"ok\nrecord \d+\nend\n", said), f"no record: {said}")
+        return int(said.split()[2])
+
+    def events(self, record, at, place=None):
+        """What there is from the event `at` on, and which one is next; or no number, where nobody asked for two seconds."""
+        said = self.ask(f"shfl 1 events {record} {at}\n".encode(), place)
+        if said.startswith("error 2 "):
+            return [], None
+        *lines, last = said.splitlines()[1:-1]
+        return [it.split() for it in lines], int(last.split()[1])
+
     def command(self, line):
         """What the program answers to a line on its standard input."""
         self.child.stdin.write(f"{line}\n")

@@ -23,7 +23,7 @@ def the_tool(target):
 
 def questions_of(target, *options):
     """What a program says of itself that is started so, and how often the policy of its hot lock is asked while a thousand calls queue."""
-    words = [sys.executable, "-B", f"{TOP}/bin/shfl", "run", *options, "--class", "hot=5", "--policy", f"5={TOP}/examples/policies/socket.hex"]
+    words = [sys.executable, "-B", f"{TOP}/bin/shfl", "run", *options, "--class", "5=hot", "--policy", f"5={TOP}/examples/policies/socket.hex"]
     child = subprocess.Popen([*words, sys.argv[1], "3"], stdin=subprocess.PIPE, stdout=subprocess.PIPE, text=True)
     try:
         must(child.stdout.readline() == "ready\n", "the program that is run doesn't start")
@@ -44,10 +44,11 @@ def runs(target):
     must("\nform rw\nlimit 1024\n" in said and questions > 0, f"as usual: {said} {questions} questions")
     said, questions = questions_of(target, "--form", "rw-park", "--limit", "1")
     must("\nform rw-park\nlimit 1\n" in said and questions == 0, f"with a form and a limit: {said} {questions} questions")
-    for words in (("--form", "spin"), ("--form", ""), ("--limit", "0"), ("--limit", "1025"), ("--limit", "x"), ("--many", "3"), ("--class", "hot"),
-                  ("--class", "hot=64"), ("--policy", "5"), ("--policy", "x=y")):
+    for words in (("--form", "spin"), ("--form", ""), ("--limit", "0"), ("--limit", "1025"), ("--limit", "x"), ("--many", "3"), ("--class", "5"), ("--class", "5="),
+                  ("--class", "64=hot"), ("--class", "hot=5"), ("--policy", "5"), ("--policy", "x=y")):
         status, text = shfl("run", *words, sys.argv[1], "3")
         must(status == 2 and text.startswith("shfl: ") and text.count("\n") == 1, f"run {words}: {status} {text}")
+        must(words[0] != "--class" or "--class CLASS=SELECTOR" in text, f"run {words} doesn't tell the form: {text}")
     must(shfl("run", "--form", "rw")[0] == 2 and shfl("run", "--form")[0] == 2 and os.listdir(target.room) == [f"shfl-{target.pid}"], "run without a program")
 
 
@@ -64,9 +65,12 @@ def completion(target):
     must(completed("attach", "1", "6") == ["6", "60", "61", "62", "63"], "the classes")
     files = [f"examples/policies/socket.{it}" for it in ("asm", "c", "hex")]
     must(completed("attach", "1", "5", "examples/policies/so") == files, "the files of policies")
-    must(completed("run", "--class", "hot", "=", "5", "--po") == ["--policy"], "the words of run")
+    must(completed("run", "--class", "5", "=", "hot", "--po") == ["--policy"], "the words of run")
+    must(completed("run", "--class", "6") == completed("run", "--policy", "6") == ["6", "60", "61", "62", "63"], "the classes of run")
+    must(completed("run", "--class", "5", "=") == ["all", "heap", "libc.so.6"] and completed("run", "--class", "5", "=", "h") == ["heap"], "the locks of run")
+    must(completed("run", "--policy", "5", "=", "examples/policies/socket.h") == ["examples/policies/socket.hex", "examples/policies/socket.hex.out"], "the files of run")
     must(completed("run", "--limit", "8", "--form", "") == ["rw", "rw-park"] and completed("run", "--limit", "") == [], "the forms")
-    must(completed("run", "--class", "hot", "=", "5", "--form", "rw", "--") == ["--class", "--form", "--limit", "--policy"], "the words of run")
+    must(completed("run", "--class", "5", "=", "hot", "--form", "rw", "--") == ["--class", "--form", "--limit", "--policy"], "the words of run")
     must(completed("class", "1", "b") == ["by"] and completed("record", "1", "") == ["all", "by", "heap", "libc.so.6"], "the selectors")
     must(completed("compare", "1", "5", "it.hex", "--seconds", "") == [], "a number")
     must(completed("record", "1", "hot", "1", "-o", "examples/policies/socket.h") == ["examples/policies/socket.hex", "examples/policies/socket.hex.out"], "a file")
