@@ -4,27 +4,28 @@
 #include <string.h>
 #include "inside.h"
 
-/* Goes over to the class's policy as it is now, where the seat follows another one. */
-static void follow(struct shfl_thread *me, struct shfl_class *its) {
+/* Goes over to the class's policy as it is now, where the seat follows another one, or another seat of the thread did last. */
+static void follow(struct shfl_thread *me, struct shfl_seat *seat, struct shfl_class *its) {
     uint32_t which = (uint32_t)(its - shfl_process.classes) + 1;
     shfl_store(&me->in_round, which);
-    if (me->follows == which && me->version == shfl_load(&its->version)) return;
+    if (me->follows == which && me->version == shfl_load(&its->version) && me->follower == seat) return;
     shfl_guard_lock(&its->guard);
-    bool done = shfl_seat_follow(&me->seat, &its->seat);
+    bool done = shfl_seat_follow(seat, &its->seat);
     shfl_store(&me->version, shfl_load(&its->version));
     shfl_guard_unlock(&its->guard);
-    if (!done) shfl_seat_detach(&me->seat);
+    if (!done) shfl_seat_detach(seat);
+    me->follower = seat;
     shfl_store(&me->follows, done ? which : 0);
 }
 
 /* The first question of a round is whether to skip it: the whole round goes by one version, or by none where the class has none then. */
-bool shfl_answer(struct shfl_thread *me, uint32_t lock, struct shfl_class *its) {
-    struct shfl_ask ask = shfl_seat_ask(&me->seat);
+bool shfl_answer(struct shfl_thread *me, struct shfl_seat *seat, uint32_t lock, struct shfl_class *its) {
+    struct shfl_ask ask = shfl_seat_ask(seat);
     if (ask.kind == SHFL_ASK_NOTHING) return false;
-    if (ask.kind == SHFL_ASK_SKIP && shfl_load(&its->attached)) follow(me, its);
+    if (ask.kind == SHFL_ASK_SKIP && shfl_load(&its->attached)) follow(me, seat, its);
     else if (ask.kind == SHFL_ASK_SKIP) __atomic_store_n(&me->in_round, 0, __ATOMIC_RELEASE);
     if (me->in_round == 0) return false;
-    bool yes = shfl_seat_answer(&me->seat), skips = ask.kind == SHFL_ASK_SKIP;
+    bool yes = shfl_seat_answer(seat), skips = ask.kind == SHFL_ASK_SKIP;
     if (shfl_load(&me->unusual) & SHFL_IS_WATCHED)
         shfl_record(me, lock, yes ? (skips ? SHFL_YES_SKIP : SHFL_YES_SHOULD) : skips ? SHFL_ASKS_SKIP : SHFL_ASKS_SHOULD, ask.waiter);
     struct shfl_stat *counts = shfl_counts_of(me, lock);
@@ -69,11 +70,16 @@ size_t shfl_class_programs(unsigned class_of, struct shfl_programs *out, uint8_t
     return whole;
 }
 
+/* Of a program that is too long the rest isn't looked at. */
+static size_t looked_at(size_t length) { return length < SHFL_PROGRAM_MOST ? length : SHFL_PROGRAM_MOST; }
+
 int shfl_class_policy(unsigned class_of, unsigned profile, const uint8_t *should, size_t should_length, const uint8_t *skip,
                       size_t skip_length, struct shfl_fault *fault) {
     static const uint8_t none;
     if (class_of >= SHFL_CLASSES || profile < 1 || profile > 2) return EINVAL;
     if ((!should && should_length) || (!skip && skip_length)) return EINVAL;
+    should_length = looked_at(should_length);
+    skip_length = looked_at(skip_length);
     if (!should) should = &none;
     if (!skip) skip = &none;
     int error = shfl_open_process();

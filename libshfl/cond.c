@@ -5,6 +5,7 @@
 #include "inside.h"
 
 int shfl_cond_init(shfl_cond_t *cond) {
+    if (!cond) return EINVAL;
     cond->signals = cond->waiting = 0;
     return 0;
 }
@@ -38,10 +39,10 @@ static int wait_on(shfl_cond_t *cond, shfl_mutex_t *mutex, clockid_t clock, cons
     return error ? error : told;
 }
 
-int shfl_cond_wait(shfl_cond_t *cond, shfl_mutex_t *mutex) { return wait_on(cond, mutex, CLOCK_MONOTONIC, NULL); }
+int shfl_cond_wait(shfl_cond_t *cond, shfl_mutex_t *mutex) { return cond && mutex ? wait_on(cond, mutex, CLOCK_MONOTONIC, NULL) : EINVAL; }
 
 int shfl_cond_clockwait(shfl_cond_t *cond, shfl_mutex_t *mutex, clockid_t clock, const struct timespec *deadline) {
-    if (!deadline || deadline->tv_nsec < 0 || deadline->tv_nsec > 999999999) return EINVAL;
+    if (!cond || !mutex || !deadline || deadline->tv_nsec < 0 || deadline->tv_nsec > 999999999) return EINVAL;
     if (clock != CLOCK_MONOTONIC && clock != CLOCK_REALTIME) return EINVAL;
     return wait_on(cond, mutex, clock, deadline);
 }
@@ -51,6 +52,7 @@ int shfl_cond_timedwait(shfl_cond_t *cond, shfl_mutex_t *mutex, const struct tim
 }
 
 int shfl_cond_signal(shfl_cond_t *cond) {
+    if (!cond) return EINVAL;
     if (shfl_load(&cond->waiting) == 0) return 0;
     __atomic_fetch_add(&cond->signals, 1, __ATOMIC_SEQ_CST);
     shfl_wake_one(&cond->signals);
@@ -58,6 +60,7 @@ int shfl_cond_signal(shfl_cond_t *cond) {
 }
 
 int shfl_cond_broadcast(shfl_cond_t *cond) {
+    if (!cond) return EINVAL;
     if (shfl_load(&cond->waiting) == 0) return 0;
     __atomic_fetch_add(&cond->signals, 1, __ATOMIC_SEQ_CST);
     shfl_wake_all(&cond->signals);
@@ -65,5 +68,6 @@ int shfl_cond_broadcast(shfl_cond_t *cond) {
 }
 
 int shfl_cond_destroy(shfl_cond_t *cond) {
+    if (!cond) return EINVAL;
     return shfl_load(&cond->waiting) ? shfl_refuse(EBUSY, cond, "a condition variable is destroyed that somebody waits on") : 0;
 }

@@ -154,7 +154,7 @@ int shfl_stat(const void *lock, struct shfl_stat *out) {
     struct shfl_waits waits;
     memset(out, 0, sizeof *out);
     if (number == 0) return 0;
-    if (!shfl_process.totals || number > shfl_process.lock_count) return EINVAL;
+    if (!shfl_process.totals || number > shfl_load(&shfl_process.lock_count)) return EINVAL;
     shfl_sum_lock(number - 1, out, &waits);
     return 0;
 }

@@ -7,6 +7,9 @@
 #include "seats.h"
 
 #define SHFL_LOCKS_USUAL 65536
+#define SHFL_LOCKS_MOST (1u << 24) /* of all arenas */
+#define SHFL_ARENAS_USUAL 16
+#define SHFL_ARENAS_MOST 256
 #define SHFL_THREADS_USUAL 4096
 #define SHFL_LIMIT_USUAL 1024
 #define SHFL_MOST_THREADS (65535 - SHFL_CLASSES - 1)
@@ -91,15 +94,23 @@ struct shfl_thread {
     struct shfl_counted *counts;
     struct shfl_again *again;
     uint32_t again_room, number;
-    uint32_t follows, version; /* the class whose policy its seat follows, plus one; and which version of it */
+    uint32_t follows, version; /* the class whose policy a seat of it follows, plus one; and which version of it */
+    struct shfl_seat *follower; /* that seat */
     uint32_t in_round; /* the class whose policy answers its round, plus one */
     uint32_t held_room;
     const void **held; /* where its locks are: in the checked build alone */
     struct shfl_thread *next_free;
     const void *caller; /* in the preload library: where the call comes from that waits, or null */
+    uint64_t attr; /* its attributes, as its seat in the first arena has them */
     uint32_t tid; /* the system's number, once it was recorded */
     uint8_t aside; /* it lets others go first, once */
 } __attribute__((aligned(128)));
+
+/* A thread's seat in an arena behind the first one, on a line of its own. */
+struct shfl_desk { struct shfl_seat seat; } __attribute__((aligned(64)));
+
+/* One instruction more than a program may have: that it is too long is said by the verifier. */
+#define SHFL_PROGRAM_MOST 4104
 
 /* The bytes of a policy, in one block: those of `should`, and behind them those of `skip`. */
 struct shfl_programs {
@@ -131,7 +142,9 @@ struct shfl_process {
     shfl_guard ending; /* of `ended`; taken after another */
     shfl_guard is_loading;
     struct shfl_seat loading; /* where a policy is judged before its class has it */
-    uint32_t lock_count, thread_count;
+    struct shfl_desk *desks[SHFL_ARENAS_MOST]; /* of each arena but the first, by threads' numbers */
+    uint32_t lock_count, thread_count; /* of locks as many as the arenas have that are open */
+    uint32_t arena_locks, arena_count, arena_most; /* how many locks an arena has; how many are open, and may be */
     uint16_t limit; /* of a batch */
     uint8_t form;
 };
@@ -188,11 +201,14 @@ void shfl_count_end(uint32_t lock);
 void shfl_sum_lock(uint32_t lock, struct shfl_stat *out, struct shfl_waits *waits);
 void shfl_sum_class(uint32_t class_of, struct shfl_class_stat *out, struct shfl_waits *waits);
 
-/* room.c: what the environment asks for, false where that can't be; and the memory beside the arena. */
+/* room.c: what the environment asks for, false where that can't be; the memory beside the arenas, and that of so many of them; a map of memory
+ * that is zero, or null. */
 bool shfl_asked_for(struct shfl_process *all);
 bool shfl_make_room(struct shfl_process *all);
+bool shfl_open_room(struct shfl_process *all, uint32_t arenas);
 void shfl_free_room(struct shfl_process *all);
-void shfl_own_room(struct shfl_process *all);
+void *shfl_map(size_t size);
+void shfl_unmap(void *at, size_t size);
 
 /* waits.c */
 bool shfl_make_waits(struct shfl_process *all);
@@ -253,7 +269,7 @@ void shfl_wake_next(struct shfl_thread *me, struct shfl_parking *parking);
 bool shfl_wake_outside(struct shfl_parking *parking);
 
 /* class.c: what the class's policy answers to what the next step asks. */
-bool shfl_answer(struct shfl_thread *me, uint32_t lock, struct shfl_class *its);
+bool shfl_answer(struct shfl_thread *me, struct shfl_seat *seat, uint32_t lock, struct shfl_class *its);
 int shfl_class_sum(unsigned class_of, struct shfl_class_stat *out, struct shfl_waits *waits);
 size_t shfl_class_programs(unsigned class_of, struct shfl_programs *out, uint8_t *room, size_t size); /* how many bytes they have */
 

@@ -1,6 +1,7 @@
 /* What mutexes and locks for readers and writers have in common: the errors, the locks that a thread took again, the counts. Proved is that
  * a seat takes no lock that it holds, gives none back that it doesn't, and that a writer holds alone (crates/shfl_seats). */
 #include <stdlib.h>
+#include "arenas.h"
 #include "locking.h"
 #include "races.h"
 
@@ -41,7 +42,7 @@ static bool give_again(struct shfl_thread *me, uint32_t lock) {
 
 /* What an attempt that neither won nor lost is answered. */
 static SHFL_COLD int other_answer(struct shfl_thread *me, uint32_t *word, uint32_t lock, bool shared, uint8_t answer, int held) {
-    if (answer == SHFL_HELD && shared && shfl_seat_hold(&me->seat, lock) == 2) return take_again(me, lock);
+    if (answer == SHFL_HELD && shared && shfl_hold(me, lock) == 2) return take_again(me, lock);
     if (answer == SHFL_HELD) return held == EBUSY ? held : shfl_refuse(held, word, "a thread takes a lock that it has");
     return answer == SHFL_NO_MEMORY ? ENOMEM : EINVAL;
 }
@@ -54,6 +55,13 @@ void shfl_count_taken_anew(struct shfl_thread *me, uint32_t lock, bool shared) {
     shfl_happens(me, lock, shared ? SHFL_TAKES_SHARED : SHFL_TAKES_ALONE);
 }
 
+/* The thread has the lock. */
+static int had(struct shfl_thread *me, uint32_t *word, uint32_t lock, bool shared) {
+    shfl_count_taken(me, lock, shared);
+    shfl_taken(me, word);
+    return 0;
+}
+
 SHFL_COLD int shfl_take_first(uint32_t *word, bool shared) {
     int error = 0;
     uint32_t lock;
@@ -63,7 +71,10 @@ SHFL_COLD int shfl_take_first(uint32_t *word, bool shared) {
     return error ? error : shfl_take(word, shared);
 }
 
+/* An attempt in the first arena was answered so, which knows no lock of another one. */
 int shfl_take_after(struct shfl_thread *me, uint32_t *word, uint32_t lock, bool shared, uint8_t answer, const void *caller) {
+    if (answer == SHFL_BAD) answer = shfl_attempt(me, lock, shared);
+    if (answer == SHFL_DONE) return had(me, word, lock, shared);
     if (answer != SHFL_BUSY) return other_answer(me, word, lock, shared, answer, EDEADLK);
     if (shared) shfl_ring(&shfl_parking_of(lock)->head_asleep);
     if (!caller) return EBUSY;
@@ -72,10 +83,7 @@ int shfl_take_after(struct shfl_thread *me, uint32_t *word, uint32_t lock, bool 
     shfl_begins_to_wait(me, lock, shared, caller);
     int error = shfl_wait(me, lock, shared);
     shfl_count_waited(me, lock, since);
-    if (error) return error;
-    shfl_count_taken(me, lock, shared);
-    shfl_taken(me, word);
-    return 0;
+    return error ? error : had(me, word, lock, shared);
 }
 
 int shfl_try(uint32_t *word, bool shared) {
@@ -85,12 +93,8 @@ int shfl_try(uint32_t *word, bool shared) {
     if (!me) return error;
     error = shfl_number(word, shfl_class_behind(word), &lock);
     if (error) return error;
-    uint8_t answer = shfl_seat_attempt(&me->seat, lock, shared);
-    if (answer == SHFL_DONE) {
-        shfl_count_taken(me, lock, shared);
-        shfl_taken(me, word);
-        return 0;
-    }
+    uint8_t answer = shfl_attempt(me, lock, shared);
+    if (answer == SHFL_DONE) return had(me, word, lock, shared);
     if (answer != SHFL_BUSY) return other_answer(me, word, lock, shared, answer, EBUSY);
     shfl_count_contended(me, lock);
     if (shared) shfl_ring(&shfl_parking_of(lock)->head_asleep);
@@ -104,7 +108,7 @@ int shfl_take_until(uint32_t *word, bool shared, clockid_t clock, const struct t
     if (!me) return error;
     error = shfl_number(word, shfl_class_behind(word), &lock);
     if (error) return error;
-    uint8_t answer = shfl_seat_attempt(&me->seat, lock, shared);
+    uint8_t answer = shfl_attempt(me, lock, shared);
     if (answer == SHFL_BUSY) {
         if (shared) shfl_ring(&shfl_parking_of(lock)->head_asleep);
         if (!deadline || deadline->tv_nsec < 0 || deadline->tv_nsec > 999999999) return EINVAL;
@@ -119,33 +123,42 @@ int shfl_take_until(uint32_t *word, bool shared, clockid_t clock, const struct t
     } else if (answer != SHFL_DONE) {
         return other_answer(me, word, lock, shared, answer, EDEADLK);
     }
-    shfl_count_taken(me, lock, shared);
-    shfl_taken(me, word);
-    return 0;
+    return had(me, word, lock, shared);
 }
 
 /* In the child of a fork a lock is given back, in whose words threads may stand that aren't there: the seat keeps that number, and the lock's
  * next use gives it another. */
 static SHFL_COLD bool leave_number(struct shfl_thread *me, uint32_t *word, uint32_t lock) {
-    if (!shfl_parking_of(lock)->stale || shfl_seat_hold(&me->seat, lock) == 0) return false;
+    if (!shfl_parking_of(lock)->stale || shfl_hold(me, lock) == 0) return false;
     shfl_given(me, word);
     shfl_leave_number(lock);
     __atomic_store_n(word, 0, __ATOMIC_SEQ_CST);
     return true;
 }
 
-SHFL_COLD int shfl_not_given_back(uint32_t *word) { return shfl_refuse(EPERM, word, "a thread gives a lock back that it doesn't have"); }
+static SHFL_COLD int refuse_to_give(uint32_t *word) { return shfl_refuse(EPERM, word, "a thread gives a lock back that it doesn't have"); }
+
+static int give_back_in_place(struct shfl_thread *me, uint32_t *word, uint32_t lock) {
+    if (shfl_release(me, lock) != SHFL_DONE) return refuse_to_give(word);
+    shfl_given(me, word);
+    shfl_wake_next(me, shfl_parking_of(lock));
+    return 0;
+}
+
+/* The first arena knows no lock of another one. */
+int shfl_not_given_back(uint32_t *word) {
+    struct shfl_thread *me = shfl_me;
+    uint32_t number = __atomic_load_n(word, __ATOMIC_ACQUIRE);
+    return me && number > shfl_process.arena_locks ? give_back_in_place(me, word, number - 1) : refuse_to_give(word);
+}
 
 /* A lock that was taken again, or one that is stale or recorded; or another one of a thread that has such a lock, or while one is recorded. */
 int shfl_give_back_other(struct shfl_thread *me, uint32_t *word, uint32_t number) {
     uint32_t lock = number - 1;
     if (me->again_count > 0 && give_again(me, lock)) return 0;
-    if ((shfl_load(&me->unusual) & SHFL_IS_STALE) && lock < shfl_process.lock_count && leave_number(me, word, lock)) return 0;
+    if ((shfl_load(&me->unusual) & SHFL_IS_STALE) && lock < shfl_load(&shfl_process.lock_count) && leave_number(me, word, lock)) return 0;
     shfl_happens(me, lock, SHFL_FREES);
-    if (shfl_seat_release(&me->seat, lock) != SHFL_DONE) return shfl_not_given_back(word);
-    shfl_given(me, word);
-    shfl_wake_next(me, shfl_parking_of(lock));
-    return 0;
+    return give_back_in_place(me, word, lock);
 }
 
 /* Gives the lock's number back, where nobody has the lock. */
@@ -155,7 +168,7 @@ int shfl_end(uint32_t *word) {
     if (error == EBUSY) return shfl_refuse(EBUSY, word, "a lock is destroyed that somebody has");
     if (error) return error;
     uint32_t number = __atomic_exchange_n(word, 0, __ATOMIC_SEQ_CST);
-    shfl_seat_release(&shfl_me->seat, number - 1);
+    shfl_release(shfl_me, number - 1);
     shfl_given(shfl_me, word);
     shfl_races_ended(word);
     shfl_take_number_back(number - 1);

@@ -1,8 +1,8 @@
-/* The process's arena: its opening, the numbers of locks, the seats of threads. Proved is what a seat does; that each thread has one of its
+/* The process's first arena: its opening, the numbers of locks, the seats of threads. Proved is what a seat does; that each thread has one of its
  * own, and no two locks in use one number, is this file's. */
 #include <pthread.h>
 #include <stdlib.h>
-#include "inside.h"
+#include "arenas.h"
 #include "races.h"
 
 struct shfl_process shfl_process;
@@ -78,7 +78,7 @@ static void in_child(void) {
     for (uint32_t k = 0; k < fresh_locks && seated > 1; k++) {
         struct shfl_parking *parking = shfl_parking_of(shfl_number_at(k));
         parking->head_asleep = parking->outside = parking->inside = parking->queued = parking->promoted = 0;
-        parking->stale = me && shfl_seat_hold(&me->seat, shfl_number_at(k)) != 0;
+        parking->stale = me && shfl_hold(me, shfl_number_at(k)) != 0;
         if (parking->stale) me->unusual |= SHFL_IS_STALE;
     }
     for (uint32_t k = 0; k < shfl_process.threads_seen; k++)
@@ -117,14 +117,15 @@ static int open_arena(void) {
         free(seats);
         return ENOMEM;
     }
-    shfl_own_room(all);
-    uint8_t answer = shfl_seats_open(all->lock_count, false, all->form, all->limit, seats, count);
+    uint8_t answer = shfl_seats_open(all->arena_locks, false, all->form, all->limit, seats, count);
     if (answer == SHFL_DONE) deal(seats);
     free(seats);
     if (answer != SHFL_DONE) {
         shfl_free_room(all);
         return answer == SHFL_BAD ? EINVAL : ENOMEM;
     }
+    all->arena_count = 1;
+    shfl_store(&all->lock_count, all->arena_locks);
     return 0;
 }
 
@@ -159,7 +160,8 @@ bool shfl_set_attr(struct shfl_thread *me, uint16_t prio, uint16_t class_of, uin
     unsigned cpu = 0, node = 0;
     if (syscall(SYS_getcpu, &cpu, &node, NULL)) node = 0;
     me->mark = (me->number + 1) << 16 | (uint16_t)node;
-    return shfl_seat_set_attr(&me->seat, (uint16_t)node | (uint64_t)prio << 16 | (uint64_t)class_of << 32 | (uint64_t)kind << 48);
+    me->attr = (uint16_t)node | (uint64_t)prio << 16 | (uint64_t)class_of << 32 | (uint64_t)kind << 48;
+    return shfl_seat_set_attr(&me->seat, me->attr);
 }
 
 SHFL_COLD struct shfl_thread *shfl_take_seat(int *error) {
@@ -190,23 +192,22 @@ SHFL_COLD struct shfl_thread *shfl_take_seat(int *error) {
 
 /* The k-th number that is given. Four locks stand on one cache line, so neighbours in time stand on lines of their own. */
 uint32_t shfl_number_at(uint32_t k) {
-    uint32_t quarter = shfl_process.lock_count / 4;
-    return k < 4 * quarter ? k % quarter * 4 + k / quarter : k;
+    uint32_t locks = shfl_process.arena_locks, quarter = locks / 4, within = k % locks;
+    return within < 4 * quarter ? k - within + within % quarter * 4 + within / quarter : k;
 }
 
-static bool take_number(uint32_t *lock) {
-    bool some = true;
+static int take_number(uint32_t *lock) {
+    int error = 0;
     shfl_guard_lock(&lists);
     if (free_locks > 0) {
         *lock = free_locks - 1;
         free_locks = shfl_parking_of(*lock)->next_free;
-    } else if (fresh_locks < shfl_process.lock_count) {
-        *lock = shfl_number_at(fresh_locks++);
     } else {
-        some = false;
+        if (fresh_locks == shfl_process.lock_count) error = shfl_grow();
+        if (!error) *lock = shfl_number_at(fresh_locks++);
     }
     shfl_guard_unlock(&lists);
-    return some;
+    return error;
 }
 
 uint32_t shfl_numbers_given(void) {
@@ -218,7 +219,7 @@ uint32_t shfl_numbers_given(void) {
 
 /* Puts the lock at this address, if it has this number still, into a class. Those that wait for it already stay as they are. */
 int shfl_put_into(uint32_t lock, const void *address, uint32_t class_of) {
-    if (class_of >= SHFL_CLASSES || !address || lock >= shfl_process.lock_count) return EINVAL;
+    if (class_of >= SHFL_CLASSES || !address || lock >= shfl_load(&shfl_process.lock_count)) return EINVAL;
     shfl_guard_lock(&lists);
     bool there = shfl_process.totals[lock].address == address;
     if (there) shfl_store(&shfl_parking_of(lock)->class_of, class_of);
@@ -247,7 +248,8 @@ void shfl_take_number_back(uint32_t lock) {
 SHFL_COLD int shfl_give_number(uint32_t *word, uint32_t class_of, uint32_t *lock) {
     int error = shfl_open_process();
     if (error) return error;
-    if (!take_number(lock)) return EAGAIN;
+    error = take_number(lock);
+    if (error) return error;
     shfl_store(&shfl_parking_of(*lock)->class_of, class_of % SHFL_CLASSES);
     __atomic_store_n(&shfl_process.totals[*lock].address, word, __ATOMIC_SEQ_CST);
     uint32_t none = 0;

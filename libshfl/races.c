@@ -1,7 +1,7 @@
 /* races.h in the build for those who look for races. ThreadSanitizer's calls are weak, so the library serves programs without it too; helgrind's and
  * drd's requests are some instructions that do nothing outside valgrind, and are left out where its headers aren't there. */
 #ifdef SHFL_ANNOTATE
-#include "inside.h"
+#include "arenas.h"
 #include "races.h"
 
 /* as <sanitizer/tsan_interface.h>, which not every compiler has */
@@ -52,7 +52,7 @@ void shfl_races_taken(uint32_t *word, bool shared, bool tries, int error) {
 int shfl_races_giving(uint32_t *word) {
     struct shfl_thread *me = shfl_me;
     uint32_t number = __atomic_load_n(word, __ATOMIC_ACQUIRE);
-    int held = me && number != 0 ? shfl_seat_hold(&me->seat, number - 1) : 0;
+    int held = me && number != 0 ? shfl_hold(me, number - 1) : 0;
     if (held == 0) return 0;
     tell_giving(word);
     if (__tsan_mutex_pre_unlock) __tsan_mutex_pre_unlock(word, flags_of(held == 2, false));

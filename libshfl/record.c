@@ -9,6 +9,7 @@
  * is late writes into nothing else; its event has the old record's number and isn't read. */
 #include <string.h>
 #include <sys/mman.h>
+#include "arenas.h"
 #include "races.h"
 #include "record.h"
 
@@ -62,7 +63,7 @@ static void write_at(struct event *at, uint64_t k, const struct event *it) {
 /* A thread that gives back what it doesn't have is refused afterwards, and not recorded. */
 SHFL_COLD void shfl_record(struct shfl_thread *me, uint32_t lock, enum shfl_event event, uint64_t about) {
     uint64_t now = __atomic_load_n(&recording, __ATOMIC_SEQ_CST);
-    if ((uint32_t)now != lock + 1 || (event == SHFL_FREES && shfl_seat_hold(&me->seat, lock) == 0)) return;
+    if ((uint32_t)now != lock + 1 || (event == SHFL_FREES && shfl_hold(me, lock) == 0)) return;
     uint64_t clock = shfl_clock();
     if (clock > __atomic_load_n(&until, __ATOMIC_RELAXED)) return;
     if (me->tid == 0) me->tid = (uint32_t)syscall(SYS_gettid);
@@ -98,7 +99,7 @@ static bool has_ring(void) {
 }
 
 int shfl_record_begin(uint32_t lock, const void *address, uint64_t milliseconds, uint32_t *id) {
-    if (lock >= shfl_process.lock_count || !address || milliseconds == 0 || milliseconds > SHFL_RECORD_MOST_MS) return EINVAL;
+    if (lock >= shfl_load(&shfl_process.lock_count) || !address || milliseconds == 0 || milliseconds > SHFL_RECORD_MOST_MS) return EINVAL;
     if (open_id) return EBUSY;
     if (__atomic_load_n(&shfl_process.totals[lock].address, __ATOMIC_SEQ_CST) != address) return ENOENT;
     if (!has_ring()) return ENOMEM;

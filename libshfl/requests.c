@@ -12,8 +12,6 @@
 #define LOCK_MOST 1300
 #define EVENT_MOST 120
 #define WORDS 7
-/* One instruction more than a program may have: that it is too long is said by the verifier. */
-#define PROGRAM_MOST 4104
 
 /* The words of a request, each of which ends with a zero. */
 struct request { int count; char *words[WORDS]; };
@@ -61,7 +59,7 @@ static void say_counts(struct shfl_reply *reply, const struct shfl_stat *it) {
 static void hello(struct request *request, struct shfl_reply *reply) {
     (void)request;
     say(reply, "ok\npid %ld\nlibrary %d\nlocks %u of %u\nthreads %u of %u\nclasses %d\n", (long)getpid(), SHFL_VERSION, shfl_numbers_given(),
-        shfl_process.lock_count, shfl_load(&shfl_process.threads_seen), shfl_process.thread_count, SHFL_CLASSES);
+        shfl_load(&shfl_process.lock_count), shfl_load(&shfl_process.threads_seen), shfl_process.thread_count, SHFL_CLASSES);
     say(reply, "form %s\nlimit %u\nend\n", shfl_process.form == SHFL_RW_PARK ? "rw-park" : "rw", shfl_process.limit);
 }
 
@@ -123,7 +121,7 @@ static bool bytes_of(const char *text, uint8_t *room, size_t *length) {
     *length = 0;
     if (strcmp(text, "-") == 0) return true;
     size_t count = strlen(text);
-    if (count == 0 || count % 2 || count / 2 > PROGRAM_MOST) return false;
+    if (count == 0 || count % 2 || count / 2 > SHFL_PROGRAM_MOST) return false;
     for (size_t k = 0; k < count; k += 2) {
         int high = digit(text[k]), low = digit(text[k + 1]);
         if (high < 0 || low < 0) return false;
@@ -134,7 +132,7 @@ static bool bytes_of(const char *text, uint8_t *room, size_t *length) {
 
 /* `attach CLASS PROFILE SHOULD SKIP`, the programs in digits. */
 static void attach(struct request *request, struct shfl_reply *reply) {
-    static uint8_t should[PROGRAM_MOST], skip[PROGRAM_MOST]; /* one thread comes here */
+    static uint8_t should[SHFL_PROGRAM_MOST], skip[SHFL_PROGRAM_MOST]; /* one thread comes here */
     size_t should_length, skip_length;
     uint64_t class_of, profile;
     struct shfl_fault fault = {0, 0, 0, 0};
@@ -163,7 +161,7 @@ static void say_digits(struct shfl_reply *reply, const uint8_t *bytes, size_t le
 
 /* `policy CLASS`: what `attach` was given for this class, or two times `-`. */
 static void policy(struct request *request, struct shfl_reply *reply) {
-    static uint8_t room[2 * PROGRAM_MOST]; /* one thread comes here */
+    static uint8_t room[2 * SHFL_PROGRAM_MOST]; /* one thread comes here */
     struct shfl_programs it;
     uint64_t class_of;
     if (!number(request->words[3], 10, SHFL_CLASSES - 1, &class_of)) return fail(reply, EINVAL, "no class");

@@ -1,4 +1,4 @@
-/* What the environment asks of the process's arena, and the memory of C beside it. */
+/* What the environment asks of the process's arenas, and the memory of C beside them. */
 #include <stdlib.h>
 #include <string.h>
 #include <sys/mman.h>
@@ -20,44 +20,94 @@ static bool is_form_asked(uint8_t *form) {
     return parks || !text || !*text || strcmp(text, "rw") == 0;
 }
 
+/* As many arenas as have no more than so many locks together; at least one. */
+static bool are_arenas_asked(struct shfl_process *all) {
+    uint32_t most = told("SHFL_ARENAS", SHFL_ARENAS_USUAL);
+    all->arena_locks = told("SHFL_LOCKS", SHFL_LOCKS_USUAL);
+    if (most < 1 || most > SHFL_ARENAS_MOST || all->arena_locks < 1 || all->arena_locks > SHFL_LOCKS_MOST) return false;
+    uint32_t fit = SHFL_LOCKS_MOST / all->arena_locks;
+    all->arena_most = most < fit ? most : fit;
+    return true;
+}
+
 bool shfl_asked_for(struct shfl_process *all) {
     uint32_t limit = told("SHFL_LIMIT", SHFL_LIMIT_USUAL);
-    all->lock_count = told("SHFL_LOCKS", SHFL_LOCKS_USUAL);
     all->thread_count = told("SHFL_THREADS", SHFL_THREADS_USUAL);
     all->limit = (uint16_t)limit;
     bool is_in_range = limit >= 1 && limit <= 1024 && all->thread_count >= 1 && all->thread_count <= SHFL_MOST_THREADS;
-    return is_form_asked(&all->form) && is_in_range && all->lock_count >= 1 && all->lock_count <= 1u << 24;
+    return is_form_asked(&all->form) && is_in_range && are_arenas_asked(all);
+}
+
+static void *map_as(size_t size, int rights) {
+    void *at = mmap(NULL, size, rights, MAP_PRIVATE | MAP_ANONYMOUS | MAP_NORESERVE, -1, 0);
+    return at == MAP_FAILED ? NULL : at;
+}
+
+/* Where threads meet here, those who look for races need not look. */
+void *shfl_map(size_t size) {
+    void *at = map_as(size, PROT_READ | PROT_WRITE);
+    if (at) shfl_races_own(at, size);
+    return at;
+}
+
+void shfl_unmap(void *at, size_t size) {
+    if (at) munmap(at, size);
+}
+
+static size_t locks_most(const struct shfl_process *all) { return (size_t)all->arena_most * all->arena_locks; }
+
+static void free_lock_room(struct shfl_process *all) {
+    shfl_unmap(all->parkings, locks_most(all) * sizeof *all->parkings);
+    shfl_unmap(all->totals, locks_most(all) * sizeof *all->totals);
+    shfl_unmap(all->lock_waits, locks_most(all) * sizeof *all->lock_waits);
+    all->parkings = NULL;
+    all->totals = NULL;
+    all->lock_waits = NULL;
+}
+
+/* Addresses for the locks of all arenas that may be, one behind the other; memory comes with each arena. */
+static bool name_lock_room(struct shfl_process *all) {
+    all->parkings = map_as(locks_most(all) * sizeof *all->parkings, PROT_NONE);
+    all->totals = map_as(locks_most(all) * sizeof *all->totals, PROT_NONE);
+    all->lock_waits = map_as(locks_most(all) * sizeof *all->lock_waits, PROT_NONE);
+    if (all->parkings && all->totals && all->lock_waits) return true;
+    free_lock_room(all);
+    return false;
+}
+
+static bool open_map(void *at, size_t size) {
+    size_t page = (size_t)sysconf(_SC_PAGESIZE);
+    shfl_races_own(at, size);
+    return mprotect(at, (size + page - 1) / page * page, PROT_READ | PROT_WRITE) == 0;
+}
+
+bool shfl_open_room(struct shfl_process *all, uint32_t arenas) {
+    size_t locks = (size_t)arenas * all->arena_locks;
+    return open_map(all->parkings, locks * sizeof *all->parkings) && open_map(all->totals, locks * sizeof *all->totals) &&
+           open_map(all->lock_waits, locks * sizeof *all->lock_waits);
 }
 
 void shfl_free_room(struct shfl_process *all) {
     free(all->threads);
-    free(all->parkings);
-    free(all->totals);
+    all->threads = NULL;
+    if (all->parkings) free_lock_room(all);
     shfl_free_waits(all);
-    if (all->counts) munmap(all->counts, all->thread_count * SHFL_COUNTED * sizeof *all->counts);
+    shfl_unmap(all->counts, all->thread_count * SHFL_COUNTED * sizeof *all->counts);
     all->counts = NULL;
 }
 
-/* The memory of C, zero: a page of it is taken where it is first used. */
+/* The memory of C, zero: a page of it is taken where it is first used. Where a process may not have so many addresses it has one arena. */
 bool shfl_make_room(struct shfl_process *all) {
     size_t size = all->thread_count * sizeof(struct shfl_thread);
     if (posix_memalign((void **)&all->threads, 128, size)) all->threads = NULL;
     else memset(all->threads, 0, size);
-    all->parkings = calloc((size_t)all->lock_count + 1, sizeof(struct shfl_parking));
-    all->totals = calloc((size_t)all->lock_count + 1, sizeof(struct shfl_total));
-    size = all->thread_count * SHFL_COUNTED * sizeof *all->counts;
-    void *counts = mmap(NULL, size, PROT_READ | PROT_WRITE, MAP_PRIVATE | MAP_ANONYMOUS | MAP_NORESERVE, -1, 0);
-    all->counts = counts == MAP_FAILED ? NULL : counts;
+    if (all->threads) shfl_races_own(all->threads, size);
+    bool locks = name_lock_room(all);
+    if (!locks) all->arena_most = 1;
+    locks = (locks || name_lock_room(all)) && shfl_open_room(all, 1);
+    all->counts = shfl_map(all->thread_count * SHFL_COUNTED * sizeof *all->counts);
     bool waits = shfl_make_waits(all);
-    if (all->threads && all->parkings && all->totals && all->counts && waits) return true;
+    if (all->threads && locks && all->counts && waits) return true;
     shfl_free_room(all);
     return false;
-}
-
-/* Where threads meet here, those who look for races need not look. */
-void shfl_own_room(struct shfl_process *all) {
-    shfl_races_own(all->threads, all->thread_count * sizeof *all->threads);
-    shfl_races_own(all->parkings, ((size_t)all->lock_count + 1) * sizeof *all->parkings);
-    shfl_races_own(all->totals, ((size_t)all->lock_count + 1) * sizeof *all->totals);
-    shfl_races_own(all->counts, all->thread_count * SHFL_COUNTED * sizeof *all->counts);
 }

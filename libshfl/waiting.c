@@ -10,7 +10,7 @@
  * step; and a sleeper looks by itself after a tenth of a second.
  */
 #include <sched.h>
-#include "inside.h"
+#include "arenas.h"
 
 /* For how long a thread tries before it sleeps, and again when it was woken; after how many attempts it queues at the latest. */
 #define TRYING_NS 20000
@@ -28,6 +28,7 @@ struct waiter {
     struct shfl_thread *me;
     struct shfl_parking *parking;
     struct shfl_class *its;
+    struct shfl_place at; /* in the lock's arena */
     uint32_t lock;
     uint32_t tries; /* that are left */
     uint32_t holds; /* as the parking counted them when it came */
@@ -37,7 +38,7 @@ struct waiter {
 
 static struct waiter waiter_of(struct shfl_thread *me, uint32_t lock, bool shared, struct shfl_class *its) {
     struct shfl_parking *parking = shfl_parking_of(lock);
-    return (struct waiter){me, parking, its, lock, TRIES, shfl_load(&parking->holds), shared, false};
+    return (struct waiter){me, parking, its, shfl_place_of(me, lock), lock, TRIES, shfl_load(&parking->holds), shared, false};
 }
 
 static void go_inside(struct waiter *waiter) {
@@ -52,7 +53,7 @@ static void leave_inside(struct waiter *waiter) {
 
 static bool try_once(struct waiter *waiter) {
     if (waiter->tries > 0) waiter->tries--;
-    return shfl_seat_attempt(&waiter->me->seat, waiter->lock, waiter->shared) == SHFL_DONE;
+    return shfl_seat_attempt(waiter->at.seat, waiter->at.lock, waiter->shared) == SHFL_DONE;
 }
 
 /* Tries with pauses that grow, so that many who try leave the lock word to who holds. */
@@ -165,7 +166,7 @@ static void pause_looking(struct waiter *waiter, struct looks *looks, bool for_t
     }
     if (alone) looks->rounds++;
     bool awake = stays_awake(looks, alone);
-    if (!for_turn && (first || !awake)) shfl_seat_disable_stealing(&waiter->me->seat, waiter->lock);
+    if (!for_turn && (first || !awake)) shfl_seat_disable_stealing(waiter->at.seat, waiter->at.lock);
     if (!awake) sleep_or_announce(looks, alone || !for_turn);
 }
 
@@ -194,13 +195,13 @@ static void call(const struct shfl_watch *watch, struct calls *calls) {
 
 /* Steps until the seat holds the lock and has no step to make. It has begun to take it. */
 static void drive(struct waiter *waiter) {
-    struct shfl_seat *seat = &waiter->me->seat;
+    struct shfl_seat *seat = waiter->at.seat;
     struct looks looks = {NULL, 0, 0, 0, false};
     struct calls calls = {false, 0};
     struct shfl_watch watch = shfl_seat_watch(seat);
     for (;;) {
         bool asks = waiter->me->in_round || shfl_load(&waiter->its->attached);
-        bool choice = asks && shfl_answer(waiter->me, waiter->lock, waiter->its);
+        bool choice = asks && shfl_answer(waiter->me, seat, waiter->lock, waiter->its);
         uint8_t came = shfl_seat_step(seat, choice);
         if (came == SHFL_RESTS) break;
         if (came == SHFL_LOOKS_AGAIN) {
@@ -219,17 +220,19 @@ static void drive(struct waiter *waiter) {
     if (shfl_load(&waiter->me->asleep)) shfl_store(&waiter->me->asleep, 0);
 }
 
+/* In an arena behind the first one its seat may not have heard yet of the thread's attributes. */
 static int wait_in_queue(struct waiter *waiter) {
     struct shfl_parking *parking = waiter->parking;
+    struct shfl_seat *seat = waiter->at.seat;
+    if (seat != &waiter->me->seat) shfl_seat_set_attr(seat, waiter->me->attr);
     go_inside(waiter);
     shfl_more(&shfl_counts_of(waiter->me, waiter->lock)->queued, 1);
     shfl_happens(waiter->me, waiter->lock, SHFL_QUEUES);
     __atomic_fetch_add(&parking->queued, 1, __ATOMIC_SEQ_CST);
-    uint8_t answer = shfl_seat_acquire(&waiter->me->seat, waiter->lock, waiter->shared);
+    uint8_t answer = shfl_seat_acquire(seat, waiter->at.lock, waiter->shared);
     if (answer == SHFL_DONE) {
         /* the count of a reader goes up, and down again where that was in vain: the queue's head may have looked meanwhile */
-        if (waiter->shared && shfl_seat_step(&waiter->me->seat, false) && shfl_seat_step(&waiter->me->seat, false))
-            shfl_ring(&parking->head_asleep);
+        if (waiter->shared && shfl_seat_step(seat, false) && shfl_seat_step(seat, false)) shfl_ring(&parking->head_asleep);
         drive(waiter);
     }
     __atomic_fetch_sub(&parking->queued, 1, __ATOMIC_SEQ_CST);

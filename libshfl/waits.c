@@ -1,34 +1,19 @@
 /* How long calls waited at a lock, by powers of two, and who waited for it first. Only who has waited comes here: each thread writes at a
  * place of its own, beside its counts (counts.c), and what it gives over is added to the lock's. The memory is mapped and never written
  * where nobody waits. */
-#include <string.h>
-#include <sys/mman.h>
 #include "inside.h"
-#include "races.h"
 
-static void *map(size_t count) {
-    void *at = mmap(NULL, count * sizeof(struct shfl_waits), PROT_READ | PROT_WRITE, MAP_PRIVATE | MAP_ANONYMOUS | MAP_NORESERVE, -1, 0);
-    if (at == MAP_FAILED) return NULL;
-    shfl_races_own(at, count * sizeof(struct shfl_waits));
-    return at;
-}
+static size_t size_of(const struct shfl_process *all) { return (size_t)all->thread_count * SHFL_COUNTED * sizeof *all->waits; }
 
-static void unmap(struct shfl_waits *at, size_t count) {
-    if (at) munmap(at, count * sizeof *at);
-}
-
-static size_t places(const struct shfl_process *all) { return (size_t)all->thread_count * SHFL_COUNTED; }
-
+/* Of threads; of locks they stand beside the totals (room.c). */
 bool shfl_make_waits(struct shfl_process *all) {
-    all->waits = map(places(all));
-    all->lock_waits = map((size_t)all->lock_count + 1);
-    return all->waits && all->lock_waits;
+    all->waits = shfl_map(size_of(all));
+    return all->waits != NULL;
 }
 
 void shfl_free_waits(struct shfl_process *all) {
-    unmap(all->waits, places(all));
-    unmap(all->lock_waits, (size_t)all->lock_count + 1);
-    all->waits = all->lock_waits = NULL;
+    shfl_unmap(all->waits, size_of(all));
+    all->waits = NULL;
 }
 
 /* The waits that belong to what a thread counted. */

@@ -36,7 +36,7 @@ awk '/^```c/ { code = 1; next } /^```/ { code = 0 } code' "$top/docs/LIBSHFL.md"
 "$cc" -I "$room/prefix/include" "$room/program.c" "$room/prefix/lib/libshfl.a" -lpthread -o "$room/static" || exit 1
 [ "$("$room/static")" = 400000 ] || complain "the document's program, static"
 
-for name in posix storm counts; do
+for name in posix arguments storm counts; do
     "$cc" -std=gnu11 -O2 -g -Wall -Wextra -Werror "$top/tests/libshfl/$name.c" "${words[@]}" -o "$room/$name" || exit 1
 done
 run "calls" "$room/posix"
@@ -51,10 +51,20 @@ fi
 
 # an arena that is too small, and one that can't be
 "$cc" -std=gnu11 -O2 -Wall -Wextra -Werror "$top/tests/libshfl/room.c" "${words[@]}" -o "$room/room" || exit 1
-run "room" env SHFL_LOCKS=3 SHFL_THREADS=2 "$room/room" full
+run "room" env SHFL_LOCKS=3 SHFL_THREADS=2 SHFL_ARENAS=1 "$room/room" full
 run "room" env SHFL_LOCKS=0 "$room/room" refused
-for asked in SHFL_THREADS=65535 SHFL_FORM=spin SHFL_FORM=park SHFL_LIMIT=0 SHFL_LIMIT=1025; do run "room, $asked" env "$asked" "$room/room" refused; done
-run "room, another form" env SHFL_FORM=rw-park SHFL_LIMIT=1 SHFL_LOCKS=3 SHFL_THREADS=2 "$room/room" full
+for asked in SHFL_ARENAS=0 SHFL_ARENAS=257 SHFL_THREADS=65535 SHFL_FORM=spin SHFL_FORM=park SHFL_LIMIT=0 SHFL_LIMIT=1025; do run "room, $asked" env "$asked" "$room/room" refused; done
+run "room, another form" env SHFL_FORM=rw-park SHFL_LIMIT=1 SHFL_LOCKS=3 SHFL_THREADS=2 SHFL_ARENAS=1 "$room/room" full
+
+# more locks than the first arena has: the same calls, counts and storms where every lock, or every eighth, has an arena of its own
+"$cc" -std=gnu11 -O2 -g -Wall -Wextra -Werror "$top/tests/libshfl/growth.c" "${words[@]}" -o "$room/growth" || exit 1
+run "growth" "$room/growth" many
+run "growth that is bounded" env SHFL_LOCKS=3 SHFL_ARENAS=2 SHFL_THREADS=8 "$room/growth" bounded
+run "growth without memory" env SHFL_LOCKS=1024 "$room/growth" memory
+for form in rw rw-park; do run "growth, $form" env SHFL_FORM="$form" SHFL_LOCKS=1 SHFL_THREADS=16 "$room/growth" further; done
+run "growth, calls" env SHFL_LOCKS=1 SHFL_THREADS=16 SHFL_ARENAS=32 "$room/posix"
+run "growth, counts" env SHFL_LOCKS=7 SHFL_THREADS=16 SHFL_ARENAS=64 "$room/counts"
+run "growth, storm" env SHFL_LOCKS=1 SHFL_THREADS=70 "$room/storm" 64 "$((rounds / 4))" 120
 
 # unmodified programs, by themselves and under the preload library
 shown="$(nm -D --defined-only "$room/prefix/lib/libshfl_preload.so" | awk '$3 !~ /^(__)?pthread_(mutex|rwlock|cond)_/')"
@@ -74,7 +84,9 @@ if command -v c++ >/dev/null; then
     c++ -std=c++17 -O2 -Wall -Wextra -Werror "$top/tests/libshfl/standard.cpp" -pthread -o "$room/standard" && run "libc's locks in C++" "$room/standard" &&
         run "preloaded C++" env LD_PRELOAD="$preload" "$room/standard" || failed=1
 fi
-for locks in 8 0; do run "preloaded with $locks locks" env SHFL_LOCKS="$locks" LD_PRELOAD="$preload" "$room/pthreads"; done
+for locks in 8 0; do run "preloaded with $locks locks" env SHFL_LOCKS="$locks" SHFL_ARENAS=1 LD_PRELOAD="$preload" "$room/pthreads"; done
+run "preloaded with an arena for each lock" env SHFL_LOCKS=1 SHFL_THREADS=128 SHFL_ARENAS=256 LD_PRELOAD="$preload" "$room/pthreads" preloaded
+run "preloaded with an arena for each lock" env SHFL_LOCKS=1 SHFL_THREADS=128 SHFL_ARENAS=256 LD_PRELOAD="$preload" "$room/conditions" "$((rounds / 8))" preloaded
 run "preloaded with four seats" env SHFL_THREADS=4 LD_PRELOAD="$preload" "$room/pthreads" preloaded
 
 # misuse ends a program of the checked build with a message
@@ -116,7 +128,7 @@ fi
 export LD_LIBRARY_PATH="$room/prefix/lib"
 
 CFLAGS="-O1 -g -fsanitize=address,undefined" "$top/libshfl/install" "$room/prefixsan" >"$room/got" 2>&1 || complain "install with checks: $(tail -n 5 "$room/got")"
-for name in posix storm counts; do
+for name in posix arguments storm counts; do
     "$cc" -std=gnu11 -O1 -g -fsanitize=address,undefined -I "$room/prefixsan/include" "$top/tests/libshfl/$name.c" -L "$room/prefixsan/lib" \
         -lshfl -pthread -o "$room/$name.san" || exit 1
 done

@@ -29,8 +29,10 @@ typedef struct shfl_cond { uint32_t signals, waiting, words[2]; } shfl_cond_t;
 /* Classes of locks, 0 to 63; zero bytes are of class 0. */
 #define SHFL_CLASSES 64
 
-/* Any call that takes a lock may answer EAGAIN: there are SHFL_LOCKS locks in use (65,536, or what the environment says) or SHFL_THREADS
- * threads (4,096); ENOMEM; or EINVAL: the environment asks for an arena that can't be. */
+/* Any call that takes a lock may answer EAGAIN: there are SHFL_ARENAS (16, or what the environment says) times SHFL_LOCKS (65,536) locks in
+ * use, or SHFL_THREADS (4,096) threads; ENOMEM; or EINVAL: the environment asks for an arena that can't be. A null
+ * pointer to a lock, condition variable, deadline or result is EINVAL too, but for the calls that only take a lock or give it back, which
+ * don't look: such a call ends the process. */
 
 int shfl_mutex_init(shfl_mutex_t *mutex, unsigned class_of); /* EINVAL: no such class */
 int shfl_mutex_lock(shfl_mutex_t *mutex); /* EDEADLK: this thread has it */

@@ -46,11 +46,13 @@ bool shfl_adopt(uint32_t *word);
 int shfl_take_at_last(uint32_t *word, bool shared, int error, const void *caller);
 int shfl_take_until_at_last(uint32_t *word, bool shared, clockid_t clock, const struct timespec *deadline, const void *caller);
 
+/* Whether the lock with this number word has a number of the library's, and this thread a seat. */
+SHFL_IN_LINE bool shfl_has_number(uint32_t *word) { return __atomic_load_n(word, __ATOMIC_ACQUIRE) - 1 < SHFL_LIBC - 1 && shfl_me != NULL; }
+
 /* Whether the lock with this number word is the library's. Then it has a number, and this thread a seat. */
 static inline bool shfl_is_ours(uint32_t *word) {
-    uint32_t number = __atomic_load_n(word, __ATOMIC_ACQUIRE);
-    if (SHFL_LIKELY(number - 1 < SHFL_LIBC - 1 && shfl_me != NULL)) return true;
-    return number != SHFL_LIBC && shfl_adopt(word);
+    if (SHFL_LIKELY(shfl_has_number(word))) return true;
+    return __atomic_load_n(word, __ATOMIC_ACQUIRE) != SHFL_LIBC && shfl_adopt(word);
 }
 
 static inline bool shfl_is_time(const struct timespec *t) { return t && t->tv_nsec >= 0 && t->tv_nsec <= 999999999; }

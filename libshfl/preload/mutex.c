@@ -17,6 +17,12 @@ static int type_of(pthread_mutex_t *m) { return m->__data.__kind & TYPES; }
 static bool is_recursive(pthread_mutex_t *m) { return type_of(m) == PTHREAD_MUTEX_RECURSIVE_NP; }
 static bool is_other_kind(pthread_mutex_t *m) { return m->__data.__kind & (ROBUST | INHERITS | PROTECTS | PROCESS_SHARED); }
 
+/* Neither of another kind, nor recursive, nor error-checking: of the types 0 and 3, normal and adaptive, 1 and 2 are these. */
+static inline bool is_plain(pthread_mutex_t *m) {
+    int kind = m->__data.__kind;
+    return (((kind + 1) & 2) | (kind & (ROBUST | INHERITS | PROTECTS | PROCESS_SHARED))) == 0;
+}
+
 static inline bool is_ours(pthread_mutex_t *m) { return SHFL_LIKELY(!is_other_kind(m)) && shfl_is_ours(word_of(m)); }
 
 bool shfl_is_libcs_mutex(pthread_mutex_t *m) { return !is_ours(m); }
@@ -58,7 +64,8 @@ static SHFL_COLD int not_at_once(pthread_mutex_t *m, int error, const void *call
     return taken(m, shfl_take_at_last(word_of(m), false, error, caller));
 }
 
-static inline int lock_from(pthread_mutex_t *m, const void *caller) {
+/* One that isn't plain, and a plain one at its first use. */
+static __attribute__((noinline)) int lock_other(pthread_mutex_t *m, const void *caller) {
     int error;
     if (!is_ours(m)) return shfl_libc()->mutex_lock(m);
     if (takes_again(m, &error)) return error;
@@ -66,8 +73,14 @@ static inline int lock_from(pthread_mutex_t *m, const void *caller) {
     return SHFL_LIKELY(!error) ? taken(m, 0) : not_at_once(m, error, caller);
 }
 
-int pthread_mutex_lock(pthread_mutex_t *m) { return lock_from(m, __builtin_return_address(0)); }
-int shfl_lock_again(pthread_mutex_t *m, const void *caller) { return lock_from(m, caller); }
+/* A plain one that is the library's is what most calls take. */
+int pthread_mutex_lock(pthread_mutex_t *m) {
+    if (!SHFL_LIKELY(is_plain(m) && shfl_has_number(word_of(m)))) return lock_other(m, __builtin_return_address(0));
+    int error = shfl_take(word_of(m), false);
+    return SHFL_LIKELY(!error) ? 0 : not_at_once(m, error, __builtin_return_address(0));
+}
+
+int shfl_lock_again(pthread_mutex_t *m, const void *caller) { return lock_other(m, caller); }
 
 int pthread_mutex_trylock(pthread_mutex_t *m) {
     int error;
@@ -105,9 +118,16 @@ static int give_back(pthread_mutex_t *m) {
     return shfl_give_back(word_of(m));
 }
 
-int pthread_mutex_unlock(pthread_mutex_t *m) {
+static __attribute__((noinline)) int unlock_other(pthread_mutex_t *m) {
     bool libcs = is_other_kind(m) || __atomic_load_n(word_of(m), __ATOMIC_ACQUIRE) == SHFL_LIBC;
-    return SHFL_LIKELY(!libcs) ? give_back(m) : shfl_libc()->mutex_unlock(m);
+    return libcs ? shfl_libc()->mutex_unlock(m) : give_back(m);
+}
+
+/* One that is libc's is refused by the library, as any that this thread doesn't have. */
+int pthread_mutex_unlock(pthread_mutex_t *m) {
+    if (!SHFL_LIKELY(is_plain(m))) return unlock_other(m);
+    int error = shfl_give_back(word_of(m));
+    return SHFL_LIKELY(!error) ? 0 : unlock_other(m);
 }
 
 /* As with libc's, a destroyed mutex is of no kind, and then each call answers EINVAL. */

@@ -1,0 +1,33 @@
+/* One arena more. What is proved of an arena is proved of each; that a lock's number names one place in one arena is this file's. */
+#include <stdlib.h>
+#include "arenas.h"
+#include "races.h"
+
+static void seat_threads(struct shfl_desk *desks, const struct shfl_seat *seats) {
+    for (uint32_t k = 0; k < shfl_process.thread_count; k++) desks[k].seat = seats[k];
+}
+
+static int open_one(struct shfl_process *all, struct shfl_seat *seats, struct shfl_desk *desks) {
+    if (!shfl_open_room(all, all->arena_count + 1)) return ENOMEM;
+    uint8_t answer = shfl_seats_open(all->arena_locks, false, all->form, all->limit, seats, all->thread_count);
+    if (answer != SHFL_DONE) return ENOMEM;
+    seat_threads(desks, seats);
+    all->desks[all->arena_count] = desks;
+    shfl_store(&all->arena_count, all->arena_count + 1);
+    shfl_store(&all->lock_count, all->lock_count + all->arena_locks);
+    return 0;
+}
+
+SHFL_COLD int shfl_grow(void) {
+    struct shfl_process *all = &shfl_process;
+    if (all->arena_count == all->arena_most) return EAGAIN;
+    int before = errno;
+    size_t size = all->thread_count * sizeof(struct shfl_desk);
+    struct shfl_seat *seats = calloc(all->thread_count, sizeof *seats);
+    struct shfl_desk *desks = shfl_map(size);
+    int error = seats && desks ? open_one(all, seats, desks) : ENOMEM;
+    if (error) shfl_unmap(desks, size);
+    free(seats);
+    errno = before;
+    return error;
+}
