@@ -7,14 +7,13 @@ KINDS = ("proofs", "tests", "edits", "rest")
 
 
 def processes():
-    """Each process: its parent, its name, and the processor time that it has taken, in ticks."""
+    """Each process: its parent, when it was started, and the processor time that it and the children that it has waited for took, in ticks."""
     found = {}
     for pid in filter(str.isdigit, os.listdir("/proc")):
         try:
             with open(f"/proc/{pid}/stat", encoding="utf-8", errors="replace") as file:
-                head, _, rest = file.read().rpartition(")")
-            fields = rest.split()
-            found[int(pid)] = (int(fields[1]), head.partition("(")[2], int(fields[11]) + int(fields[12]))
+                fields = file.read().rpartition(")")[2].split()
+            found[int(pid)] = (int(fields[1]), int(fields[19]), sum(map(int, fields[11:15])))
         except (OSError, IndexError, ValueError):
             # (it has ended meanwhile)
             pass
@@ -38,24 +37,34 @@ def what_for(pid):
 
 
 def watch(root):
-    """Seconds by kind and crate of all that runs below the process `root`, until it ends."""
-    last, kinds = {}, {}
+    """Seconds by kind and crate of all that runs below the process `root`, until it ends. What a prover starts counts as the prover's. A number
+    of a process is given again after some ten thousand, so a process is told by its start too."""
+    kinds, took, whole = {}, collections.Counter(), 0
     while True:
         now = processes()
         if root not in now:
             break
-        below = {root}
-        # (a child may have a smaller number than its parent)
-        for _ in range(6):
-            below |= {pid for pid, it in now.items() if it[0] in below}
-        for pid in below:
-            if pid not in kinds or kinds[pid] is None:
-                kinds[pid] = what_for(pid)
-            last[pid] = now[pid][2]
-        time.sleep(0.25)
+        children = collections.defaultdict(list)
+        for pid, it in now.items():
+            children[it[0]].append(pid)
+
+        def ticks(pid):
+            return now[pid][2] + sum(map(ticks, children[pid]))
+
+        whole, left = ticks(root), [root]
+        while left:
+            pid = left.pop()
+            who = pid, now[pid][1]
+            kinds[who] = kinds.get(who) or what_for(pid)
+            if kinds[who]:
+                took[who] = max(took[who], ticks(pid))
+            else:
+                left += children[pid]
+        time.sleep(0.1)
     sums = collections.Counter()
-    for pid, ticks in last.items():
-        sums[kinds[pid] or ("rest", "-")] += ticks / TICK
+    for who, most in took.items():
+        sums[kinds[who]] += most / TICK
+    sums["rest", "the rest"] = whole / TICK - sum(sums.values())
     return sums
 
 
