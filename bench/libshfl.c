@@ -15,7 +15,7 @@
 #include <string.h>
 #include <sys/resource.h>
 
-enum { LINE = 128, MOST_THREADS = 64, RUNS = 300, ROUNDS = 10000 };
+enum { LINE = 128, MOST_THREADS = 256, RUNS = 300, ROUNDS = 10000 };
 static _Alignas(LINE) shfl_mutex_t ours;
 static _Alignas(LINE) shfl_rwlock_t ours_shared;
 static _Alignas(LINE) pthread_mutex_t mutex = PTHREAD_MUTEX_INITIALIZER;

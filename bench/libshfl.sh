@@ -1,9 +1,10 @@
 #!/usr/bin/env bash
 # libshfl's locks beside pthread's, in turn (bench/libshfl.c): a free lock's lock and unlock, the best and the median of short runs; and holds a
-# second by 4 and 16 threads, holds of 0, 0.1, 1 and 10 microseconds and as long between two, with the longest wait, Jain's index and the
-# processors used. The median and the worst of the rounds. Words: libshfl.sh [ROUNDS [PART ..]]; a part is free, 4 (threads), 16, and these three
-# where none is given; or instructions, how many valgrind counts in a free lock's lock and unlock, with the loop around them. 5 rounds where none are
-# said. With LIBSHFL_PREFIX set what libshfl/install put there is timed; else it is built first.
+# second by 4, 16 and 256 threads, holds of 0, 0.1, 1 and 10 microseconds and as long between two, with the longest wait, Jain's index and the
+# processors used. And a million locks drawn at random by one thread and by four, with what a lock takes of memory (bench/many.c). The median and
+# the worst of the rounds. Words: libshfl.sh [ROUNDS [PART ..]]; a part is free, 4 (threads), 16, and these three where none is given; 256, many; or
+# instructions, how many valgrind counts in a free lock's lock and unlock, with the loop around them. 5 rounds where none are said. With
+# LIBSHFL_PREFIX set what libshfl/install put there is timed; else it is built first.
 set -u
 top="$(cd "$(dirname "$(readlink -f "${BASH_SOURCE[0]}")")/.." && pwd)"
 rounds="${1:-5}"
@@ -15,7 +16,9 @@ prefix="${LIBSHFL_PREFIX:-$room/prefix}"
 if [ -z "${LIBSHFL_PREFIX:-}" ]; then
     "$top/libshfl/install" "$prefix" >"$room/built" 2>&1 || { tail -n 20 "$room/built" >&2; exit 1; }
 fi
-"${CC:-cc}" -std=gnu11 -O2 -Wall -Wextra -I "$prefix/include" "$top/bench/libshfl.c" -L "$prefix/lib" -lshfl -pthread -o "$room/bench" || exit 1
+for name in libshfl many; do
+    "${CC:-cc}" -std=gnu11 -O2 -Wall -Wextra -I "$prefix/include" "$top/bench/$name.c" -L "$prefix/lib" -lshfl -pthread -o "$room/$name" || exit 1
+done
 export LD_LIBRARY_PATH="$prefix/lib"
 
 # the median and the worst of a column of numbers: the least is worst where the word is less, else the greatest
@@ -24,7 +27,7 @@ told() { sort -g "$1" | awk -v worst="$2" '{ at[NR] = $1 } END { print at[int((N
 alone() {
     local lock
     for ((k = 0; k < rounds; k++)); do
-        "$room/bench" free | while read -r lock best median; do echo "$best" >>"$room/free.$lock"; echo "$median" >>"$room/median.$lock"; done
+        "$room/libshfl" free | while read -r lock best median; do echo "$best" >>"$room/free.$lock"; echo "$median" >>"$room/median.$lock"; done
     done
     printf '%-14s %10s %10s %10s\n' 'free, ns' best median worst
     for lock in shfl mutex shfl-read rwlock-read; do
@@ -37,7 +40,7 @@ crowd() {
     printf '%-26s %12s %12s %12s %12s %6s   %s\n' "$threads threads, holds/s" shfl worst mutex worst ratio 'shfl: longest wait ms, Jain, processors; mutex'
     for hold in 0 100 1000 10000; do
         for ((k = 0; k < rounds; k++)); do
-            for lock in shfl mutex; do "$room/bench" crowd "$lock" "$threads" "$hold" "$hold" 300 >>"$room/$lock.$threads.$hold" || echo "status $?" >&2; done
+            for lock in shfl mutex; do "$room/libshfl" crowd "$lock" "$threads" "$hold" "$hold" 300 >>"$room/$lock.$threads.$hold" || echo "status $?" >&2; done
         done
         for lock in shfl mutex; do
             for column in 1 2 3 4; do awk -v c="$column" '{ print $c }' "$room/$lock.$threads.$hold" >"$room/$lock.$column"; done
@@ -59,10 +62,27 @@ instructions() {
     done
 }
 
+many() {
+    local threads lock column ours
+    printf '%-26s %12s %12s %12s %12s %6s   %s\n' '1,000,000 locks, pairs/s' shfl worst mutex worst ratio 'bytes a lock: shfl; mutex'
+    for threads in 1 4; do
+        for ((k = 0; k < rounds; k++)); do
+            for lock in shfl mutex; do "$room/many" "$lock" 1000000 "$threads" 1000 >>"$room/many.$lock.$threads" || echo "status $?" >&2; done
+        done
+        for lock in shfl mutex; do
+            for column in 1 2; do awk -v c="$column" '{ print $c }' "$room/many.$lock.$threads" >"$room/many.$lock.$column"; done
+        done
+        ours=($(told "$room/many.shfl.1" less) $(told "$room/many.mutex.1" less))
+        printf '%-26s %12s %12s %12s %12s %6s   %s; %s\n' "$threads threads" "${ours[@]}" "$(awk -v a="${ours[0]}" -v b="${ours[2]}" 'BEGIN { printf "%.2f", a / b }')" \
+            $(for lock in shfl mutex; do told "$room/many.$lock.2" more | cut -d ' ' -f 1; done)
+    done
+}
+
 for part in "${parts[@]}"; do
     case "$part" in
     free) alone ;;
-    4 | 16) crowd "$part" ;;
+    4 | 16 | 256) crowd "$part" ;;
+    many) many ;;
     instructions) instructions ;;
     *) echo "libshfl.sh: no part is called $part" >&2; exit 2 ;;
     esac

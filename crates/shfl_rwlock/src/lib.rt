@@ -4,6 +4,7 @@
 mod attempts;
 mod closing;
 mod guard;
+mod lender;
 mod locks;
 mod refusals;
 mod seat;
