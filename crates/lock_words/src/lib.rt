@@ -3,6 +3,8 @@
 
 mod forms;
 mod limits;
+mod lines;
 
 pub use forms::{form_name, form_named};
 pub use limits::batch_of;
+pub use lines::{behind, form_due, limit_due};

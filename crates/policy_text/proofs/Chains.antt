@@ -1,5 +1,6 @@
 -- What a chain of readings that gave a value shows.
 use Rattle.std.proofs.Common.{◌≡◌, ℕ, List, [], ◌∷◌, Bool, true, false, cond, Option, Some, None, Result, Ok, refl, ap}
+use Rattle.std.specs.Prelude.{OnSome}
 use Rattle.doc_text.specs.declared.fault.Fault.{Fault}
 use Rattle.doc_text.specs.Words.{two, four, five, one, ◌>>?◌}
 use Rattle.doc_text.specs.Faults.{fault}
@@ -19,6 +20,11 @@ unless-ok false line what r x h = (refl, h)
 
 pub some-same : {A : Type 0} (x y : A) → ◌≡◌ {A = Option A} (Some x) (Some y) → x ≡ y
 some-same x y h = cc
+
+-- what is said of an option that has a value
+pub ok_some : {X : Type 0} {P : Type 0} (o : Option X) (x : X) → o ≡ Some x → OnSome o P → P
+ok_some (Some y) x e h = h
+ok_some None x e h = cc
 
 pub ok-same : {A : Type 0} (x y : A) → ◌≡◌ {A = Result A Fault} (Ok x) (Ok y) → x ≡ y
 ok-same x y h = cc

@@ -5,3 +5,5 @@ pub mod Parts
 pub mod AttrLines
 pub mod HeadingLines
 pub mod ProgramWords
+pub mod LinesRead
+pub mod AttrSections

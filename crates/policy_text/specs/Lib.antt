@@ -3,3 +3,5 @@ pub mod Attributes
 pub mod Headings
 pub mod Programs
 pub mod Accepted
+pub mod Errors
+pub mod Sections

@@ -52,8 +52,9 @@ fn version_due<'a>(title: &[u8], bytes: &'a [u8]) -> Result<(u8, &'a [u8]), Faul
     Ok((version, rest))
 }
 
+/// The profile that the second line names, and the bytes behind it. A bad or missing line is the fault `what`.
 #[tactic(auto, unfolding(doc_text::specs::Faults::one_of))]
-fn profile_due(bytes: &[u8], what: u8) -> Result<(Profile, &[u8]), Fault>
+pub fn profile_due(bytes: &[u8], what: u8) -> Result<(Profile, &[u8]), Fault>
     ensures { Gives (λ x. (x.0, pieces x.1.now)) result
         (one_of 2 what profile_in (pieces bytes.now)) }
 {

@@ -3,14 +3,18 @@
 
 mod acceptance;
 mod attributes;
+mod document_error;
 mod error;
 mod heading;
 mod programs;
+mod sections;
 mod writing;
 
 pub use acceptance::accepts;
 pub use attributes::{attr_of, push_attr};
+pub use document_error::DocumentError;
 pub use error::NoMemory;
-pub use heading::{heading_of, push_heading, push_version};
+pub use heading::{heading_of, profile_due, push_heading, push_version};
 pub use programs::{push_program, source_of};
+pub use sections::{Section, attrs_of, begins};
 pub use writing::{push_number, push_word};

@@ -6,10 +6,11 @@ use Rattle.doc_text.specs.declared.fault.Fault.{Fault}
 use Rattle.doc_text.specs.Text.{BeginsOddly, BeginsWith}
 use Rattle.doc_text.proofs.Joining.{text_in-ended}
 use Rattle.doc_text.specs.Faults.{fault}
-use Rattle.sim_text.specs.declared.error.SetupError.{SetupError}
-use Rattle.sim_text.specs.declared.error.SetupError.TheVariants as errors
+use Rattle.policy_text.specs.declared.document_error.DocumentError.{DocumentError}
+use Rattle.policy_text.specs.declared.document_error.DocumentError.TheVariants as errors
 use Rattle.sim_text.specs.declared.setup.Rule.{Rule}
-use Rattle.sim_text.specs.Errors.{fault_of}
+use Rattle.policy_text.specs.Errors.{fault_of}
+use Rattle.sim_text.specs.declared.faults.TheConstants.{POLICY}
 use Rattle.sim_text.specs.Lines.{PolicyLine}
 use Rattle.sim_text.specs.Setups.{CandidateModel}
 use Rattle.sim_text.specs.Grammar.{policy_says, candidate, ReadsRule, ReadsPolicies}
@@ -42,18 +43,18 @@ module _ (profile : Profile) (before : List CandidateModel) (line : ℕ) (ps qs 
   reads-more policy rule read g accepted more = rw (e.1, text_in-ended t e.0, g) (Ok rule, accepted, more)
 
 -- an error of a policy line is one of the whole, unless it tells want of memory
-pub reads-error : (profile : Profile) (before : List CandidateModel) (line : ℕ) (ps qs : List (List ℕ)) (t : List ℕ) (e : BeginsWith t qs ps) (error : SetupError) (Whole : Policies → Type 0)
+pub reads-error : (profile : Profile) (before : List CandidateModel) (line : ℕ) (ps qs : List (List ℕ)) (t : List ℕ) (e : BeginsWith t qs ps) (error : DocumentError) (Whole : Policies → Type 0)
     → MatchOption (fault_of error) (Unit {0}) (λ f. policy_says before line t ≡ Err f) → ((read : Policies) → ReadsPolicies profile before line ps read → Whole read) → MatchOption (fault_of error) (Unit {0}) (λ f. Whole (Err f))
 reads-error profile before line ps qs t e (errors.Format at what) Whole g through = through (fault at what) (reads-bad profile before line ps qs t e (record { line = at; what = what }) g)
 reads-error profile before line ps qs t e errors.NoMemory Whole g through = tt
 
 -- so is one of its programs
-pub rule-error : (profile : Profile) (before : List CandidateModel) (line : ℕ) (ps qs : List (List ℕ)) (t : List ℕ) (e : BeginsWith t qs ps) (policy : PolicyLine) (error : SetupError) (Whole : Policies → Type 0)
+pub rule-error : (profile : Profile) (before : List CandidateModel) (line : ℕ) (ps qs : List (List ℕ)) (t : List ℕ) (e : BeginsWith t qs ps) (policy : PolicyLine) (error : DocumentError) (Whole : Policies → Type 0)
     → policy_says before line t ≡ Ok (Some policy) → MatchOption (fault_of error) (Unit {0}) (λ f. ReadsRule profile line policy.rule (Err f))
     → ((read : Policies) → ReadsPolicies profile before line ps read → Whole read) → MatchOption (fault_of error) (Unit {0}) (λ f. Whole (Err f))
 rule-error profile before line ps qs t e policy (errors.Format at what) Whole g h through = through (fault at what) (reads-refused profile before line ps qs t e policy (record { line = at; what = what }) g h)
 rule-error profile before line ps qs t e policy errors.NoMemory Whole g h through = tt
 
-pub reads-none : (profile : Profile) (before : List CandidateModel) (line : ℕ) (ps : List (List ℕ)) → ps ≡ [] → ReadsPolicies profile before line ps (fault line 11)
+pub reads-none : (profile : Profile) (before : List CandidateModel) (line : ℕ) (ps : List (List ℕ)) → ps ≡ [] → ReadsPolicies profile before line ps (fault line POLICY)
 unfolding ReadsPolicies
 reads-none profile before line ps e = rw e refl

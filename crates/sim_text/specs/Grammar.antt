@@ -7,29 +7,32 @@ use Rattle.shfl_policy.specs.Loading.{IsLoaded}
 use Rattle.shfl_policy.specs.Policies.{PolicyModel}
 use Rattle.doc_text.specs.declared.fault.Fault.{Fault}
 use Rattle.doc_text.specs.Text.{pieces, text_in}
-use Rattle.doc_text.specs.Words.{words, same}
-use Rattle.doc_text.specs.Faults.{fault, ◌>>=◌, or_fault, one_of, fixed_due, section_from, Then}
-use Rattle.policy_text.specs.Attributes.{attr_in}
+use Rattle.doc_text.specs.Words.{words}
+use Rattle.doc_text.specs.Faults.{fault, ◌>>=◌, or_fault, one_of, fixed_due, Then}
+use Rattle.lock_words.specs.Lines.{form_in, limit_in}
+use Rattle.policy_text.specs.Headings.{profile_in}
+use Rattle.policy_text.specs.Sections.{SectionModel, begins, attrs_in}
+use Rattle.sim_text.specs.declared.faults.TheConstants.{TITLE, PROFILE, FORM, LIMIT, LAYOUT, COSTS, WORK, UNTIL, SEEDS, POLICY, POLICIES, PROGRAM, PASS, OVER}
 use Rattle.sim_text.specs.declared.setup.Machine.{Machine}
 use Rattle.sim_text.specs.declared.setup.Load.{Load}
 use Rattle.sim_text.specs.declared.setup.Rule.{Rule}
 use Rattle.sim_text.specs.declared.setup.Rule.TheVariants as rules
 use Rattle.sim_text.specs.declared.policies.RuleLine.{RuleLine}
 use Rattle.sim_text.specs.declared.policies.RuleLine.TheVariants as said
-use Rattle.sim_text.specs.Lines.{profile_in, form_in, limit_in, layout_in, costs_in, work_in, until_in, seeds_in, begins, PolicyLine, policy_in}
+use Rattle.sim_text.specs.Lines.{layout_in, costs_in, work_in, until_in, seeds_in, PolicyLine, policy_in}
 use Rattle.sim_text.specs.Setups.{CandidateModel, SetupModel}
 
 -- ---- the lines up to the policies
 
 -- The title, the profile, the form, the limit, the layout and the costs: faults 2 to 7 in this order.
 unfoldable pub machine_in : List (List ℕ) → Result (Machine × List (List ℕ)) Fault
-machine_in ps = fixed_due 1 2 (codes "syncord-sim 1") ps >>= λ ps. one_of 2 3 profile_in ps >>= λ profile. one_of 3 4 form_in profile.1 >>= λ form.
-    one_of 4 5 limit_in form.1 >>= λ limit. one_of 5 6 layout_in limit.1 >>= λ layout. one_of 6 7 costs_in layout.1 >>= λ costs.
+machine_in ps = fixed_due 1 TITLE (codes "syncord-sim 1") ps >>= λ ps. one_of 2 PROFILE profile_in ps >>= λ profile. one_of 3 FORM form_in profile.1 >>= λ form.
+    one_of 4 LIMIT limit_in form.1 >>= λ limit. one_of 5 LAYOUT layout_in limit.1 >>= λ layout. one_of 6 COSTS costs_in layout.1 >>= λ costs.
     Ok (record { profile = profile.0; form = form.0; limit = limit.0; layout = layout.0; costs = costs.0 }, costs.1)
 
 -- The work, the end and the seeds: faults 8 to 10.
 unfoldable pub load_in : List (List ℕ) → Result (Load × List (List ℕ)) Fault
-load_in ps = one_of 7 8 work_in ps >>= λ work. one_of 8 9 until_in work.1 >>= λ until. one_of 9 10 seeds_in until.1 >>= λ seeds.
+load_in ps = one_of 7 WORK work_in ps >>= λ work. one_of 8 UNTIL until_in work.1 >>= λ until. one_of 9 SEEDS seeds_in until.1 >>= λ seeds.
     Ok (record { work = work.0; until = until.0.0; turns = until.0.1; seeds = seeds.0 }, seeds.1)
 
 -- ---- the policies
@@ -38,14 +41,14 @@ load_in ps = one_of 7 8 work_in ps >>= λ work. one_of 8 9 until_in work.1 >>= �
 -- digits are fault 11, and one more than 16 is fault 12.
 unfoldable pub policy_says : List CandidateModel → ℕ → List ℕ → Result (Option PolicyLine) Fault
 policy_says before line text =
-    if begins (codes "pass") (words text) then (if length before == 0 then fault line 11 else Ok None)
-    else or_fault line 11 (policy_in (words text)) >>= λ p. if nat_le 16 (length before) then fault line 12 else Ok (Some p)
+    if begins (codes "pass") (words text) then (if length before == 0 then fault line POLICY else Ok None)
+    else or_fault line POLICY (policy_in (words text)) >>= λ p. if nat_le 16 (length before) then fault line POLICIES else Ok (Some p)
 
 -- The policy of the name 0 whose programs these bytes are; where they aren't both accepted, fault 13.
 -- It is a relation, since acceptance speaks of all paths through a program.
 abbrev pub LoadsPolicy : Profile → ℕ → SourceModel → Result Rule Fault → Type 0
 LoadsPolicy profile line source (Ok rule) = (policy : PolicyModel) × IsLoaded 0 profile source policy × (rule ≡ rules.Program policy)
-LoadsPolicy profile line source (Err e) = ((policy : PolicyModel) → ¬ (IsLoaded 0 profile source policy)) × (e ≡ record { line = line; what = 13 })
+LoadsPolicy profile line source (Err e) = ((policy : PolicyModel) → ¬ (IsLoaded 0 profile source policy)) × (e ≡ record { line = line; what = PROGRAM })
 
 -- the rule that a policy line says
 unfoldable pub ReadsRule : Profile → ℕ → RuleLine → Result Rule Fault → Type 0
@@ -57,7 +60,7 @@ candidate name rule = record { name = name; rule = rule }
 
 -- The policies, and the pieces from the first pass on.
 unfoldable pub ReadsPolicies : Profile → List CandidateModel → ℕ → List (List ℕ) → Result (List CandidateModel × List (List ℕ)) Fault → Type 0
-ReadsPolicies profile before line [] read = read ≡ fault line 11
+ReadsPolicies profile before line [] read = read ≡ fault line POLICY
 ReadsPolicies profile before line (p ∷ ps) read =
     Then (or_fault line 1 (text_in p) >>= policy_says before line)
     (λ o read. MatchOption o (read ≡ Ok (before, p ∷ ps)) (λ p. (rule : Result Rule Fault) × ReadsRule profile line p.rule rule
@@ -67,22 +70,20 @@ ReadsPolicies profile before line (p ∷ ps) read =
 -- ---- the passes
 
 -- Each line up to `end` is a pass line, or bad by fault 14; so is `end` without a pass before it, and a 1,025th pass.
-unfoldable pub pass_says : List Attr → ℕ → List ℕ → Result (Option Attr) Fault
-pass_says before line text =
-    if same text (codes "end") then (if length before == 0 then fault line 14 else Ok None)
-    else or_fault line 14 (attr_in (codes "pass") (words text)) >>= λ attr. if nat_le 1024 (length before) then fault line 14 else Ok (Some attr)
+abbrev pub pass_lines : SectionModel
+pass_lines = record { word = codes "pass"; last = Some (codes "end"); most = 1024; bad = PASS; over = PASS; short = PASS }
 
 unfoldable pub passes_in : ℕ → List (List ℕ) → Result (List Attr × List (List ℕ)) Fault
-passes_in line ps = section_from pass_says (λ _. 14) [] line ps
+passes_in line ps = attrs_in pass_lines line ps
 
 -- a line behind the last is fault 15
 unfoldable pub over_in : ℕ → List (List ℕ) → Result (List (List ℕ)) Fault
 over_in line [] = Ok []
-over_in line (p ∷ ps) = or_fault line 1 (text_in p) >>= λ t. fault line 15
+over_in line (p ∷ ps) = or_fault line 1 (text_in p) >>= λ t. fault line OVER
 
 -- the passes, the line `end`, and nothing behind it
 unfoldable pub body_in : ℕ → List (List ℕ) → Result (List Attr) Fault
-body_in line ps = passes_in line ps >>= λ p. fixed_due (line + length p.0) 14 (codes "end") p.1 >>= λ ps.
+body_in line ps = passes_in line ps >>= λ p. fixed_due (line + length p.0) PASS (codes "end") p.1 >>= λ ps.
     over_in (line + length p.0 + 1) ps >>= λ over. Ok p.0
 
 -- ---- the whole

@@ -1,5 +1,4 @@
 pub mod Setups
-pub mod Errors
 pub mod Said
 pub mod Words
 pub mod Lines

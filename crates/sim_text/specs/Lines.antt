@@ -1,11 +1,8 @@
 -- What one line of a setup says.
 use Rattle.std.specs.Prelude.{ℕ, ◌+◌, List, [], ◌∷◌, ◌&&◌, Bool, false, length, Option, Some, None, nat_le, nat_lt, ◌==◌, if◌then◌else◌, codes}
-use Rattle.bpf_isa.specs.declared.insn.Profile.{Profile}
-use Rattle.bpf_isa.specs.declared.insn.Profile.TheVariants as profiles
-use Rattle.shfl_line.specs.declared.events.Form.{Form}
 use Rattle.doc_text.specs.Words.{is_word, same, three, four, five, ◌>>?◌}
 use Rattle.doc_text.specs.Numbers.{number_in}
-use Rattle.lock_words.specs.Forms.{form_named, batch_in}
+use Rattle.lock_words.specs.Lines.{behind}
 use Rattle.policy_text.specs.Programs.{source_in}
 use Rattle.sim_model.specs.declared.setup.Costs.{Costs}
 use Rattle.sim_model.specs.declared.setup.Layout.{Layout}
@@ -16,13 +13,9 @@ use Rattle.sim_model.specs.declared.built_in.BuiltIn.TheVariants as simple
 use Rattle.sim_text.specs.declared.policies.RuleLine.{RuleLine}
 use Rattle.sim_text.specs.declared.policies.RuleLine.TheVariants as said
 use Rattle.sim_text.specs.declared.setup.Seeds.{Seeds}
-use Rattle.sim_text.specs.Words.{behind, number_next, name_next, none_left}
+use Rattle.sim_text.specs.Words.{number_next, name_next, none_left}
 
 -- ---- the lock
-
--- `profile 1` or `profile 2`
-abbrev pub profile_named : List ℕ → Option Profile
-profile_named word = if same word (codes "1") then Some profiles.One else if same word (codes "2") then Some profiles.Two else None
 
 abbrev pub layout_named : List ℕ → Option Layout
 layout_named word =
@@ -31,16 +24,7 @@ layout_named word =
     else if same word (codes "packed") then Some layouts.Packed
     else None
 
--- `profile P`, `form F`, `limit N` and `layout L`
-abbrev pub profile_in : List (List ℕ) → Option Profile
-profile_in ws = behind (codes "profile") ws >>? profile_named
-
-abbrev pub form_in : List (List ℕ) → Option Form
-form_in ws = behind (codes "form") ws >>? form_named
-
-abbrev pub limit_in : List (List ℕ) → Option ℕ
-limit_in ws = behind (codes "limit") ws >>? batch_in
-
+-- `layout L`
 abbrev pub layout_in : List (List ℕ) → Option Layout
 layout_in ws = behind (codes "layout") ws >>? layout_named
 
@@ -185,8 +169,3 @@ program_in ws = program_words_in ws >>? λ w. source_in w.1 w.2 >>? λ source. S
 -- a policy line
 abbrev pub policy_in : List (List ℕ) → Option PolicyLine
 policy_in ws = otherwise (simple_in ws) (program_in ws)
-
--- the line begins with this word
-abbrev pub begins : List ℕ → List (List ℕ) → Bool
-begins name [] = false
-begins name (w ∷ ws) = same w name

@@ -1,11 +1,7 @@
 -- Words of a line, one behind the other.
 use Rattle.std.specs.Prelude.{ℕ, List, [], ◌∷◌, Option, Some, None, if◌then◌else◌}
-use Rattle.doc_text.specs.Words.{words, same, two, ◌>>?◌}
+use Rattle.doc_text.specs.Words.{words, same, ◌>>?◌}
 use Rattle.doc_text.specs.Numbers.{number_in}
-
--- the second of just two words, where the first is this name
-abbrev pub behind : List ℕ → List (List ℕ) → Option (List ℕ)
-behind name ws = two ws >>? λ w. if same w.0 name then Some w.1 else None
 
 -- the words of a text, or of none
 abbrev pub words_left : Option (List ℕ) → List (List ℕ)

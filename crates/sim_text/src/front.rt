@@ -1,30 +1,14 @@
 //! The lines of a setup up to its policies, word by word.
 ghost use Rattle.std.specs.Prelude.{◌≡◌, ◌<◌, ◌≤◌, ◌+◌, IfSome, nat_le, option_map};
 ghost use Rattle.doc_text.specs.Words.{words};
-ghost use Rattle.sim_text.specs.Lines.{profile_named, layout_named};
-ghost use Rattle.sim_text.specs.Lines.{profile_in, form_in, limit_in, layout_in, work_in};
+ghost use Rattle.sim_text.specs.Lines.{layout_named, layout_in, work_in};
 ghost use Rattle.sim_text.specs.Lines.{one_seed, count_in, several_seeds, seeds_in};
 ghost use Rattle.sim_text.specs.Lines.{wide_in, until_alone, until_turns, turns_in, until_in};
 
 use crate::setup::Seeds;
-use crate::words::behind;
-use bpf_isa::Profile;
 use doc_text::{five_words, four_words, is_same, number, three_words};
-use lock_words::{batch_of, form_named};
-use shfl_line::Form;
+use lock_words::behind;
 use sim_model::{Layout, Work};
-
-fn profile_named(word: &[u8]) -> Option<Profile>
-    ensures { result ≡ profile_named word.now }
-{
-    if is_same(word, b"1") {
-        Some(Profile::One)
-    } else if is_same(word, b"2") {
-        Some(Profile::Two)
-    } else {
-        None
-    }
-}
 
 fn layout_named(word: &[u8]) -> Option<Layout>
     ensures { result ≡ layout_named word.now }
@@ -38,28 +22,6 @@ fn layout_named(word: &[u8]) -> Option<Layout>
     } else {
         None
     }
-}
-
-/// `profile P`.
-pub fn profile_of(text: &[u8]) -> Option<Profile>
-    ensures { result ≡ profile_in (words text.now) }
-{
-    profile_named(behind(b"profile", text)?)
-}
-
-/// `form F`.
-pub fn form_of(text: &[u8]) -> Option<Form>
-    ensures { result ≡ form_in (words text.now) }
-{
-    form_named(behind(b"form", text)?)
-}
-
-/// `limit N`.
-pub fn limit_of(text: &[u8]) -> Option<u16>
-    ensures exact { result ≡ limit_in (words text.now) }
-    ensures within { IfSome result (λ n. (0 < n) × (n ≤ 1024)) }
-{
-    batch_of(behind(b"limit", text)?)
 }
 
 /// `layout L`.

@@ -3,7 +3,7 @@
 
 mod answering;
 mod costs;
-mod error;
+mod faults;
 mod front;
 mod laws;
 mod lines;
@@ -13,7 +13,7 @@ mod read;
 mod setup;
 mod words;
 
-pub use error::SetupError;
 pub use laws::setups_are_read_once;
+pub use policy_text::DocumentError as SetupError;
 pub use read::read_setup;
 pub use setup::{Candidate, Load, Machine, Rule, Seeds, SimSetup};

@@ -2,98 +2,74 @@
 ghost use Rattle.std.specs.Prelude.{◌≡◌, ◌<◌, ◌≤◌, ◌+◌, IfOk};
 ghost use Rattle.doc_text.specs.Text.{pieces};
 ghost use Rattle.doc_text.specs.Faults.{Gives, one_of};
-ghost use Rattle.sim_text.specs.Lines.{profile_in, form_in, limit_in, layout_in, costs_in, work_in, until_in, seeds_in};
+ghost use Rattle.sim_text.specs.Lines.{layout_in, costs_in, work_in, until_in, seeds_in};
 ghost use Rattle.sim_text.specs.Grammar.{machine_in, load_in, front_in};
 
 use crate::costs::costs_of;
-use crate::front::{form_of, layout_of, limit_of, profile_of, seeds_of, until_of, work_of};
+use crate::faults::{COSTS, FORM, LAYOUT, LIMIT, PROFILE, SEEDS, TITLE, UNTIL, WORK};
+use crate::front::{layout_of, seeds_of, until_of, work_of};
 use crate::setup::{Load, Machine, Seeds};
-use bpf_isa::Profile;
 use doc_text::{Fault, fixed_due, line_due, or_fault};
-use shfl_line::Form;
+use lock_words::{form_due, limit_due};
+use policy_text::profile_due;
 use sim_model::{Costs, Layout, Work};
 
 #[tactic(auto, unfolding(doc_text::specs::Faults::one_of))]
-fn profile_due(bytes: &[u8]) -> Result<(Profile, &[u8]), Fault>
-    ensures { Gives (λ x. (x.0, pieces x.1.now)) result (one_of 2 3 profile_in (pieces bytes.now)) }
-{
-    let (text, rest) = line_due(bytes, 2, 3)?;
-    let profile = or_fault(profile_of(text), 2, 3)?;
-    Ok((profile, rest))
-}
-
-#[tactic(auto, unfolding(doc_text::specs::Faults::one_of))]
-fn form_due(bytes: &[u8]) -> Result<(Form, &[u8]), Fault>
-    ensures { Gives (λ x. (x.0, pieces x.1.now)) result (one_of 3 4 form_in (pieces bytes.now)) }
-{
-    let (text, rest) = line_due(bytes, 3, 4)?;
-    let form = or_fault(form_of(text), 3, 4)?;
-    Ok((form, rest))
-}
-
-#[tactic(auto, unfolding(doc_text::specs::Faults::one_of))]
-fn limit_due(bytes: &[u8]) -> Result<(u16, &[u8]), Fault>
-    ensures exact { Gives (λ x. (x.0, pieces x.1.now)) result
-        (one_of 4 5 limit_in (pieces bytes.now)) }
-    ensures within { IfOk result (λ x. (0 < x.0) × (x.0 ≤ 1024)) }
-{
-    let (text, rest) = line_due(bytes, 4, 5)?;
-    let Some(limit) = limit_of(text) else {
-        return Err(Fault { line: 4, what: 5 });
-    };
-    Ok((limit, rest))
-}
-
-#[tactic(auto, unfolding(doc_text::specs::Faults::one_of))]
 fn layout_due(bytes: &[u8]) -> Result<(Layout, &[u8]), Fault>
-    ensures { Gives (λ x. (x.0, pieces x.1.now)) result (one_of 5 6 layout_in (pieces bytes.now)) }
+    ensures { Gives (λ x. (x.0, pieces x.1.now)) result (one_of 5 LAYOUT layout_in (pieces bytes.now)) }
 {
-    let (text, rest) = line_due(bytes, 5, 6)?;
-    let layout = or_fault(layout_of(text), 5, 6)?;
+    let (text, rest) = line_due(bytes, 5, LAYOUT)?;
+    let layout = or_fault(layout_of(text), 5, LAYOUT)?;
     Ok((layout, rest))
 }
 
 #[tactic(auto, unfolding(doc_text::specs::Faults::one_of))]
 fn costs_due(bytes: &[u8]) -> Result<(Costs, &[u8]), Fault>
-    ensures { Gives (λ x. (x.0, pieces x.1.now)) result (one_of 6 7 costs_in (pieces bytes.now)) }
+    ensures { Gives (λ x. (x.0, pieces x.1.now)) result (one_of 6 COSTS costs_in (pieces bytes.now)) }
 {
-    let (text, rest) = line_due(bytes, 6, 7)?;
-    let costs = or_fault(costs_of(text), 6, 7)?;
+    let (text, rest) = line_due(bytes, 6, COSTS)?;
+    let costs = or_fault(costs_of(text), 6, COSTS)?;
     Ok((costs, rest))
 }
 
 #[tactic(auto, unfolding(doc_text::specs::Faults::one_of))]
 fn work_due(bytes: &[u8]) -> Result<(Work, &[u8]), Fault>
     ensures exact { Gives (λ x. (x.0, pieces x.1.now)) result
-        (one_of 7 8 work_in (pieces bytes.now)) }
+        (one_of 7 WORK work_in (pieces bytes.now)) }
     ensures lines { IfOk result (λ x. x.0.lines ≤ 64) }
 {
-    let (text, rest) = line_due(bytes, 7, 8)?;
+    let (text, rest) = line_due(bytes, 7, WORK)?;
     let Some(work) = work_of(text) else {
-        return Err(Fault { line: 7, what: 8 });
+        return Err(Fault {
+            line: 7,
+            what: WORK,
+        });
     };
     Ok((work, rest))
 }
 
 #[tactic(auto, unfolding(doc_text::specs::Faults::one_of))]
 fn until_due(bytes: &[u8]) -> Result<((u64, u32), &[u8]), Fault>
-    ensures { Gives (λ x. (x.0, pieces x.1.now)) result (one_of 8 9 until_in (pieces bytes.now)) }
+    ensures { Gives (λ x. (x.0, pieces x.1.now)) result (one_of 8 UNTIL until_in (pieces bytes.now)) }
 {
-    let (text, rest) = line_due(bytes, 8, 9)?;
-    let until = or_fault(until_of(text), 8, 9)?;
+    let (text, rest) = line_due(bytes, 8, UNTIL)?;
+    let until = or_fault(until_of(text), 8, UNTIL)?;
     Ok((until, rest))
 }
 
 #[tactic(auto, unfolding(doc_text::specs::Faults::one_of))]
 fn seeds_due(bytes: &[u8]) -> Result<(Seeds, &[u8]), Fault>
     ensures exact { Gives (λ x. (x.0, pieces x.1.now)) result
-        (one_of 9 10 seeds_in (pieces bytes.now)) }
+        (one_of 9 SEEDS seeds_in (pieces bytes.now)) }
     ensures some { IfOk result (λ x. 0 < x.0.count) }
     ensures wide { IfOk result (λ x. x.0.first + x.0.count ≤ 18446744073709551616) }
 {
-    let (text, rest) = line_due(bytes, 9, 10)?;
+    let (text, rest) = line_due(bytes, 9, SEEDS)?;
     let Some(seeds) = seeds_of(text) else {
-        return Err(Fault { line: 9, what: 10 });
+        return Err(Fault {
+            line: 9,
+            what: SEEDS,
+        });
     };
     Ok((seeds, rest))
 }
@@ -103,10 +79,10 @@ fn machine_of(bytes: &[u8]) -> Result<(Machine, &[u8]), Fault>
     ensures exact { Gives (λ x. (x.0, pieces x.1.now)) result (machine_in (pieces bytes.now)) }
     ensures limit { IfOk result (λ x. (0 < x.0.limit) × (x.0.limit ≤ 1024)) }
 {
-    let rest = fixed_due(bytes, 1, 2, b"syncord-sim 1")?;
-    let (profile, rest) = profile_due(rest)?;
-    let (form, rest) = form_due(rest)?;
-    let (limit, rest) = limit_due(rest)?;
+    let rest = fixed_due(bytes, 1, TITLE, b"syncord-sim 1")?;
+    let (profile, rest) = profile_due(rest, PROFILE)?;
+    let (form, rest) = form_due(rest, 3, FORM)?;
+    let (limit, rest) = limit_due(rest, 4, LIMIT)?;
     let (layout, rest) = layout_due(rest)?;
     let (costs, rest) = costs_due(rest)?;
     let machine = Machine {

@@ -3,17 +3,17 @@ ghost use Rattle.std.specs.Prelude.{◌≡◌, ◌<◌, ◌≤◌, [], length, I
 ghost use Rattle.doc_text.specs.Text.{pieces};
 ghost use Rattle.doc_text.specs.Words.{words};
 ghost use Rattle.doc_text.specs.Faults.{GivesOrWants};
-ghost use Rattle.sim_text.specs.Errors.{fault_of, Allows};
-ghost use Rattle.sim_text.specs.Lines.{simple_named, is_name, simple_words_in, program_words_in, program_in, policy_in, begins};
+ghost use Rattle.policy_text.specs.Errors.{fault_of, Allows};
+ghost use Rattle.sim_text.specs.Lines.{simple_named, is_name, simple_words_in, program_words_in, program_in, policy_in};
 ghost use Rattle.sim_text.specs.Said.{line_said};
 ghost use Rattle.sim_text.specs.Grammar.{policy_says, LoadsPolicy, ReadsRule, ReadsPolicies};
 
-use crate::error::SetupError;
+use crate::faults::{POLICIES, POLICY, PROGRAM};
 use crate::setup::{Candidate, Rule};
 use bpf_isa::Profile;
-use doc_text::{five_words, is_same, text_at, three_words, word_at};
+use doc_text::{five_words, is_same, text_at, three_words};
 use policy_source::PolicySource;
-use policy_text::{NoMemory, source_of};
+use policy_text::{DocumentError, NoMemory, begins, source_of};
 use shfl_policy::{LoadError, load};
 use sim_model::BuiltIn;
 use std::alloc::Global;
@@ -104,21 +104,13 @@ fn policy_line(alloc: Global, text: &[u8]) -> Result<Option<NamedLine>, NoMemory
     Ok(Some(NamedLine { name, rule }))
 }
 
-// Whether the first word of a line is this one.
-fn begins(name: &[u8], text: &[u8]) -> bool
-    ensures { result ≡ begins name.now (words text.now) }
-{
-    let (word, _) = word_at(text);
-    is_same(word, name)
-}
-
 #[tactic(auto, unfolding(crate::specs::Grammar::policy_says))]
 fn policy_says(
     alloc: Global,
     before: &[Candidate],
     line: u32,
     text: &[u8],
-) -> Result<Option<NamedLine>, SetupError>
+) -> Result<Option<NamedLine>, DocumentError>
     ensures exact { GivesOrWants fault_of (option_map line_said) result
         (policy_says before.now line text.now) }
     ensures room { IfOk result (λ o. OnSome o (length before.now < 16)) }
@@ -126,16 +118,19 @@ fn policy_says(
 {
     if begins(b"pass", text) {
         return if before.is_empty() {
-            Err(SetupError::Format { line, what: 11 })
+            Err(DocumentError::Format { line, what: POLICY })
         } else {
             Ok(None)
         };
     }
     let Some(policy) = policy_line(alloc, text)? else {
-        return Err(SetupError::Format { line, what: 11 });
+        return Err(DocumentError::Format { line, what: POLICY });
     };
     if before.len() >= 16 {
-        return Err(SetupError::Format { line, what: 12 });
+        return Err(DocumentError::Format {
+            line,
+            what: POLICIES,
+        });
     }
     Ok(Some(policy))
 }
@@ -146,18 +141,26 @@ fn loaded(
     profile: Profile,
     line: u32,
     source: &PolicySource,
-) -> Result<Rule, SetupError>
+) -> Result<Rule, DocumentError>
     ensures { Allows (λ r. r) result (LoadsPolicy profile line source.now) }
 {
     match load(alloc, 0, profile, source) {
         Ok(policy) => Ok(Rule::Program(policy)),
-        Err(LoadError::NoMemory) => Err(SetupError::NoMemory),
-        Err(LoadError::Bad { .. }) => Err(SetupError::Format { line, what: 13 }),
+        Err(LoadError::NoMemory) => Err(DocumentError::NoMemory),
+        Err(LoadError::Bad { .. }) => Err(DocumentError::Format {
+            line,
+            what: PROGRAM,
+        }),
     }
 }
 
 #[tactic(auto, unfolding(crate::specs::Grammar::ReadsRule))]
-fn rule_of(alloc: Global, profile: Profile, line: u32, rule: RuleLine) -> Result<Rule, SetupError>
+fn rule_of(
+    alloc: Global,
+    profile: Profile,
+    line: u32,
+    rule: RuleLine,
+) -> Result<Rule, DocumentError>
     ensures { Allows (λ r. r) result (ReadsRule profile line rule) }
 {
     match rule {
@@ -171,7 +174,7 @@ pub fn policies_of(
     alloc: Global,
     profile: Profile,
     bytes: &[u8],
-) -> Result<(Vec<Candidate>, &[u8]), SetupError>
+) -> Result<(Vec<Candidate>, &[u8]), DocumentError>
     ensures exact { Allows (λ x. (x.0.items, pieces x.1.now)) result
         (ReadsPolicies profile [] 10 (pieces bytes.now)) }
     ensures few { IfOk result (λ x. length x.0.items ≤ 16) }
@@ -182,7 +185,7 @@ pub fn policies_of(
     let mut line = 10;
     while !rest.is_empty() {
         let Some((text, after)) = text_at(rest) else {
-            return Err(SetupError::Format { line, what: 1 });
+            return Err(DocumentError::Format { line, what: 1 });
         };
         let Some(policy) = policy_says(alloc, policies.as_slice(), line, text)? else {
             return Ok((policies, rest));
@@ -195,5 +198,5 @@ pub fn policies_of(
         rest = after;
         line += 1;
     }
-    Err(SetupError::Format { line, what: 11 })
+    Err(DocumentError::Format { line, what: POLICY })
 }

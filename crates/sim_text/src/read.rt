@@ -1,15 +1,15 @@
 //! From bytes to a setup.
 ghost use Rattle.std.specs.Prelude.{◌≡◌, ◌<◌, ◌≤◌, length, IfOk};
 ghost use Rattle.doc_text.specs.Text.{pieces};
-ghost use Rattle.sim_text.specs.Errors.{Allows};
+ghost use Rattle.policy_text.specs.Errors.{Allows};
 ghost use Rattle.sim_text.specs.Grammar.{ReadsBehind, ReadsSetup};
 ghost use Rattle.sim_text.specs.Setups.{IsWithin};
 
-use crate::error::SetupError;
 use crate::lines::front_of;
 use crate::passes::body_of;
 use crate::policies::policies_of;
 use crate::setup::{Load, Machine, SimSetup};
+use policy_text::DocumentError as SetupError;
 use std::alloc::Global;
 
 // The policies and the passes, behind the lines up to them.

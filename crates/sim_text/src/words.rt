@@ -2,21 +2,9 @@
 ghost use Rattle.std.specs.Prelude.{◌≡◌, option_map};
 ghost use Rattle.doc_text.specs.Words.{words};
 ghost use Rattle.sim_text.specs.Said.{left_said};
-ghost use Rattle.sim_text.specs.Words.{behind, words_left, number_next, name_next};
+ghost use Rattle.sim_text.specs.Words.{words_left, number_next, name_next};
 
-use doc_text::{is_same, number, two_words, word_at};
-
-/// The second of just two words, where the first is this name.
-pub fn behind<'a>(name: &[u8], text: &'a [u8]) -> Option<&'a [u8]>
-    ensures { option_map (λ w. w.now) result ≡ behind name.now (words text.now) }
-{
-    let (word, value) = two_words(text)?;
-    if is_same(word, name) {
-        Some(value)
-    } else {
-        None
-    }
-}
+use doc_text::{is_same, number, word_at};
 
 /// A number of 32 bits, and the text behind it, where more words are left.
 #[tactic(auto, unfolding(crate::specs::Words::number_next))]

@@ -8,7 +8,7 @@ use Rattle.sim_text.specs.declared.policies.NamedLine.{NamedLine}
 use Rattle.sim_text.specs.Said.{line_said}
 use Rattle.sim_text.specs.Grammar.{ReadsPolicies}
 use Rattle.sim_text.proofs.PolicyLoop.{reads-odd, reads-error, rule-error, reads-end, reads-more, reads-none}
-use Rattle.sim_text.proofs.Options.{ok_some}
+use Rattle.policy_text.proofs.Chains.{ok_some}
 use Rattle.sim_text.proofs.policies.policies_of.Goals as goal
 
 pub returns-in_default-clause-exact : goal.returns-in_default-clause-exact
