@@ -53,7 +53,7 @@ crowd() {
 }
 
 # 10,000 pairs more are so many instructions more
-all_of() { valgrind --tool=callgrind --callgrind-out-file=/dev/null "$room/bench" pairs "$1" "$2" 2>&1 | awk '/Collected/ { print $NF }'; }
+all_of() { valgrind --tool=callgrind --callgrind-out-file=/dev/null "$room/libshfl" pairs "$1" "$2" 2>&1 | awk '/Collected/ { print $NF }'; }
 instructions() {
     local lock
     command -v valgrind >/dev/null || { echo "libshfl.sh: no valgrind is there" >&2; return; }
