@@ -1,5 +1,6 @@
 //! The locks of the directories, and a pass of each for every pass of the whole.
 ghost use Rattle.std.specs.Prelude.{◌≡◌, ℕ, ◌<◌, ◌≤◌, [], map, length, vec_len, slice_get, IfOk, OnOk, Some};
+ghost use Rattle.shfl_line.specs.Words.{attr_word};
 ghost use Rattle.shfl_line.specs.declared.events.Form.TheVariants.{Park};
 ghost use Rattle.shfl_table.specs.PassModel.{BoardModel, fresh_pass};
 ghost use Rattle.dir_shards.specs.KeptShards.{lock_state};
@@ -33,6 +34,7 @@ fn open_lock(
     requires known { known.list ≡ [] }
     ensures lock { IfOk result (λ r. IsLockOf known.table room (length attrs.now) dir r.0) }
     ensures rules { IfOk result (λ r. r.0.id.rules ≡ record { limit = limit; form = Park }) }
+    ensures attrs { IfOk result (λ r. r.0.id.attrs ≡ map attr_word attrs.now) }
     ensures count { IfOk result (λ r. vec_len r.1 ≡ length attrs.now) }
     ensures passes { IfOk result (λ r. (i : ℕ) → i < vec_len r.1 → slice_get r.1.items i
         ≡ Some (fresh_pass (lock_state known.table room dir) r.0.id i)) }
@@ -84,6 +86,8 @@ pub fn open_locks(
     ensures rules { IfOk result (λ v. (dir : ℕ) (lock : BoardModel)
         → slice_get v.items dir ≡ Some lock
         → lock.id.rules ≡ record { limit = limit; form = Park }) }
+    ensures attrs { IfOk result (λ v. (dir : ℕ) (lock : BoardModel)
+        → slice_get v.items dir ≡ Some lock → lock.id.attrs ≡ map attr_word attrs.now) }
     ensures passes { IfOk result (λ v.
         all.new ≡ map (with_locks (map (λ b. b.id) v.items)) all.old) }
 {

@@ -1,5 +1,6 @@
 //! The opening of a sharded directory.
 ghost use Rattle.std.specs.Prelude.{◌≡◌, ℕ, ◌<◌, ◌≤◌, [], ◌∷◌, All, map, length, sum, vec_len, slice_get, slice_index, slice_index_or, IfOk, Some};
+ghost use Rattle.shfl_line.specs.Words.{attr_word};
 ghost use Rattle.shfl_line.specs.declared.events.Form.TheVariants.{Park};
 ghost use Rattle.shared_journal.specs.Models as shared;
 ghost use Rattle.shared_journal.specs.Models.{nothing_known};
@@ -121,6 +122,8 @@ impl ShardedDir {
         ensures dir { IfOk result (λ r. (r.0.room ≡ room) × (r.0.allowed ≡ calls.now)) }
         ensures locks { IfOk result (λ r. (length r.0.locks ≡ 64)
             × All (λ l. l.rules ≡ record { limit = limit; form = Park }) r.0.locks) }
+        ensures attrs { IfOk result (λ r.
+            All (λ l. l.attrs ≡ map attr_word attrs.now) r.0.locks) }
         ensures count { IfOk result (λ r. vec_len r.1 ≡ length calls.now) }
         ensures passes { IfOk result (λ r. (k : ℕ) → k < length calls.now
             → slice_get r.1.items k ≡ Some (fresh r.0 k

@@ -1,6 +1,7 @@
 //! The cell's opening.
-ghost use Rattle.std.specs.Prelude.{◌≡◌, ℕ, ◌<◌, ◌≤◌, true, All, [], length, sum, vec_len, slice_get, slice_index, slice_index_or, vec_capacity, IfOk, Some};
+ghost use Rattle.std.specs.Prelude.{◌≡◌, ℕ, ◌<◌, ◌≤◌, true, All, [], length, map, sum, vec_len, slice_get, slice_index, slice_index_or, vec_capacity, IfOk, Some};
 ghost use Rattle.shfl_core.specs.Plan.{shares};
+ghost use Rattle.shfl_line.specs.Words.{attr_word};
 ghost use Rattle.shfl_table.specs.PassModel.{fresh_pass};
 ghost use Rattle.shfl_table.specs.Places.{Every};
 ghost use Rattle.shfl_table.specs.Books.{pack, allowed_of};
@@ -139,6 +140,7 @@ impl<O: Object + Drop> RwCellOf<Book<O>, Entry<O>, O> {
             × (r.0.allowed ≡ calls.now)) }
         ensures rules { IfOk result (λ r.
             r.0.id.rules ≡ record { limit = limit; form = form }) }
+        ensures attrs { IfOk result (λ r. r.0.id.attrs ≡ map attr_word attrs.now) }
         ensures count { IfOk result (λ r. vec_len r.1 ≡ length calls.now) }
         ensures passes { IfOk result (λ r. (k : ℕ) → k < vec_len r.1
             → slice_get r.1.items k ≡ Some (fresh r.0 k

@@ -8,6 +8,8 @@ use Rattle.shfl_core.specs.Waiting.{blank}
 use Rattle.shfl_table.specs.declared.kept.Action.{Action}
 use Rattle.shfl_table.specs.declared.view.Decision.{Decision}
 use Rattle.shfl_table.specs.declared.view.Given.{Given}
+use Rattle.shfl_table.specs.declared.view.Part.{Part}
+use Rattle.shfl_table.specs.ThreadRuns.{RanUntilClosed}
 use Rattle.shfl_table.specs.Histories.{actions_by}
 use Rattle.shfl_table.specs.PassModel.{BoardId, BoardModel}
 use Rattle.shfl_table.specs.Books.{operations_of, opening_of, allowed_of}
@@ -63,6 +65,22 @@ fresh cell k left attr = record { cell = cell.id; reg = blank k; steps_taken = 0
 -- what a pass gives back: its number, and the history that it saw last
 abbrev pub given : CellPassModel → Given
 given p = record { number = p.reg.me; history = p.seen }
+
+-- what it did, with so many attempts
+abbrev pub part : ℕ → CellPassModel → Part
+part attempts p = record { number = p.reg.me; steps_taken = p.steps_taken; attempts = attempts; decisions = p.decisions }
+
+-- each of these is what the pass at its place did
+abbrev pub ArePartsOf : List CellPassModel → List Part → Type 0
+ArePartsOf [] [] = Unit {0}
+ArePartsOf (p ∷ ps) (x ∷ xs) = (x ≡ part x.attempts p) × ArePartsOf ps xs
+ArePartsOf _ _ = ⊥
+
+-- all that was done to the lock is a run of the model, in which these passes did what they tell
+pub record HasRunOf (cell : CellModel) (passes : List CellPassModel) : Type 0 where
+  pub parts : List Part
+  pub told : ArePartsOf passes parts
+  pub run : RanUntilClosed cell.id.rules cell.id.attrs cell.count parts
 
 -- these are all passes of a cell of so many
 abbrev pub AreAll : ℕ → List CellPassModel → Type 0

@@ -3,9 +3,9 @@ ghost use Rattle.std.specs.Prelude.{◌≡◌, ℕ, ◌≤◌, true, All, [], ma
 ghost use Rattle.hist_log.specs.History.{operations, IsLegal, state_left};
 ghost use Rattle.shfl_core.specs.Plan as plan;
 ghost use Rattle.shfl_table.specs.Histories.{actions_by, HasSeen};
-ghost use Rattle.shfl_table.specs.PassModel.{as_given};
+ghost use Rattle.shfl_table.specs.PassModel.{as_given, as_part};
 ghost use Rattle.shfl_table.specs.Books.{actions, HavePlaces};
-ghost use Rattle.shfl_cell.specs.Cells.{given, number, AreAll};
+ghost use Rattle.shfl_cell.specs.Cells.{given, part, number, AreAll, HasRunOf};
 
 use crate::cell::{CellPass, CellPassOf, ShflCellOf};
 use hist_log::{Entry, Object};
@@ -16,6 +16,7 @@ fn board_pass<O: Object + Drop>(pass: CellPass<O>) -> Pass<Book<O>>
     ensures idle { plan.is_idle result.own.phase ≡ true }
     ensures board { result.board ≡ pass.cell }
     ensures given { as_given result ≡ given pass }
+    ensures part { as_part result ≡ part result.attempts pass }
 {
     let CellPassOf {
         before: _,
@@ -44,6 +45,9 @@ impl<O: Object + Drop> ShflCellOf<Book<O>> {
         ensures nobody_else { (k : ℕ) → self.count ≤ k → actions_by k
             (actions O.call_numbers O.reply_numbers result.1.items) ≡ [] }
         ensures places { HavePlaces result.1.items }
+
+        // All that was done to the lock is one list of changes, in which each pass did what it tells, and nobody else did anything.
+        ensures run { HasRunOf self passes.items }
     {
         let ShflCellOf { board } = self;
         let Some(first) = passes.pop() else {

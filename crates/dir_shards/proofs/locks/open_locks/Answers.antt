@@ -25,6 +25,7 @@ loop-dir-init c = let none = c.in_ok-boards.ensures.items in record {
   known = refl;
   locks = λ dir lock is. absurd (nothing c.in_ok-boards.boards.items dir lock none is);
   rules = λ dir lock is. absurd (nothing c.in_ok-boards.boards.items dir lock none is);
+  attrs = λ dir lock is. absurd (nothing c.in_ok-boards.boards.items dir lock none is);
   passes = mapped _ c.args.all.now c.args.all.now refl (λ k p is. is ∙ ap Some ((c.requires.first k p is).none ∙ ap (λ l. with_locks (map (λ (b : BoardModel). b.id) l) p) (sym none)));
 }
 
@@ -63,6 +64,10 @@ loop-dir-preserved c =
       rules = λ dir l is. elim (got_snoc boards lock dir l (ap (λ z. slice_get z dir) (sym more.items) ∙ is)) [
         | inl inside ↦ v.rules dir l inside.1
         | inr last ↦ ap (λ (z : BoardModel). z.id.rules) (sym last.1) ∙ c.in_ok-board.ensures.rules
+      ];
+      attrs = λ dir l is. elim (got_snoc boards lock dir l (ap (λ z. slice_get z dir) (sym more.items) ∙ is)) [
+        | inl inside ↦ v.attrs dir l inside.1
+        | inr last ↦ ap (λ (z : BoardModel). z.id.attrs) (sym last.1) ∙ c.in_ok-board.ensures.attrs
       ];
       passes = c.in_ok-deal.ensures ∙ (ap (map (with_lock lock.id)) v.passes ∙ (map_locks (map (λ (b : BoardModel). b.id) boards) lock.id c.args.all.now
           ∙ ap (λ ids. map (with_locks ids) c.args.all.now) (sym (ap (map (λ (b : BoardModel). b.id)) more.items ∙ map-append (λ (b : BoardModel). b.id) boards (lock ∷ [])))));

@@ -43,6 +43,10 @@ returns-clause-locks c =
     let boards = c.in_ok-boards.boards.items in let ok = c.in_ok-boards.boards.ok.0 in let n = c.in_ok-boards.ensures.count in let long = length-map boards (λ (b : BoardModel). b.id) in
     (omega (arith, ok, n, long), all_got _ (locks c) (λ k id at. let b = got_map (λ (b : BoardModel). b.id) boards k id at in ap (λ (z : BoardId). z.rules) b.2 ∙ c.in_ok-boards.ensures.rules k b.0 b.1))
 
+pub returns-clause-attrs : goal.returns-clause-attrs
+returns-clause-attrs c = let boards = c.in_ok-boards.boards.items in
+    all_got _ (locks c) (λ k id at. let b = got_map (λ (b : BoardModel). b.id) boards k id at in ap (λ (z : BoardId). z.attrs) b.2 ∙ c.in_ok-boards.ensures.attrs k b.0 b.1)
+
 pub returns-clause-passes : goal.returns-clause-passes
 returns-clause-passes c k within =
     subst (λ (z : TableModel). slice_get (passes c) k ≡ Some (fresh_with (locks c) z.id (slice_index z.opening 0) k (slice_index c.args.calls.now k) (slice_index_or c.args.attrs.now k no_attr)))
