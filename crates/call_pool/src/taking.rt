@@ -1,7 +1,7 @@
 //! The next call, taken and made.
 ghost use Rattle.std.specs.Prelude.{◌≡◌, true, false, None, IfSome};
 ghost use Rattle.shfl_cell.specs.Cells.{number};
-ghost use Rattle.shfl_table.specs.Waits.{AsksAll};
+ghost use Rattle.shfl_table.specs.Waits.{AsksInRounds};
 ghost use Rattle.call_pool.specs.Pools.{IsPassOf, TakesCall, EndsAt};
 
 use crate::pool::{PoolOf, PoolPass, PoolPassOf};
@@ -30,7 +30,7 @@ impl<O: Object + Drop> PoolOf<O::Call, Book<Numbered<O>>> {
 
         // An end was found, behind which no call stands; or this pass had found one before.
         ensures none { result ≡ None → EndsAt pass.old pass.new }
-        ensures asked { AsksAll pass.old.cell.attr pass.old.cell.decisions
+        ensures asked { AsksInRounds pass.old.cell.attr pass.old.cell.decisions
             pass.new.cell.decisions (Ch.told chooser.old) (Ch.told chooser.new) }
         ensures home { Ch.home chooser.new ≡ Ch.home chooser.old }
         ensures in_round { Ch.in_round chooser.old ≡ false → Ch.in_round chooser.new ≡ false }
@@ -59,6 +59,8 @@ impl<O: Object + Drop> PoolOf<O::Call, Book<Numbered<O>>> {
         ensures pool { IsPassOf O.call_numbers O.admits self.now pass.new }
         ensures number { number pass.new.cell ≡ number pass.old.cell }
         ensures ended { pass.new.taker.ended ≡ true }
+        ensures asked { AsksInRounds pass.old.cell.attr pass.old.cell.decisions
+            pass.new.cell.decisions (Ch.told chooser.old) (Ch.told chooser.new) }
         ensures home { Ch.home chooser.new ≡ Ch.home chooser.old }
     {
         for _ in rt.forever() {

@@ -6,9 +6,9 @@ use Rattle.atomic_table.specs.Seated.{TableId}
 use Rattle.dir_table.specs.declared.calls.DirCall.{DirCall}
 use Rattle.dir_table.specs.declared.calls.DirReply.{DirReply}
 use Rattle.shfl_line.specs.declared.words.Attr.{Attr}
-use Rattle.shfl_line.specs.declared.choosers.Answer.{Answer}
+use Rattle.shfl_line.specs.declared.choosers.Told.{Told}
 use Rattle.shfl_table.specs.declared.view.Decision.{Decision}
-use Rattle.shfl_table.specs.Waits.{AsksAll}
+use Rattle.shfl_table.specs.Waits.{AsksInRounds}
 use Rattle.shared_journal.specs.Models.{PassModel}
 use Rattle.shard_rows.specs.Replay.{DirEntry, entry_by}
 use Rattle.dir_shards.specs.KeptShards.{KeptShardModel, state_of, lock_state}
@@ -65,23 +65,23 @@ alone passes journal kept = record { home = kept.home; each = λ dir p is. absur
     nothing (suc dir) p is = cc
 
 module _ (passes passes1 passes2 : List LockPass) (journal journal' : PassModel DirEntry) (attr : Attr) (old : ShardPassModel) (dir : ℕ) (kept : KeptShardModel)
-    (told told' : Option (List Answer)) where
+    (told told' : Option (List Told)) where
   -- the one lock asked the policy, and no other
   pub asks_one : pass_on passes journal attr ≡ old → TakesAt dir passes kept passes1 → FreesAt dir passes1 passes2
-      → AsksAll attr (decisions_at passes dir) (decisions_at passes1 dir) told told' → Asks old (pass_on passes2 journal' attr) (dir ∷ []) told told'
+      → AsksInRounds attr (decisions_at passes dir) (decisions_at passes1 dir) told told' → Asks old (pass_on passes2 journal' attr) (dir ∷ []) told told'
   asks_one same t f asked =
       let freed = all_decisions-frees dir passes1 passes2 f in
       subst (λ (p : ShardPassModel). Asks p (pass_on passes2 journal' attr) (dir ∷ []) told told') same
       (record {
-        in_turn = (told', subst (λ ds. AsksAll attr (decisions_at passes dir) (get_or ds dir []) told told') (sym freed) asked, refl);
+        in_turn = (told', subst (λ ds. AsksInRounds attr (decisions_at passes dir) (get_or ds dir []) told told') (sym freed) asked, refl);
         elsewhere = λ d not. ap (λ ds. get_or ds d []) freed ∙ decisions-takes dir d passes passes1 kept t (λ is. not (inl is));
       })
 
 module _ (passes passes1 passes2 passes3 passes4 : List LockPass) (journal journal' : PassModel DirEntry) (attr : Attr) (old : ShardPassModel) (low high : ℕ) (lower higher : KeptShardModel)
-    (told between told' : Option (List Answer)) where
+    (told between told' : Option (List Told)) where
   -- the two locks asked the policy, one after another, and no other
   pub asks_two : pass_on passes journal attr ≡ old → low ≢ high → TakesAt low passes lower passes1 → TakesAt high passes1 higher passes2 → FreesAt high passes2 passes3
-      → FreesAt low passes3 passes4 → AsksAll attr (decisions_at passes low) (decisions_at passes1 low) told between → AsksAll attr (decisions_at passes1 high) (decisions_at passes2 high) between told'
+      → FreesAt low passes3 passes4 → AsksInRounds attr (decisions_at passes low) (decisions_at passes1 low) told between → AsksInRounds attr (decisions_at passes1 high) (decisions_at passes2 high) between told'
       → Asks old (pass_on passes4 journal' attr) (low ∷ high ∷ []) told told'
   asks_two same apart t t' f f' asked asked' =
       let freed = all_decisions-frees low passes3 passes4 f' ∙ all_decisions-frees high passes2 passes3 f in
@@ -90,10 +90,10 @@ module _ (passes passes1 passes2 passes3 passes4 : List LockPass) (journal journ
       (record {
         in_turn = (
           between,
-          subst (λ ds. AsksAll attr (decisions_at passes low) ds told between) (sym (ap (λ ds. get_or ds low []) freed ∙ decisions-takes high low passes1 passes2 higher t' apart)) asked,
+          subst (λ ds. AsksInRounds attr (decisions_at passes low) ds told between) (sym (ap (λ ds. get_or ds low []) freed ∙ decisions-takes high low passes1 passes2 higher t' apart)) asked,
           (
             told',
-            subst (λ (z : List Decision × List (List Decision)). AsksAll attr z.0 (get_or z.1 high []) between told')
+            subst (λ (z : List Decision × List (List Decision)). AsksInRounds attr z.0 (get_or z.1 high []) between told')
                 (λ i. (decisions-takes low high passes passes1 lower t back i, sym freed i)) asked',
             refl,
           ),

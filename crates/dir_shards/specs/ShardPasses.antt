@@ -4,10 +4,10 @@ use Rattle.atomic_table.specs.Seated.{TableId}
 use Rattle.dir_table.specs.declared.calls.DirCall.{DirCall}
 use Rattle.dir_table.specs.declared.calls.DirReply.{DirReply}
 use Rattle.shfl_line.specs.declared.words.Attr.{Attr}
-use Rattle.shfl_line.specs.declared.choosers.Answer.{Answer}
+use Rattle.shfl_line.specs.declared.choosers.Told.{Told}
 use Rattle.shfl_table.specs.declared.view.Decision.{Decision}
 use Rattle.shfl_table.specs.PassModel.{BoardId}
-use Rattle.shfl_table.specs.Waits.{AsksAll}
+use Rattle.shfl_table.specs.Waits.{AsksInRounds}
 use Rattle.shared_journal.specs.Entries.{IsAmong}
 use Rattle.shared_journal.specs.Models.{PassModel}
 use Rattle.shard_rows.specs.Replay.{DirEntry, entry_by}
@@ -59,13 +59,13 @@ abbrev pub asked_at : ShardPassModel → ℕ → List Decision
 asked_at p dir = slice_index_or p.decisions dir []
 
 -- what these locks asked, the chooser answered, one lock after another
-abbrev pub AsksInTurn : ShardPassModel → ShardPassModel → List ℕ → Option (List Answer) → Option (List Answer) → Type 0
+abbrev pub AsksInTurn : ShardPassModel → ShardPassModel → List ℕ → Option (List Told) → Option (List Told) → Type 0
 AsksInTurn old new [] told told' = told' ≡ told
 AsksInTurn old new (dir ∷ dirs) told told' =
-    (between : Option (List Answer)) × AsksAll old.attr (asked_at old dir) (asked_at new dir) told between × AsksInTurn old new dirs between told'
+    (between : Option (List Told)) × AsksInRounds old.attr (asked_at old dir) (asked_at new dir) told between × AsksInTurn old new dirs between told'
 
 -- and no other lock asked anything
-pub record Asks (old new : ShardPassModel) (dirs : List ℕ) (told told' : Option (List Answer)) : Type 0 where
+pub record Asks (old new : ShardPassModel) (dirs : List ℕ) (told told' : Option (List Told)) : Type 0 where
   pub in_turn : AsksInTurn old new dirs told told'
   pub elsewhere : (dir : ℕ) → ¬ IsAmong dir dirs → asked_at new dir ≡ asked_at old dir
 

@@ -1,6 +1,6 @@
 //! A directory's lock is taken, and freed.
 ghost use Rattle.std.specs.Prelude.{◌≡◌, ◌<◌, ℕ, true, false, map, length, slice_get, Some};
-ghost use Rattle.shfl_table.specs.Waits.{AsksAll};
+ghost use Rattle.shfl_table.specs.Waits.{AsksInRounds};
 ghost use Rattle.dir_shards.specs.KeptShards.{state_of};
 ghost use Rattle.dir_shards.specs.Locks.{LockPass, IsFree, HasOut, IsSamePass, TakesAt, FreesAt, as_free, decisions_at, AreOfLocks};
 
@@ -24,7 +24,7 @@ fn take_lock<C: Chooser, G: Gate, Rt: Wait>(
     ensures same { IsSamePass pass.old pass.new }
     ensures out { HasOut pass.new }
     ensures kept { state_of result ≡ pass.old.initial_state }
-    ensures asked { AsksAll attr.now pass.old.decisions pass.new.decisions
+    ensures asked { AsksInRounds attr.now pass.old.decisions pass.new.decisions
         (C.told chooser.old) (C.told chooser.new) }
     ensures home { C.home chooser.new ≡ C.home chooser.old }
     ensures in_round { C.in_round chooser.old ≡ false → C.in_round chooser.new ≡ false }
@@ -58,7 +58,7 @@ pub fn lock_at<C: Chooser, G: Gate, Rt: Wait>(
     requires locks { AreOfLocks passes.old (map (λ b. b.id) boards.now) }
     requires free { (p : LockPass) → slice_get passes.old place ≡ Some p → IsFree p }
     ensures takes { TakesAt place passes.old result passes.new }
-    ensures asked { AsksAll attr.now (decisions_at passes.old place)
+    ensures asked { AsksInRounds attr.now (decisions_at passes.old place)
         (decisions_at passes.new place) (C.told chooser.old) (C.told chooser.new) }
     ensures home { C.home chooser.new ≡ C.home chooser.old }
     ensures in_round { C.in_round chooser.old ≡ false → C.in_round chooser.new ≡ false }

@@ -226,10 +226,10 @@ fn policies_answer_by_the_socket_or_always_alike(rt: HostRuntime) {
     holds(&rt, !Always.skip(&here, 1));
 }
 
-// A policy that tells its answers, until it has no memory for one more.
+// A policy that keeps what it is told, until it has no memory for more.
 #[derive(Drop)]
 struct Recorder {
-    answers: Vec<Answer>,
+    told: Vec<Told>,
     lost: bool,
     asking: bool,
 }
@@ -239,7 +239,7 @@ impl Chooser for Recorder {
 
     ghost in_round = { λ s. s.asking };
 
-    ghost told = { λ s. if s.lost then None else Some s.answers.items };
+    ghost told = { λ s. if s.lost then None else Some s.told.items };
 
     fn may_move_waiters(&self) -> bool {
         true
@@ -247,6 +247,10 @@ impl Chooser for Recorder {
 
     fn begin<Rt: Wait>(&mut self, _rt: &Rt) {
         self.asking = true;
+        match self.told.push(Told::Begun) {
+            Ok(()) => {}
+            Err(_) => self.lost = true,
+        }
     }
 
     fn skip(&mut self, anchor: &Attr, batch: u16) -> bool {
@@ -256,7 +260,7 @@ impl Chooser for Recorder {
             batch,
             answer: false,
         };
-        match self.answers.push(answer) {
+        match self.told.push(Told::Answered(answer)) {
             Ok(()) => {}
             Err(_) => self.lost = true,
         }
@@ -270,7 +274,7 @@ impl Chooser for Recorder {
             batch,
             answer: true,
         };
-        match self.answers.push(answer) {
+        match self.told.push(Told::Answered(answer)) {
             Ok(()) => {}
             Err(_) => self.lost = true,
         }
@@ -279,13 +283,17 @@ impl Chooser for Recorder {
 
     fn end(&mut self) {
         self.asking = false;
+        match self.told.push(Told::Ended) {
+            Ok(()) => {}
+            Err(_) => self.lost = true,
+        }
     }
 }
 
 #[test]
-fn a_policy_tells_its_answers(rt: HostRuntime) {
+fn a_policy_tells_its_round(rt: HostRuntime) {
     let mut policy = Recorder {
-        answers: Vec::new(rt.alloc()),
+        told: Vec::new(rt.alloc()),
         lost: false,
         asking: false,
     };
@@ -294,7 +302,9 @@ fn a_policy_tells_its_answers(rt: HostRuntime) {
     holds(&rt, !policy.skip(&here, 1));
     holds(&rt, policy.should(&here, &here, 2));
     policy.end();
-    same(&rt, &policy.answers.len(), &2);
+    same(&rt, &policy.told.len(), &4);
+    holds(&rt, matches!(policy.told.first(), Some(Told::Begun)));
+    holds(&rt, matches!(policy.told.last(), Some(Told::Ended)));
     holds(&rt, !policy.asking);
 }
 

@@ -4,7 +4,7 @@ ghost use Rattle.hist_log.specs.History.{state_left};
 ghost use Rattle.shfl_line.specs.Words.{held_of, closed_of};
 ghost use Rattle.shfl_line.specs.declared.events.Mode.TheVariants.{Read};
 ghost use Rattle.shfl_core.specs.Plan as plan;
-ghost use Rattle.shfl_table.specs.Waits.{as_idle, AsksAll};
+ghost use Rattle.shfl_table.specs.Waits.{as_idle, AsksInRounds};
 ghost use Rattle.shfl_table.specs.Books.{pack, opening_of, operations_of};
 ghost use Rattle.rw_cell.specs.CallOrder.{calls_of};
 ghost use Rattle.rw_cell.specs.RwCells.{MakesRead, number, turned_away};
@@ -130,7 +130,7 @@ impl<O: Object + Drop> RwCellOf<Book<O>, Entry<O>, O> {
 
         // The lock was held for reading.
         ensures mode { pass.new.reg.mode ≡ Read }
-        ensures asked { AsksAll pass.old.attr pass.old.decisions pass.new.decisions
+        ensures asked { AsksInRounds pass.old.attr pass.old.decisions pass.new.decisions
             (C.told chooser.old) (C.told chooser.new) }
         ensures home { C.home chooser.new ≡ C.home chooser.old }
         ensures in_round { C.in_round chooser.old ≡ false → C.in_round chooser.new ≡ false }

@@ -5,7 +5,7 @@ ghost use Rattle.shfl_line.specs.declared.events.Mode.TheVariants.{Write};
 ghost use Rattle.shfl_core.specs.Plan as plan;
 ghost use Rattle.shfl_table.specs.Histories.{actions_by};
 ghost use Rattle.shfl_table.specs.Places.{Every};
-ghost use Rattle.shfl_table.specs.Waits.{as_idle, AsksAll};
+ghost use Rattle.shfl_table.specs.Waits.{as_idle, AsksInRounds};
 ghost use Rattle.shfl_table.specs.Books.{pack, opening_of, allowed_of, operations_of};
 ghost use Rattle.rw_cell.specs.CallOrder.{calls_of};
 ghost use Rattle.rw_cell.specs.RwCells.{MakesWrite, number, turned_away, write_after};
@@ -199,7 +199,7 @@ impl<O: Object + Drop> RwCellOf<Book<O>, Entry<O>, O> {
 
         // The lock was held for writing.
         ensures mode { pass.new.reg.mode ≡ Write }
-        ensures asked { AsksAll pass.old.attr pass.old.decisions pass.new.decisions
+        ensures asked { AsksInRounds pass.old.attr pass.old.decisions pass.new.decisions
             (C.told chooser.old) (C.told chooser.new) }
         ensures home { C.home chooser.new ≡ C.home chooser.old }
         ensures in_round { C.in_round chooser.old ≡ false → C.in_round chooser.new ≡ false }

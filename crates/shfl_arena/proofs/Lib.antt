@@ -26,4 +26,5 @@ pub mod Attempts
 pub mod Splits
 pub mod FirstState
 pub mod WaitSteps
+pub mod Asked
 pub mod Mutexes

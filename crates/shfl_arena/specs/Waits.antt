@@ -1,12 +1,26 @@
--- A seat that waits for a lock.
-use Rattle.std.specs.Prelude.{◌≡◌, ◌≢◌, ℕ, false, Some, None}
+-- A seat that waits for a lock, and what it asks meanwhile.
+use Rattle.std.specs.Prelude.{◌≡◌, ◌≢◌, ℕ, false, List, Option, Some, None}
+use Rattle.shfl_line.specs.declared.words.Attr.{Attr}
+use Rattle.shfl_line.specs.declared.choosers.Answer.{Answer}
+use Rattle.shfl_line.specs.declared.choosers.Told.{Told}
+use Rattle.shfl_line.specs.Rounds.{AsksBy}
 use Rattle.shfl_line.specs.declared.events.Mode.{Mode}
 use Rattle.shfl_line.specs.Line.{is_write}
+use Rattle.shfl_core.specs.Asking.{answer_of}
 use Rattle.shfl_core.specs.Plan.{moving}
 use Rattle.shfl_laws.specs.Holds.{is_ending}
+use Rattle.shfl_arena.specs.declared.view.Decision.{Decision}
 use Rattle.shfl_arena.specs.Threads.{mode_held}
 use Rattle.shfl_arena.specs.SeatModels.{SeatModel}
 use Rattle.shfl_arena.specs.ValueMoves.{writes, MovesValue}
+
+-- the answer with which a decision was made
+abbrev pub answers_of : Attr → Decision → List Answer
+answers_of anchor d = answer_of anchor d.ask d.choice
+
+-- what the seat asked since, the chooser was told, in rounds, and nothing else
+abbrev pub AsksInRounds : Attr → List Decision → List Decision → Option (List Told) → Option (List Told) → Type 0
+AsksInRounds anchor old new told told' = AsksBy (answers_of anchor) old new told told'
 
 -- a seat that began to take the lock in a mode, and made some steps since
 pub record WaitsFor {X : Type 0} (lock : ℕ) (mode : Mode) (old now : SeatModel X) : Type 0 where

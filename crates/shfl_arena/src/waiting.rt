@@ -1,12 +1,14 @@
 //! The loop in which a seat waits for a lock.
 ghost use Rattle.std.specs.Prelude.{◌≡◌, ◌<◌, false, true, None, Some};
+ghost use Rattle.shfl_line.specs.Policies.{Adds};
 ghost use Rattle.shfl_line.specs.declared.events.Mode.TheVariants.{Write};
+ghost use Rattle.shfl_core.specs.Asking.{end_told, is_last_of_round, question_told, step_told};
 ghost use Rattle.shfl_core.specs.Plan as plan;
 ghost use Rattle.shfl_core.specs.Waiting.{MayUse};
 ghost use Rattle.shfl_arena.specs.SeatSteps.{TakesStep};
 ghost use Rattle.shfl_arena.specs.Threads.{mode_held};
 ghost use Rattle.shfl_arena.specs.ValueMoves.{HasInFront};
-ghost use Rattle.shfl_arena.specs.Waits.{Frees, WaitsFor};
+ghost use Rattle.shfl_arena.specs.Waits.{AsksInRounds, Frees, WaitsFor};
 
 use crate::arena::Arena;
 use crate::seats::ArenaSeat;
@@ -48,6 +50,8 @@ fn pause<Rt: Wait>(rt: &Rt, form: Form, looks: u32, again: bool) -> u32 {
 // The policy's answer to what the next step asks. The first question of a round opens it.
 fn answer<C: Chooser, Rt: Wait>(rt: &Rt, chooser: &mut C, anchor: &Attr, ask: Ask) -> bool
     ensures home { C.home chooser.new ≡ C.home chooser.old }
+    ensures told { Adds (C.told chooser.old) (C.told chooser.new)
+        (question_told anchor.now ask result) }
 {
     match ask {
         Ask::Nothing => false,
@@ -62,10 +66,18 @@ fn answer<C: Chooser, Rt: Wait>(rt: &Rt, chooser: &mut C, anchor: &Attr, ask: As
 // Closes a round whose last step this was.
 fn close_round<C: Chooser>(chooser: &mut C, ended: bool)
     ensures home { C.home chooser.new ≡ C.home chooser.old }
+    ensures told { Adds (C.told chooser.old) (C.told chooser.new) (end_told ended) }
 {
     if ended {
         chooser.end();
     }
+}
+
+// Whether the next step ends a round.
+fn ends_round(phase: Phase, nap: Nap) -> bool
+    ensures { result ≡ is_last_of_round phase nap }
+{
+    matches!(nap, Nap::Awake) && matches!(phase, Phase::Give)
 }
 
 // Whether the seat looks at the same word again.
@@ -93,15 +105,16 @@ fn step_on<V: Drop, C: Chooser, Rt: Wait>(
     requires arena { seat.old.arena ≡ arena.now.id }
     requires moving { plan.moving seat.old.own ≡ true }
     ensures home { C.home chooser.new ≡ C.home chooser.old }
-    ensures row { (choice : _) × TakesStep seat.old choice seat.new }
+    ensures row { (choice : _) × TakesStep seat.old choice seat.new
+        × Adds (C.told chooser.old) (C.told chooser.new)
+        (step_told anchor.now seat.old.arena.rules seat.old.own choice) }
 {
     let before = seat.phase();
     let nap = seat.nap();
     let ask = seat.ask();
     let choice = answer(rt, chooser, anchor, ask);
     let _ = seat.step(arena, choice);
-    let ended = matches!(nap, Nap::Awake) && matches!(before, Phase::Give);
-    close_round(chooser, ended);
+    close_round(chooser, ends_round(before, nap));
     looks_again(before, seat.phase(), nap)
 }
 
@@ -125,6 +138,8 @@ pub fn wait_for<V: Drop, C: Chooser, Rt: Wait>(
     ensures home { C.home chooser.new ≡ C.home chooser.old }
     ensures rests { plan.moving seat.new.own ≡ false }
     ensures waited { WaitsFor lock mode seat.old seat.new }
+    ensures asked { AsksInRounds anchor.now seat.old.decisions seat.new.decisions
+        (C.told chooser.old) (C.told chooser.new) }
 {
     if seat.attempt(arena, lock, mode).is_ok() {
         return;

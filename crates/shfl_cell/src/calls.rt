@@ -4,7 +4,7 @@ ghost use Rattle.hist_log.specs.History.{IsLegal};
 ghost use Rattle.shfl_line.specs.declared.events.Mode.TheVariants.{Write};
 ghost use Rattle.shfl_core.specs.Plan as plan;
 ghost use Rattle.shfl_table.specs.Histories.{actions_by};
-ghost use Rattle.shfl_table.specs.Waits.{as_idle, AsksAll};
+ghost use Rattle.shfl_table.specs.Waits.{as_idle, AsksInRounds};
 ghost use Rattle.shfl_table.specs.Books.{pack, opening_of, allowed_of, operations_of};
 ghost use Rattle.shfl_cell.specs.Cells.{MakesCall, number, turned_away};
 
@@ -104,7 +104,7 @@ impl<O: Object + Drop> ShflCellOf<Book<O>> {
           call = O.call_numbers call.now;
           reply = O.reply_numbers result.0;
         }) result.1.place pass.new }
-        ensures asked { AsksAll pass.old.attr pass.old.decisions pass.new.decisions
+        ensures asked { AsksInRounds pass.old.attr pass.old.decisions pass.new.decisions
             (C.told chooser.old) (C.told chooser.new) }
         ensures home { C.home chooser.new ≡ C.home chooser.old }
         ensures in_round { C.in_round chooser.old ≡ false → C.in_round chooser.new ≡ false }

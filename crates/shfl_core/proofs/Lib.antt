@@ -5,3 +5,4 @@ pub mod Blind
 pub mod Standing
 pub mod Opening
 pub mod StaysAwake
+pub mod Rounds

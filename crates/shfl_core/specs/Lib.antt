@@ -3,6 +3,7 @@ pub mod CacheLines
 pub mod Plan
 pub mod Take
 pub mod Waiting
+pub mod Asking
 pub mod Worlds
 pub mod Bounds
 pub mod Runner

@@ -11,3 +11,4 @@ pub mod Kept
 pub mod KeptLine
 pub mod KeptBatch
 pub mod EachStep
+pub mod Rounds

@@ -5,3 +5,4 @@ pub mod Steps
 pub mod Tests
 pub mod Shown
 pub mod Policies
+pub mod Rounds

@@ -1,6 +1,7 @@
 //! Policies: whoever answers the questions of a round.
-ghost use Rattle.std.specs.Prelude.{◌≡◌, ℕ, List, [], Option, None, Bool, true, false, ◌==◌};
-ghost use Rattle.shfl_line.specs.Policies.{AddsAnswer, skip_answer, should_answer};
+ghost use Rattle.std.specs.Prelude.{◌≡◌, ℕ, List, [], ◌∷◌, Option, None, Bool, true, false, ◌==◌};
+ghost use Rattle.shfl_line.specs.Policies.{Adds, should_answer, skip_answer};
+ghost use Rattle.shfl_line.specs.declared.choosers.Told.TheVariants.{Begun, Answered, Ended};
 
 use crate::words::Attr;
 use std::sync::Wait;
@@ -14,9 +15,17 @@ pub struct Answer {
     pub answer: bool,
 }
 
+/// What a policy is told: that a round begins, a question with its answer, or that the round ended.
+#[derive(Clone, Copy, Debug, PartialEq, Eq, Drop)]
+pub enum Told {
+    Begun,
+    Answered(Answer),
+    Ended,
+}
+
 /// Answers the questions of a round: whether to skip it, and whether a waiter should be moved up.
 pub trait Chooser {
-    ghost use Rattle.shfl_line.specs.declared.choosers.Answer.{Answer};
+    ghost use Rattle.shfl_line.specs.declared.choosers.Told.{Told};
 
     /// Plain data that no call changes.
     ghost home: { Self → List ℕ };
@@ -24,8 +33,8 @@ pub trait Chooser {
     /// Whether a round is open.
     ghost in_round: { Self → Bool };
 
-    /// The answers so far, where it tells them.
-    ghost told: { Self → Option (List Answer) };
+    /// What it was told so far, each call in its turn, where it keeps that.
+    ghost told: { Self → Option (List Told) };
 
     /// Whether it may move a waiter up.
     ghost moves_waiters: { Self → Bool } = { λ _. true };
@@ -37,27 +46,27 @@ pub trait Chooser {
     /// Opens a round. It may wait for another thread.
     fn begin<Rt: Wait>(&mut self, rt: &Rt)
         ensures home { home self.new ≡ home self.old }
-        ensures told { told self.new ≡ told self.old };
+        ensures told { Adds (told self.old) (told self.new) (Begun ∷ []) };
 
     /// Whether the round ends before its first waiter. `anchor` is the pass that asks.
     fn skip(&mut self, anchor: &Attr, batch: u16) -> bool
         ensures home { home self.new ≡ home self.old }
         ensures in_round { in_round self.new ≡ in_round self.old }
-        ensures told { AddsAnswer (told self.old) (told self.new)
-            (skip_answer anchor.now batch result) };
+        ensures told { Adds (told self.old) (told self.new)
+            (Answered (skip_answer anchor.now batch result) ∷ []) };
 
     /// Whether the waiter should join the group of the asking pass.
     fn should(&mut self, anchor: &Attr, waiter: &Attr, batch: u16) -> bool
         ensures home { home self.new ≡ home self.old }
         ensures in_round { in_round self.new ≡ in_round self.old }
-        ensures told { AddsAnswer (told self.old) (told self.new)
-            (should_answer anchor.now waiter.now batch result) };
+        ensures told { Adds (told self.old) (told self.new)
+            (Answered (should_answer anchor.now waiter.now batch result) ∷ []) };
 
     /// Closes the round.
     fn end(&mut self)
         ensures home { home self.new ≡ home self.old }
         ensures in_round { in_round self.new ≡ false }
-        ensures told { told self.new ≡ told self.old };
+        ensures told { Adds (told self.old) (told self.new) (Ended ∷ []) };
 }
 
 /// Answers no to all.

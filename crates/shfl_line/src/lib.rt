@@ -7,7 +7,7 @@ mod laws;
 mod line_state;
 mod words;
 
-pub use choosers::{Always, Answer, BySocket, Chooser, Never};
+pub use choosers::{Always, Answer, BySocket, Chooser, Never, Told};
 pub use events::{Form, LineEvent, Mode, Role};
 pub use laws::laws_of_line_steps;
 pub use line_state::LineState;

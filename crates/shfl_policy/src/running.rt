@@ -1,6 +1,6 @@
 //! A policy that answers the questions of a round.
 ghost use Rattle.std.specs.Prelude.{◌≡◌};
-ghost use Rattle.shfl_line.specs.Policies.{AddsAnswer, skip_answer, should_answer};
+ghost use Rattle.shfl_line.specs.Policies.{Adds, skip_answer, should_answer};
 ghost use Rattle.shfl_policy.specs.Policies.{answer, should_of, skip_of, no_waiter};
 
 use crate::asked::context;

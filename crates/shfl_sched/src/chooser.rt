@@ -1,6 +1,6 @@
 //! The rule of a schedule as one that answers the questions of a round.
 ghost use Rattle.std.specs.Prelude.{◌≡◌};
-ghost use Rattle.shfl_line.specs.Policies.{AddsAnswer, skip_answer, should_answer};
+ghost use Rattle.shfl_line.specs.Policies.{Adds, skip_answer, should_answer};
 ghost use Rattle.shfl_sched.specs.Choices.{skips, groups};
 
 use crate::schedule::Rule;

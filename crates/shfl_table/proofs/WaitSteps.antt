@@ -1,8 +1,10 @@
 -- A pass that waits, step by step; and one that gives the lock back.
-use Rattle.std.proofs.Common.{length, ◌≡◌, ℕ, ◌+◌, Bool, true, false, cond, List, [], ◌∷◌, ◌++◌, map, Option, Some, None, refl, sym, ap, ◌∙◌, subst, inl, inr, ⊎_elim, append_assoc, append-nil, arith, ◌≤◌}
+use Rattle.std.proofs.Common.{length, ◌≡◌, ℕ, ◌+◌, Bool, true, false, cond, List, [], ◌∷◌, ◌++◌, map, flat_map, Option, Some, None, refl, sym, ap, ◌∙◌, subst, append-nil, arith, ◌≤◌}
 use Rattle.std.specs.Prelude.{◌&&◌, not}
 use Rattle.shfl_line.specs.declared.words.Attr.{Attr}
-use Rattle.shfl_line.specs.declared.choosers.Answer.{Answer}
+use Rattle.shfl_line.specs.declared.choosers.Told.{Told}
+use Rattle.shfl_line.specs.Policies.{Adds}
+use Rattle.shfl_line.proofs.Rounds.{AsksSoFar, SoFar, asks-first, asks-more, asks-whole}
 use Rattle.shfl_line.specs.declared.events.Mode.{Mode}
 use Rattle.shfl_line.specs.declared.events.Mode.TheVariants.{Write, Read}
 use Rattle.shfl_core.specs.declared.phase.Phase.{Phase}
@@ -11,9 +13,12 @@ use Rattle.shfl_core.specs.declared.phase.Nap.TheVariants.{Awake}
 use Rattle.shfl_core.specs.declared.phase.PassState.{PassState}
 use Rattle.shfl_core.specs.declared.phase.Ask.{Ask}
 use Rattle.shfl_core.specs.declared.phase.Ask.TheVariants.{Nothing, Skip, Should}
-use Rattle.shfl_core.specs.Phases.{is_holding}
+use Rattle.shfl_core.specs.Asking.{answer_of, step_told}
+use Rattle.shfl_core.specs.Phases.{is_holding, is_round}
 use Rattle.shfl_core.specs.Plan.{is_idle, is_resting, moving}
 use Rattle.shfl_core.specs.Take.{take, acquired, released, entry, exit}
+use Rattle.shfl_core.specs.Waiting.{ask}
+use Rattle.shfl_core.proofs.Rounds.{told-step}
 use Rattle.shfl_laws.proofs.laws.MoveLaws.{resting-is}
 use Rattle.shfl_table.specs.declared.kept.Action.{Action}
 use Rattle.shfl_table.specs.declared.view.Decision.{Decision}
@@ -26,34 +31,40 @@ use Rattle.shfl_table.specs.PassModel.{AreIn, BoardId, PassModel}
 use Rattle.shfl_table.specs.PassSteps.{SeesValues, TakesStep}
 use Rattle.shfl_laws.proofs.laws.Holds.{take-mode, frees-only}
 use Rattle.shfl_laws.proofs.laws.Waits.{waits-on}
-use Rattle.shfl_table.specs.Waits.{AsksAll, Tells, TriedInVain, WaitsFor, answer_of, answers_of, as_idle}
+use Rattle.shfl_table.specs.Waits.{AsksInRounds, TriedInVain, WaitsFor, answers_of, as_idle}
 
 -- one ask has one answer
-pub answers-entry : (anchor : Attr) (choice : Bool) (a : Ask) → answers_of anchor (decision_on choice a) ≡ answer_of anchor a choice
+answers-entry : (anchor : Attr) (choice : Bool) (a : Ask) → flat_map (answers_of anchor) (decision_on choice a) ≡ answer_of anchor a choice
 answers-entry anchor choice Nothing = refl
 answers-entry anchor choice (Skip batch) = refl
 answers-entry anchor choice (Should waiter batch) = refl
 
-answers-more : (anchor : Attr) (l m : List Decision) → answers_of anchor (l ++ m) ≡ answers_of anchor l ++ answers_of anchor m
-answers-more anchor [] m = refl
-answers-more anchor (x ∷ xs) m = ap (λ r. answer_of anchor x.ask x.choice ++ r) (answers-more anchor xs m) ∙ sym (append_assoc (answer_of anchor x.ask x.choice) (answers_of anchor xs) (answers_of anchor m))
+-- what the pass asked since, and the chooser was told so far
+abbrev pub AsksMeanwhile : {X : Type 0} → Attr → PassModel X → PassModel X → Option (List Told) → Option (List Told) → Type 0
+AsksMeanwhile anchor old now told told' = AsksSoFar (answers_of anchor) (is_round now.own.phase) old.decisions now.decisions told told'
 
-pub tells-none : (a : Option (List Answer)) → Tells a a []
-tells-none None = refl
-tells-none (Some l) = inl (ap (λ (z : List Answer). Some z) (sym (append-nil l)))
+pub asks-begun : {X : Type 0} (anchor : Attr) (old tried : PassModel X) (mode : Mode) (told : Option (List Told)) → is_idle tried.own.phase ≡ true → tried.decisions ≡ old.decisions
+    → AsksMeanwhile anchor old (record tried { own = acquired mode tried.own }) told told
+asks-begun anchor old tried mode told idle same = subst (λ b. AsksSoFar (answers_of anchor) b old.decisions tried.decisions told told) (sym (enters (is_idle tried.own.phase) idle mode))
+    (asks-first (answers_of anchor) old.decisions tried.decisions told same)
+  where
+    enters : (b : Bool) → b ≡ true → (m : Mode) → is_round (cond b (record tried.own { phase = entry m; reg = record tried.own.reg { mode = m } }) tried.own).phase ≡ false
+    enters false e m = absurd (cc)
+    enters true e Write = refl
+    enters true e Read = refl
 
-pub tells-more : (a b c : Option (List Answer)) (l m : List Answer) → Tells a b l → Tells b c m → Tells a c (l ++ m)
-tells-more None b c l m one two = subst (λ (z : Option (List Answer)). Tells z c m) one two
-tells-more (Some k) b c l m one two = ⊎_elim
-    (λ h. ⊎_elim (λ g. inl (g ∙ ap (λ (z : List Answer). Some z) (append_assoc k l m))) (λ g. inr g) (subst (λ (z : Option (List Answer)). Tells z c m) h two))
-    (λ h. inr (subst (λ (z : Option (List Answer)). Tells z c m) h two))
-    one
+pub asks-step : {X : Type 0} (anchor : Attr) (initial_state : X → List ℕ) (history : X → List Action) (old now new : PassModel X) (choice : Bool) (a b c : Option (List Told)) → AsksMeanwhile anchor old now a b
+    → TakesStep initial_state history now choice new → Adds b c (step_told anchor now.board.rules now.own choice) → AsksMeanwhile anchor old new a c
+asks-step anchor initial_state history old now new choice a b c so_far s add =
+    asks-more (answers_of anchor) (is_round now.own.phase) (is_round new.own.phase) old.decisions now.decisions new.decisions (step_decisions now.board.rules now.own choice) a b c (answer_of anchor (ask now.board.rules now.own) choice) so_far
+    (ap (λ (z : PassModel _). z.decisions) s.row) (answers-entry anchor choice (ask now.board.rules now.own))
+    (λ xs h. subst (λ (q : PassState). SoFar (is_round q.phase) (xs ++ answer_of anchor (ask now.board.rules now.own) choice) a c) (sym (ap (λ (z : PassModel _). z.own) s.row))
+    (told-step anchor now.board.rules s.found choice xs a b c now.own h add))
 
-pub asks-more : (anchor : Attr) (x y z : List Decision) (a b c : Option (List Answer)) (m : List Decision) → AsksAll anchor x y a b → z ≡ y ++ m → Tells b c (answers_of anchor m) → AsksAll anchor x z a c
-asks-more anchor x y z a b c m one is two = (one.0 ++ m, is ∙ (ap (λ l. l ++ m) one.1 ∙ append_assoc x one.0 m), subst (λ (l : List Answer). Tells a c l) (sym (answers-more anchor one.0 m)) (tells-more a b c (answers_of anchor one.0) (answers_of anchor m) one.2 two))
-
-pub asks-none : (anchor : Attr) (x : List Decision) (a : Option (List Answer)) → AsksAll anchor x x a a
-asks-none anchor x a = ([], sym (append-nil x), tells-none a)
+-- a pass that holds the lock and owes no step is in no round
+pub asks-done : {X : Type 0} (anchor : Attr) (old now : PassModel X) (a b : Option (List Told)) → is_resting now.own ≡ true → AsksMeanwhile anchor old now a b → AsksInRounds anchor old.decisions now.decisions a b
+asks-done anchor old now a b rests s = asks-whole (answers_of anchor) old.decisions now.decisions a b
+    (subst (λ f. AsksSoFar (answers_of anchor) (is_round f) old.decisions now.decisions a b) (resting-is now.own rests).0 s)
 
 holds-mode : (b : Bool) (m x : Mode) → cond b (Some m) None ≡ Some x → m ≡ x
 holds-mode true m x e = cc

@@ -4,8 +4,8 @@ use Rattle.shfl_line.specs.Words.{closed_of}
 use Rattle.shfl_core.specs.declared.phase.Phase.{Phase}
 use Rattle.shfl_core.specs.declared.phase.Phase.TheVariants.{Peek, HeadLook}
 use Rattle.shfl_core.specs.declared.phase.PassState.{PassState}
+use Rattle.shfl_core.specs.Asking.{is_last_of_round}
 use Rattle.shfl_core.specs.Plan.{is_awake}
-use Rattle.shfl_table.specs.Waits.{is_last_of_round}
 use Rattle.shfl_table.specs.declared.outcomes.Outcome.{Outcome}
 use Rattle.shfl_table.specs.declared.outcomes.Outcome.TheVariants.{Resting, Advanced, InVain, InVainOpen, GroupedNobody}
 

@@ -1,16 +1,13 @@
 -- A pass that waits for the lock, and what it asks meanwhile.
-use Rattle.std.specs.Prelude.{◌≡◌, ◌⊎◌, ◌&&◌, ◌+◌, ◌≤◌, ℕ, Bool, true, false, List, [], ◌∷◌, ◌++◌, Option, Some, None}
+use Rattle.std.specs.Prelude.{◌≡◌, ◌+◌, ◌≤◌, ℕ, true, false, List, [], Option, Some, None}
 use Rattle.shfl_line.specs.declared.words.Attr.{Attr}
 use Rattle.shfl_line.specs.declared.choosers.Answer.{Answer}
-use Rattle.shfl_line.specs.Policies.{skip_answer, should_answer}
+use Rattle.shfl_line.specs.declared.choosers.Told.{Told}
+use Rattle.shfl_line.specs.Rounds.{AsksBy}
 use Rattle.shfl_line.specs.declared.events.Mode.{Mode}
-use Rattle.shfl_core.specs.declared.phase.Ask.{Ask}
-use Rattle.shfl_core.specs.declared.phase.Ask.TheVariants.{Nothing, Skip, Should}
-use Rattle.shfl_core.specs.declared.phase.Phase.{Phase}
-use Rattle.shfl_core.specs.declared.phase.Phase.TheVariants.{Idle, Give}
-use Rattle.shfl_core.specs.declared.phase.Nap.{Nap}
-use Rattle.shfl_core.specs.Phases.{is_round}
-use Rattle.shfl_core.specs.Plan.{is_awake, is_idle}
+use Rattle.shfl_core.specs.declared.phase.Phase.TheVariants.{Idle}
+use Rattle.shfl_core.specs.Asking.{answer_of}
+use Rattle.shfl_core.specs.Plan.{is_idle}
 use Rattle.shfl_core.specs.declared.phase.Nap.TheVariants.{Awake}
 use Rattle.shfl_core.specs.declared.phase.PassState.{PassState}
 use Rattle.shfl_table.specs.declared.kept.Action.{Action}
@@ -19,41 +16,13 @@ use Rattle.shfl_laws.specs.Holds.{hold_of, is_ending}
 use Rattle.shfl_table.specs.PassModel.{PassModel}
 use Rattle.shfl_table.specs.PassSteps.{SeesValues}
 
--- the answers of a chooser that was asked so
-abbrev pub answer_of : Attr → Ask → Bool → List Answer
-answer_of anchor Nothing choice = []
-answer_of anchor (Skip batch) choice = skip_answer anchor batch choice ∷ []
-answer_of anchor (Should waiter batch) choice = should_answer anchor waiter batch choice ∷ []
+-- the answer with which a decision was made
+abbrev pub answers_of : Attr → Decision → List Answer
+answers_of anchor d = answer_of anchor d.ask d.choice
 
-abbrev pub answers_of : Attr → List Decision → List Answer
-answers_of anchor [] = []
-answers_of anchor (a ∷ l) = answer_of anchor a.ask a.choice ++ answers_of anchor l
-
--- a chooser that tells its answers tells these more, or stops to tell
-abbrev pub Tells : Option (List Answer) → Option (List Answer) → List Answer → Type 0
-Tells None new more = new ≡ None
-Tells (Some old) new more = (new ≡ Some (old ++ more)) ⊎ (new ≡ None)
-
--- what the pass asked since, the chooser answered, in this order
-abbrev pub AsksAll : Attr → List Decision → List Decision → Option (List Answer) → Option (List Answer) → Type 0
-AsksAll anchor old new told told' = (more : List Decision) × (new ≡ old ++ more) × Tells told told' (answers_of anchor more)
-
--- the question that opens a round
-abbrev pub opens_round : Ask → Bool
-opens_round (Skip batch) = true
-opens_round _ = false
-
-abbrev pub is_give : Phase → Bool
-is_give Give = true
-is_give _ = false
-
--- the next step is the last of a round
-abbrev pub is_last_of_round : Phase → Nap → Bool
-is_last_of_round f nap = is_awake nap && is_give f
-
--- a chooser is open at most while its pass is in a round
-abbrev pub IsOpenInRounds : Bool → PassState → Type 0
-IsOpenInRounds in_round q = in_round ≡ true → is_round q.phase ≡ true
+-- what the pass asked since, the chooser was told, in rounds, and nothing else
+abbrev pub AsksInRounds : Attr → List Decision → List Decision → Option (List Told) → Option (List Told) → Type 0
+AsksInRounds anchor old new told told' = AsksBy (answers_of anchor) old new told told'
 
 -- where a pass stands that gave the lock back
 abbrev pub as_idle : PassState → PassState

@@ -1,5 +1,7 @@
 //! The loop in which a pass waits for the lock.
 ghost use Rattle.std.specs.Prelude.{◌≡◌, ◌≢◌, ◌+◌, ℕ, Bool, true, false, List, [], length, map, Some};
+ghost use Rattle.shfl_line.specs.Policies.{Adds};
+ghost use Rattle.shfl_core.specs.Asking.{IsOpenInRounds, end_told, is_last_of_round, opens_round, question_told, step_told};
 ghost use Rattle.shfl_core.specs.Plan as plan;
 ghost use Rattle.shfl_core.specs.Waiting.{MayUse};
 ghost use Rattle.shfl_table.specs.Histories.{common_history};
@@ -7,10 +9,9 @@ ghost use Rattle.shfl_table.specs.PassModel.{AreIn};
 ghost use Rattle.shfl_table.specs.PassSteps.{TakesStep};
 ghost use Rattle.shfl_table.specs.Places.{place_count};
 ghost use Rattle.shfl_table.specs.Queueing.{attempts_before};
-ghost use Rattle.shfl_table.specs.Views.{step_decisions};
 ghost use Rattle.shfl_table.specs.declared.outcomes.Outcome.TheVariants.{InVainOpen};
 ghost use Rattle.shfl_table.specs.declared.queueing.Queueing.TheVariants.{ByPolicy};
-ghost use Rattle.shfl_table.specs.Waits.{AsksAll, IsOpenInRounds, Tells, WaitsFor, answer_of, answers_of, as_idle, is_last_of_round, opens_round};
+ghost use Rattle.shfl_table.specs.Waits.{AsksInRounds, WaitsFor, as_idle};
 
 use crate::board::SharedBoard;
 use crate::kept::Kept;
@@ -28,8 +29,8 @@ use syn_outer::{Gate, Point};
 fn answer<C: Chooser, Rt: Wait>(rt: &Rt, chooser: &mut C, anchor: &Attr, ask: Ask) -> bool
     ensures home { C.home chooser.new ≡ C.home chooser.old }
     ensures in_round { opens_round ask ≡ false → C.in_round chooser.new ≡ C.in_round chooser.old }
-    ensures told { Tells (C.told chooser.old) (C.told chooser.new)
-        (answer_of anchor.now ask result) }
+    ensures told { Adds (C.told chooser.old) (C.told chooser.new)
+        (question_told anchor.now ask result) }
 {
     match ask {
         Ask::Nothing => false,
@@ -46,7 +47,7 @@ fn close_round<C: Chooser>(chooser: &mut C, ended: bool)
     ensures home { C.home chooser.new ≡ C.home chooser.old }
     ensures ended { ended ≡ true → C.in_round chooser.new ≡ false }
     ensures going_on { ended ≡ false → C.in_round chooser.new ≡ C.in_round chooser.old }
-    ensures told { C.told chooser.new ≡ C.told chooser.old }
+    ensures told { Adds (C.told chooser.old) (C.told chooser.new) (end_told ended) }
 {
     if ended {
         chooser.end();
@@ -139,8 +140,8 @@ fn step_on<V: Kept + Drop, C: Chooser, G: Gate, Rt: Wait>(
         → IsOpenInRounds (C.in_round chooser.new) pass.new.own }
     ensures row { (choice : Bool)
         × TakesStep V.initial_state V.history pass.old choice pass.new
-        × Tells (C.told chooser.old) (C.told chooser.new)
-        (answers_of anchor.now (step_decisions pass.old.board.rules pass.old.own choice)) }
+        × Adds (C.told chooser.old) (C.told chooser.new)
+        (step_told anchor.now pass.old.board.rules pass.old.own choice) }
 {
     let before = pass.phase();
     let nap = pass.nap();
@@ -191,7 +192,7 @@ pub fn wait_by<V: Kept + Drop, C: Chooser, G: Gate, Rt: Wait>(
     ensures within { AreIn V.history pass.new.history pass.new.values }
     ensures places { length pass.new.values
         ≡ place_count (Some mode) pass.old.own.reg.me pass.old.board.table.slots }
-    ensures asked { AsksAll anchor.now pass.old.decisions pass.new.decisions
+    ensures asked { AsksInRounds anchor.now pass.old.decisions pass.new.decisions
         (C.told chooser.old) (C.told chooser.new) }
 {
     let attempts = attempts_before(queueing, chooser.may_move_waiters());
@@ -234,7 +235,7 @@ pub fn wait_for<V: Kept + Drop, C: Chooser, G: Gate, Rt: Wait>(
     ensures within { AreIn V.history pass.new.history pass.new.values }
     ensures places { length pass.new.values
         ≡ place_count (Some mode) pass.old.own.reg.me pass.old.board.table.slots }
-    ensures asked { AsksAll anchor.now pass.old.decisions pass.new.decisions
+    ensures asked { AsksInRounds anchor.now pass.old.decisions pass.new.decisions
         (C.told chooser.old) (C.told chooser.new) }
 {
     wait_by(

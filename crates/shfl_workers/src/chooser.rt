@@ -2,7 +2,7 @@
 ghost use Rattle.std.specs.Prelude.{◌≡◌, None, IsSome, IsSomeAnd};
 ghost use Rattle.policy_versions.specs.Models.{IsClosed, IsNewest, LoadedLast};
 ghost use Rattle.policy_versions.specs.Rule.{word_of};
-ghost use Rattle.shfl_line.specs.Policies.{AddsAnswer, skip_answer, should_answer};
+ghost use Rattle.shfl_line.specs.Policies.{Adds, skip_answer, should_answer};
 ghost use Rattle.shfl_workers.specs.Choosing.{policy_of, skipped, moved_up};
 
 use policy_versions::{Registry, Using, VersionPass};

@@ -4,7 +4,7 @@ ghost use Rattle.std.specs.Prelude.{◌≡◌, ◌<◌, All, [], IfOk};
 use super::marks::TwoMarks;
 use super::register::Register;
 use shfl_cell::{CellPass, ShflCell};
-use shfl_line::{Answer, Attr, Chooser, Form, Never, NoMemory};
+use shfl_line::{Answer, Attr, Chooser, Form, Never, NoMemory, Told};
 use std::alloc::Global;
 use std::sync::Wait;
 use std::sync::atomic::{AtomicU64, Ordering};
@@ -19,10 +19,10 @@ const ATTR: Attr = Attr {
     kind: 0,
 };
 
-/// A policy that keeps its answers, which are no.
+/// A policy that keeps what it was told; its answers are no.
 #[derive(Drop)]
 struct Recorder {
-    answers: Vec<Answer>,
+    told: Vec<Told>,
     lost: bool,
     asking: bool,
 }
@@ -34,7 +34,7 @@ impl Chooser for Recorder {
 
     ghost in_round = { λ s. s.asking };
 
-    ghost told = { λ s. if s.lost then None else Some s.answers.items };
+    ghost told = { λ s. if s.lost then None else Some s.told.items };
 
     fn may_move_waiters(&self) -> bool {
         true
@@ -42,6 +42,10 @@ impl Chooser for Recorder {
 
     fn begin<Rt: Wait>(&mut self, _rt: &Rt) {
         self.asking = true;
+        match self.told.push(Told::Begun) {
+            Ok(()) => {}
+            Err(_) => self.lost = true,
+        }
     }
 
     fn skip(&mut self, anchor: &Attr, batch: u16) -> bool {
@@ -51,7 +55,7 @@ impl Chooser for Recorder {
             batch,
             answer: false,
         };
-        match self.answers.push(answer) {
+        match self.told.push(Told::Answered(answer)) {
             Ok(()) => {}
             Err(_) => self.lost = true,
         }
@@ -65,7 +69,7 @@ impl Chooser for Recorder {
             batch,
             answer: false,
         };
-        match self.answers.push(answer) {
+        match self.told.push(Told::Answered(answer)) {
             Ok(()) => {}
             Err(_) => self.lost = true,
         }
@@ -74,37 +78,43 @@ impl Chooser for Recorder {
 
     fn end(&mut self) {
         self.asking = false;
+        match self.told.push(Told::Ended) {
+            Ok(()) => {}
+            Err(_) => self.lost = true,
+        }
     }
 }
 
-/// What two calls told.
+/// What two calls showed.
 #[derive(Drop)]
-struct Told {
+struct Shown {
     // The word that a try found, the place of the next one, and its reply.
     word: AtomicU64,
     place: AtomicU64,
     reply: AtomicU64,
-    // How many answers the policy of pass 1 gave, and the batch of the last that was no to a skip.
-    answers: AtomicU64,
+    // How much the policy of pass 1 was told, and the batch of its one round, where the answer was no to a skip.
+    heard: AtomicU64,
     batch: AtomicU64,
 }
 
-impl Told {
-    fn new() -> Told {
-        Told {
+impl Shown {
+    fn new() -> Shown {
+        Shown {
             word: AtomicU64::new(0),
             place: AtomicU64::new(0),
             reply: AtomicU64::new(0),
-            answers: AtomicU64::new(0),
+            heard: AtomicU64::new(0),
             batch: AtomicU64::new(0),
         }
     }
 
-    fn keep(&self, answers: &[Answer]) {
-        self.answers.store(answers.len() as u64, Ordering::SeqCst);
-        if let Some(last) = answers.last() {
-            if last.waiter.is_none() && !last.answer {
-                self.batch.store(u64::from(last.batch), Ordering::SeqCst);
+    fn keep(&self, told: &[Told]) {
+        self.heard.store(told.len() as u64, Ordering::SeqCst);
+        let begun = matches!(told.first(), Some(Told::Begun));
+        let ended = matches!(told.last(), Some(Told::Ended));
+        if let Some(Told::Answered(answer)) = told.get(1) {
+            if begun && ended && answer.waiter.is_none() && !answer.answer {
+                self.batch.store(u64::from(answer.batch), Ordering::SeqCst);
             }
         }
     }
@@ -115,7 +125,7 @@ fn overlap<R: Wait>(
     rt: &R,
     cell: &ShflCell<Register>,
     gate: &TwoMarks,
-    told: &Told,
+    shown: &Shown,
     pass: &mut CellPass<Register>,
 )
     requires cell { pass.old.cell ≡ cell.now.id }
@@ -127,36 +137,36 @@ fn overlap<R: Wait>(
     }
     gate.held.wait(1, &gate.late);
     if let Err(busy) = cell.try_apply(pass, &8) {
-        told.word.store(busy.word, Ordering::SeqCst);
+        shown.word.store(busy.word, Ordering::SeqCst);
     }
     gate.waited.set();
     gate.freed.wait(1, &gate.late);
     if let Ok((reply, receipt)) = cell.try_apply(pass, &9) {
-        told.reply.store(u64::from(reply), Ordering::SeqCst);
-        told.place.store(receipt.place, Ordering::SeqCst);
+        shown.reply.store(u64::from(reply), Ordering::SeqCst);
+        shown.place.store(receipt.place, Ordering::SeqCst);
     }
 }
 
-// Pass 1 waits behind pass 0, and its policy keeps its answers.
+// Pass 1 waits behind pass 0, and its policy keeps what it is told.
 fn wait_behind<R: Wait>(
     rt: &R,
     alloc: Global,
     cell: &ShflCell<Register>,
     gate: &TwoMarks,
-    told: &Told,
+    shown: &Shown,
     pass: &mut CellPass<Register>,
 )
     requires cell { pass.old.cell ≡ cell.now.id }
     requires left { 0 < pass.old.left }
 {
     let mut policy = Recorder {
-        answers: Vec::new(alloc),
+        told: Vec::new(alloc),
         lost: false,
         asking: false,
     };
     let _ = cell.apply(rt, pass, &mut policy, gate, &pass.number());
     if pass.number() == 1 && !policy.lost {
-        told.keep(&policy.answers);
+        shown.keep(&policy.told);
     }
 }
 
@@ -164,7 +174,7 @@ fn overlap_all<R: Threads + Wait + Sync>(
     rt: &R,
     cell: &ShflCell<Register>,
     gate: &TwoMarks,
-    told: &Told,
+    shown: &Shown,
     passes: &mut [CellPass<Register>],
 )
     requires cell { All (λ p. (p.cell ≡ cell.now.id) × (1 < p.left)) passes.old }
@@ -172,7 +182,7 @@ fn overlap_all<R: Threads + Wait + Sync>(
     let job = |_place: usize, pass: &mut CellPass<Register>|
         requires { (pass.now.cell ≡ cell.now.id) × (1 < pass.now.left) }
     {
-        overlap(rt, cell, gate, told, pass);
+        overlap(rt, cell, gate, shown, pass);
     };
     thread::for_each_mut(rt, passes, 2, &job);
 }
@@ -182,7 +192,7 @@ fn wait_all<R: Threads + Wait + Sync>(
     alloc: Global,
     cell: &ShflCell<Register>,
     gate: &TwoMarks,
-    told: &Told,
+    shown: &Shown,
     passes: &mut [CellPass<Register>],
 )
     requires cell { All (λ p. (p.cell ≡ cell.now.id) × (1 < p.left)) passes.old }
@@ -190,7 +200,7 @@ fn wait_all<R: Threads + Wait + Sync>(
     let job = |_place: usize, pass: &mut CellPass<Register>|
         requires { (pass.now.cell ≡ cell.now.id) × (1 < pass.now.left) }
     {
-        wait_behind(rt, alloc, cell, gate, told, pass);
+        wait_behind(rt, alloc, cell, gate, shown, pass);
     };
     thread::for_each_mut(rt, passes, 2, &job);
 }
@@ -206,22 +216,22 @@ fn two_passes(alloc: Global) -> Result<(ShflCell<Register>, Vec<CellPass<Registe
 #[test]
 fn a_try_beside_a_holder_is_told_the_lock_word(rt: HostRuntime) -> Result<(), Fail> {
     let (cell, mut passes) = two_passes(rt.alloc())?;
-    let (gate, told) = (TwoMarks::new(1), Told::new());
-    overlap_all(&rt, &cell, &gate, &told, &mut passes);
+    let (gate, shown) = (TwoMarks::new(1), Shown::new());
+    overlap_all(&rt, &cell, &gate, &shown, &mut passes);
     assert_eq!(rt; gate.late.count(), 0);
-    assert_eq!(rt; told.word.load(Ordering::SeqCst), 1);
-    assert_eq!(rt; told.place.load(Ordering::SeqCst), 1);
-    assert_eq!(rt; told.reply.load(Ordering::SeqCst), 7);
+    assert_eq!(rt; shown.word.load(Ordering::SeqCst), 1);
+    assert_eq!(rt; shown.place.load(Ordering::SeqCst), 1);
+    assert_eq!(rt; shown.reply.load(Ordering::SeqCst), 7);
     Ok(())
 }
 
 #[test]
 fn the_policy_of_a_waiter_is_asked_once_whether_to_skip(rt: HostRuntime) -> Result<(), Fail> {
     let (cell, mut passes) = two_passes(rt.alloc())?;
-    let (gate, told) = (TwoMarks::new(2), Told::new());
-    wait_all(&rt, rt.alloc(), &cell, &gate, &told, &mut passes);
+    let (gate, shown) = (TwoMarks::new(2), Shown::new());
+    wait_all(&rt, rt.alloc(), &cell, &gate, &shown, &mut passes);
     assert_eq!(rt; gate.late.count(), 0);
-    assert_eq!(rt; told.answers.load(Ordering::SeqCst), 1);
-    assert_eq!(rt; told.batch.load(Ordering::SeqCst), 1);
+    assert_eq!(rt; shown.heard.load(Ordering::SeqCst), 3);
+    assert_eq!(rt; shown.batch.load(Ordering::SeqCst), 1);
     Ok(())
 }

@@ -1,5 +1,5 @@
 use Rattle.std.proofs.Common.{◌≡◌, true, false, sym, ap, ◌∙◌}
-use Rattle.shfl_table.specs.Waits.{opens_round}
+use Rattle.shfl_core.specs.Asking.{opens_round}
 use Rattle.shfl_table.proofs.waiting.answer.Goals as goal
 
 pub returns-in-Skip-clause-in_round : goal.returns-in-Skip-clause-in_round

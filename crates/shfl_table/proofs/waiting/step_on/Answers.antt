@@ -1,13 +1,12 @@
-use Rattle.std.proofs.Common.{◌≡◌, false, sym, ap, ◌∙◌, subst, List, Option}
-use Rattle.shfl_core.specs.declared.phase.Ask.{Ask}
+use Rattle.std.proofs.Common.{◌≡◌, false, sym, ap, ◌∙◌, ◌++◌, subst, List}
 use Rattle.shfl_core.specs.declared.phase.PassState.{PassState}
 use Rattle.shfl_core.specs.Waiting.{ask}
-use Rattle.shfl_line.specs.declared.choosers.Answer.{Answer}
+use Rattle.shfl_core.specs.Asking.{IsOpenInRounds, end_told, is_last_of_round, opens_round, question_told}
+use Rattle.shfl_line.specs.declared.choosers.Told.{Told}
+use Rattle.shfl_line.specs.Policies.{Adds}
+use Rattle.shfl_line.proofs.Rounds.{adds-more}
 use Rattle.shfl_table.specs.PassModel.{PassModel}
-use Rattle.shfl_table.specs.Views.{step_decisions}
-use Rattle.shfl_table.specs.Waits.{answer_of, answers_of, IsOpenInRounds, is_last_of_round, opens_round, Tells}
 use Rattle.shfl_table.proofs.OpenRounds.{open-step}
-use Rattle.shfl_table.proofs.WaitSteps.{answers-entry}
 use Rattle.shfl_table.proofs.waiting.step_on.Goals as goal
 
 pub returns-clause-home : goal.returns-clause-home
@@ -23,12 +22,12 @@ returns-clause-in_round g c still = let p = c.args.pass.now in let rules = p.boa
     (λ e. c.close_round.ensures.ended (last ∙ e)) (λ e. c.close_round.ensures.going_on (last ∙ e)) still)
 
 pub returns-clause-row : goal.returns-clause-row
-returns-clause-row g c = let a = c.answer-choice.ensures in let p = c.args.pass.now in let choice = c.answer-choice.result in let told = g.C.Chooser.told in (
+returns-clause-row g c = let p = c.args.pass.now in let choice = c.answer-choice.result in let told = g.C.Chooser.told in (
   choice,
   (c.advance-outcome.ensures.row c.requires.moving).0,
-  subst (λ (z : Option (List Answer)). Tells (told c.args.chooser.now) z (answers_of c.args.anchor.now (step_decisions p.board.rules p.own choice))) (sym c.close_round.ensures.told)
-      (subst (λ (l : List Answer). Tells (told c.args.chooser.now) (told c.answer-choice.new.chooser) l)
-      (ap (λ (k : Ask). answer_of c.args.anchor.now k choice) c.ask-ask.ensures.answer ∙ sym (answers-entry c.args.anchor.now choice (ask p.board.rules p.own))) a.told),
+  subst (λ (l : List Told). Adds (told c.args.chooser.now) (told c.close_round.new.chooser) l)
+      (λ j. question_told c.args.anchor.now (c.ask-ask.ensures.answer j) choice ++ end_told ((c.ends_round.ensures ∙ (λ i. is_last_of_round (c.phase-before.ensures i) (c.nap-nap.ensures i))) j))
+      (adds-more (told c.args.chooser.now) (told c.answer-choice.new.chooser) (told c.close_round.new.chooser) _ _ c.answer-choice.ensures.told c.close_round.ensures.told),
 )
 
 pub park_or_wake-requires : goal.park_or_wake-requires

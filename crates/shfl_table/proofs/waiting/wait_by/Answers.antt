@@ -1,10 +1,10 @@
-use Rattle.std.proofs.Common.{◌≡◌, true, false, sym, ap, ◌∙◌, subst, refl, List}
-use Rattle.shfl_table.specs.declared.view.Decision.{Decision}
+use Rattle.std.proofs.Common.{◌≡◌, true, false, sym, ap, ◌∙◌, subst, refl}
+use Rattle.shfl_line.proofs.Rounds.{asks-nothing}
+use Rattle.shfl_core.specs.Asking.{IsOpenInRounds}
 use Rattle.shfl_table.specs.PassModel.{PassModel}
-use Rattle.shfl_table.specs.Views.{step_decisions}
 use Rattle.shfl_table.specs.Queueing.{attempts_before}
-use Rattle.shfl_table.specs.Waits.{AsksAll, IsOpenInRounds, TriedInVain, WaitsFor}
-use Rattle.shfl_table.proofs.WaitSteps.{waits-after, waits-beside, waits-first, waits-in, waits-more, rests-now, asks-more, asks-none}
+use Rattle.shfl_table.specs.Waits.{TriedInVain, WaitsFor, answers_of}
+use Rattle.shfl_table.proofs.WaitSteps.{AsksMeanwhile, asks-begun, asks-done, asks-step, waits-after, waits-beside, waits-first, waits-in, waits-more, rests-now}
 use Rattle.shfl_table.proofs.OpenRounds.{rests-closed}
 use Rattle.shfl_table.proofs.waiting.wait_by.Goals as goal
 
@@ -15,11 +15,13 @@ loop-init g c = let p = c.args.pass.now in let r = c.acquire.ensures.after in le
       search,
       subst (λ (z : PassModel _). WaitsFor g.V.Kept.initial_state g.V.Kept.history (attempts_before c.args.queueing (g.C.Chooser.moves_waiters c.args.chooser.now)) c.args.mode p z) (sym r)
           (waits-after g.V.Kept.initial_state g.V.Kept.history (attempts_before c.args.queueing (g.C.Chooser.moves_waiters c.args.chooser.now)) c.args.mode p q _ (subst (λ n. TriedInVain n p q) bound v) (waits-first g.V.Kept.initial_state g.V.Kept.history 0 c.args.mode q v.rests (v.out ∙ c.requires.idle.1))),
-      subst (λ (z : PassModel _). AsksAll c.args.anchor.now p.decisions z.decisions told told) (sym r)
-          (subst (λ (l : List Decision). AsksAll c.args.anchor.now p.decisions l told told) (sym c.try_first.ensures.asked) (asks-none c.args.anchor.now p.decisions told)),
+      subst (λ (z : PassModel _). AsksMeanwhile c.args.anchor.now p z told told) (sym r) (asks-begun c.args.anchor.now p q c.args.mode told v.rests v.asked),
       refl,
       λ closed is. absurd (let x : true ≡ false = sym is ∙ closed in cc),
     )
+
+pub returns-then-try_first-clause-asked : goal.returns-then-try_first-clause-asked
+returns-then-try_first-clause-asked g c = asks-nothing (answers_of c.args.anchor.now) c.args.pass.now.decisions c.try_first.new.pass.decisions (g.C.Chooser.told c.args.chooser.now) c.try_first.ensures.asked
 
 pub loop-preserved : goal.loop-preserved
 loop-preserved g c = let i = c.loop.invariant in let s = c.step_on-outcome.ensures in let p = c.args.pass.now in let row = s.row.1 in let now = c.loop.pass in let d = c.keep_disabled.ensures.disabled in let told = g.C.Chooser.told in let attempts = attempts_before c.args.queueing (g.C.Chooser.moves_waiters c.args.chooser.now) in (
@@ -27,8 +29,8 @@ loop-preserved g c = let i = c.loop.invariant in let s = c.step_on-outcome.ensur
   search,
   subst (λ (z : PassModel _). WaitsFor g.V.Kept.initial_state g.V.Kept.history attempts c.args.mode p z) (sym d.1)
       (waits-beside g.V.Kept.initial_state g.V.Kept.history attempts c.args.mode p c.step_on-outcome.new.pass d.0 (waits-more g.V.Kept.initial_state g.V.Kept.history attempts c.args.mode p now c.step_on-outcome.new.pass s.row.0 i.2 row)),
-  subst (λ (z : PassModel _). AsksAll c.args.anchor.now p.decisions z.decisions (told c.args.chooser.now) (told c.step_on-outcome.new.chooser)) (sym d.1)
-      (asks-more c.args.anchor.now p.decisions now.decisions c.step_on-outcome.new.pass.decisions _ _ _ (step_decisions now.board.rules now.own s.row.0) i.3 (ap (λ (z : PassModel _). z.decisions) row.row) s.row.2),
+  subst (λ (z : PassModel _). AsksMeanwhile c.args.anchor.now p z (told c.args.chooser.now) (told c.step_on-outcome.new.chooser)) (sym d.1)
+      (asks-step c.args.anchor.now g.V.Kept.initial_state g.V.Kept.history p now c.step_on-outcome.new.pass s.row.0 _ _ _ i.3 row s.row.2),
   s.home ∙ i.4,
   λ closed. subst (λ (z : PassModel _). IsOpenInRounds (g.C.Chooser.in_round c.step_on-outcome.new.chooser) z.own) (sym d.1) (s.in_round (i.5 closed)),
 )
@@ -49,7 +51,7 @@ pub returns-then-not-moving-clause-waited : goal.returns-then-not-moving-clause-
 returns-then-not-moving-clause-waited g c = c.loop.invariant.2
 
 pub returns-then-not-moving-clause-asked : goal.returns-then-not-moving-clause-asked
-returns-then-not-moving-clause-asked g c = c.loop.invariant.3
+returns-then-not-moving-clause-asked g c = asks-done c.args.anchor.now c.args.pass.now c.loop.pass _ _ (rests-now c.loop.pass.own c.loop.invariant.2.goes_on (sym c.moving.ensures ∙ c.if-not-moving.true)) c.loop.invariant.3
 
 pub returns-then-not-moving-clause-in_round : goal.returns-then-not-moving-clause-in_round
 returns-then-not-moving-clause-in_round g c closed = rests-closed (g.C.Chooser.in_round c.loop.chooser) c.loop.pass.own (rests-now c.loop.pass.own c.loop.invariant.2.goes_on (sym c.moving.ensures ∙ c.if-not-moving.true)) (c.loop.invariant.5 closed)

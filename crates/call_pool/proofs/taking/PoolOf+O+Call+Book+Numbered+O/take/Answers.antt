@@ -1,5 +1,7 @@
 use Rattle.std.proofs.Common.{◌≡◌, ◌<◌, ◌∷◌, ◌++◌, [], All, slice_get, Some, sym, ap, ◌∙◌, subst}
 use Rattle.hist_log.specs.Numbers.{inner}
+use Rattle.shfl_line.proofs.Rounds.{asks-nothing}
+use Rattle.shfl_table.specs.Waits.{answers_of}
 use Rattle.hist_log.specs.declared.numbered.NumberedCall.{NumberedCall}
 use Rattle.call_pool.specs.Pools.{PoolPassModel, IsPassOf, TakesCall}
 use Rattle.call_pool.proofs.Takings.{one_left, still_own, at_place}
@@ -41,3 +43,7 @@ returns-clause-some g c = let d = (goal.at.returns-clause-some g c).In-Some in l
     subst (λ (z : PoolPassModel _). TakesCall O.call_numbers O.reply_at O.state_after c.args.self.now.queue.calls z c.in-Some.call.at (O.reply_numbers c.apply-reply.result.0) c.apply-reply.result.1.place
     (record { taker = c.take.new.taker; cell = c.apply-reply.new.pass })) c.pass.view_is
     (record { call = c.in-Some.call.call; listed = listed g d; taken = c.in-Some.ensures.taken; made = c.apply-reply.ensures.made; going_on = c.in-Some.ensures.going_on })
+
+pub returns-in_default-clause-asked : goal.returns-in_default-clause-asked
+returns-in_default-clause-asked g c = let told = g.Ch.Chooser.told c.args.chooser.now in
+    asks-nothing (answers_of c.args.pass.now.cell.attr) c.args.pass.now.cell.decisions c.pass.inside.cell.decisions told (ap (λ (z : PoolPassModel _). z.cell.decisions) c.pass.view_is)

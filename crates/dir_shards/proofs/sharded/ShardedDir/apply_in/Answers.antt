@@ -2,7 +2,7 @@ use Rattle.std.proofs.Common.{◌≡◌, ◌<◌, inl, ℕ, List, length, drop, 
 use Rattle.std.proofs.lemmas.Option.{slice_get_within}
 use Rattle.dir_table.specs.Meanings.{IsAdmitted}
 use Rattle.shfl_table.specs.PassModel.{BoardModel}
-use Rattle.shfl_table.specs.Waits.{AsksAll}
+use Rattle.shfl_table.specs.Waits.{AsksInRounds}
 use Rattle.dir_shards.specs.KeptShards.{state_of}
 use Rattle.dir_shards.specs.Locks.{LockPass, decisions_at}
 use Rattle.dir_shards.specs.Naming.{in_order}
@@ -82,4 +82,4 @@ returns-clause-asked g c =
     subst (λ (ls : List LockPass × List ℕ). Asks c.args.pass.now (pass_on ls.0 done.new.pass c.pass.inside.attr) ls.1 told told')
     (λ i. (sym (written_back c.pass.inside.passes.len passes (drop (length passes) c.pass.inside.passes.items) (omega (arith, long, long', ok))) i, in_order (c.first_dir-dir.ensures i) (sym c.requires.alone i)))
     (asks_one c.pass.inside.passes.items c.lock_at-kept.new.passes passes j done.new.pass c.pass.inside.attr c.args.pass.now dir c.lock_at-kept.result told told' c.pass.view_is h.takes c.free_at.ensures
-    (subst (λ l. AsksAll c.pass.inside.attr (decisions_at l dir) (decisions_at c.lock_at-kept.new.passes dir) told told') c.as_mut_slice-passes.ensures.value c.lock_at-kept.ensures.asked))
+    (subst (λ l. AsksInRounds c.pass.inside.attr (decisions_at l dir) (decisions_at c.lock_at-kept.new.passes dir) told told') c.as_mut_slice-passes.ensures.value c.lock_at-kept.ensures.asked))

@@ -1,7 +1,7 @@
 use Rattle.std.proofs.Common.{◌≡◌, ◌≢◌, ◌<◌, ◌⊎◌, inl, inr, ℕ, List, length, drop, map, min, max, slice_index, sym, refl, ap, ◌∙◌, subst, arith, ◌∷◌, []}
 use Rattle.dir_table.specs.Meanings.{IsAdmitted}
 use Rattle.shfl_table.specs.PassModel.{BoardModel}
-use Rattle.shfl_table.specs.Waits.{AsksAll}
+use Rattle.shfl_table.specs.Waits.{AsksInRounds}
 use Rattle.shard_rows.specs.Shares.{first_named}
 use Rattle.dir_shards.specs.KeptShards.{KeptShardModel, state_of}
 use Rattle.dir_shards.specs.Locks.{LockPass, decisions_at}
@@ -147,5 +147,5 @@ returns-clause-asked g c =
     subst (λ (ls : List LockPass × List ℕ). Asks c.args.pass.now (pass_on ls.0 done.new.pass c.pass.inside.attr) ls.1 told told') (λ i. (sym back i, locks i))
     (asks_two c.pass.inside.passes.items c.lock_at-lower.new.passes c.lock_at-higher.new.passes c.free_at.new.passes passes j done.new.pass c.pass.inside.attr c.args.pass.now low high
     c.lock_at-lower.result c.lock_at-higher.result told between told' c.pass.view_is far h.takes c.lock_at-higher.ensures.takes c.free_at.ensures c.free_at-2.ensures
-    (subst (λ l. AsksAll c.pass.inside.attr (decisions_at l low) (decisions_at c.lock_at-lower.new.passes low) told between) c.as_mut_slice-passes.ensures.value c.lock_at-lower.ensures.asked)
+    (subst (λ l. AsksInRounds c.pass.inside.attr (decisions_at l low) (decisions_at c.lock_at-lower.new.passes low) told between) c.as_mut_slice-passes.ensures.value c.lock_at-lower.ensures.asked)
     c.lock_at-higher.ensures.asked)
