@@ -21,6 +21,7 @@ pub mod ValueMoves
 pub mod Permits
 pub mod SeatPermits
 pub mod Numbers
+pub mod LastSteps
 pub mod SeatKept
 pub mod Attempts
 pub mod Splits

@@ -15,7 +15,7 @@ use Rattle.std.proofs.lemmas.Bool.Decides.{nat_tests}
 use Rattle.shfl_core.specs.Plan.{plan, moving, attempt_plan, is_held}
 use Rattle.shfl_core.specs.Take.{take, attempted}
 use Rattle.shfl_core.specs.Waiting.{MayUse, blank, idle}
-use Rattle.shfl_laws.specs.Seen.{SeenAs, Alike, Enters, Leaves}
+use Rattle.shfl_laws.specs.Seen.{SeenAs, Alike, Enters}
 use Rattle.shfl_laws.specs.Holds.{hold_of, is_releasing}
 use Rattle.shfl_laws.proofs.laws.MoveLaws.{resting-is}
 use Rattle.shfl_laws.proofs.laws.Holds.{take-mode}
@@ -36,6 +36,7 @@ use Rattle.shfl_arena.proofs.Threads.{at-none, off-at, still-is, mode-none, mode
 use Rattle.shfl_arena.proofs.StepLaws.{goes-on-law}
 use Rattle.shfl_arena.proofs.ValueMoves.{frees-writer}
 use Rattle.shfl_arena.proofs.Numbers.{take-number, attempt-number}
+use Rattle.shfl_arena.proofs.LastSteps.{leaving-seen, leaving-word}
 
 -- the locks held after an operation at one of them
 holds-here : (l : ℕ) (q : PassState) (h : List (ℕ × Mode)) → moving q ≡ false → mode_held l (holds_then l q h) ≡ hold_of q
@@ -44,6 +45,14 @@ holds-here l q h still = ap (λ b. mode_held l (cond b h (holds_after l q h))) s
     (λ r. (let f = (resting-is q r).0 in let same : (l == l) ≡ true = grind (arith, nat_tests) in
     (λ j. mode_held l (cond (is_held (f j)) ((l, q.reg.mode) ∷ without_lock l h) (without_lock l h))) ∙ (ap (λ b. cond b (Some q.reg.mode) (mode_held l (without_lock l h))) same ∙ sym (ap (λ z. cond (is_holding z) (Some q.reg.mode) None) f))))
     (still-is q still)
+
+-- a thread after an operation at a lock
+after-holds : (l : ℕ) (q : PassState) (v : ThreadView) → (thread_after l q v).holds ≡ holds_then l q v.holds
+after-holds l q v = by (moving q)
+  where
+    by : (b : Bool) → (cond b (record v { at = Some l; pass = q }) (record v { at = None; holds = holds_after l q v.holds })).holds ≡ cond b v.holds (holds_after l q v.holds)
+    by true = refl
+    by false = refl
 
 holds-else : (m l : ℕ) (q : PassState) (h : List (ℕ × Mode)) → m ≢ l → mode_held m (holds_then l q h) ≡ mode_held m h
 holds-else m l q h d = by (moving q)
@@ -72,6 +81,7 @@ module _ {X : Type 0} (shape : Shape) (rules : Rules) (own : PassState) (id : Ta
       gives = gives;
     });
     rests = λ g. ap (λ (z : ThreadView). z.at) thread-is ∙ (goes-on-law lock q.reg.me q me.0.thread).rests g;
+    here = λ g. ap (mode_held lock) (ap (λ (z : ThreadView). z.holds) thread-is ∙ after-holds lock q me.0.thread) ∙ holds-here lock q me.0.thread.holds g;
   })
 
 module _ {X : Type 0} (shape : Shape) (rules : Rules) (own : PassState) (lock : ℕ) (id : TableId) (me : Me (Option X) SeatView) (k : SeatInvariant {X = X} shape rules own lock id me) where
@@ -103,20 +113,13 @@ module _ {X : Type 0} (shape : Shape) (rules : Rules) (own : PassState) (lock : 
     step-told id' there = record {
       found = n;
       form = go.form;
-      row = λ j. record { arena = record { table = there j; rules = rules; shape = shape }; lock = lock; own = e j; holds = (ap (λ (z : SeatView). z.thread.holds) go.seat ∙ held-then) j; steps_taken = (go.seat j).steps_taken; decisions = (go.seat j).decisions; values = me'.1 };
+      row = λ j. record { arena = record { table = there j; rules = rules; shape = shape }; lock = lock; own = e j; holds = (ap (λ (z : SeatView). z.thread.holds) go.seat ∙ after-holds lock q0 me.0.thread) j; steps_taken = (go.seat j).steps_taken; decisions = (go.seat j).decisions; values = me'.1 };
       number = ap (λ (z : PassState). z.reg.me) e ∙ take-number rules own.reg.me own n choice;
-      waits = λ g. ap (λ (z : SeatView). z.thread.holds) go.seat ∙ (held-then ∙ ap (λ b. cond b me.0.thread.holds (holds_after lock q0 me.0.thread.holds)) (ap moving (sym e) ∙ g));
-      here = λ g. ap (mode_held lock) (ap (λ (z : SeatView). z.thread.holds) go.seat ∙ held-then) ∙ (holds-here lock q0 me.0.thread.holds (ap moving (sym e) ∙ g) ∙ ap hold_of (sym e));
-      elsewhere = λ l d. ap (mode_held l) (ap (λ (z : SeatView). z.thread.holds) go.seat ∙ held-then) ∙ holds-else l lock q0 me.0.thread.holds d;
+      waits = λ g. ap (λ (z : SeatView). z.thread.holds) go.seat ∙ (after-holds lock q0 me.0.thread ∙ ap (λ b. cond b me.0.thread.holds (holds_after lock q0 me.0.thread.holds)) (ap moving (sym e) ∙ g));
+      here = λ g. ap (mode_held lock) (ap (λ (z : SeatView). z.thread.holds) go.seat ∙ after-holds lock q0 me.0.thread) ∙ (holds-here lock q0 me.0.thread.holds (ap moving (sym e) ∙ g) ∙ ap hold_of (sym e));
+      elsewhere = λ l d. ap (mode_held l) (ap (λ (z : SeatView). z.thread.holds) go.seat ∙ after-holds lock q0 me.0.thread) ∙ holds-else l lock q0 me.0.thread.holds d;
       value = subst (λ (z : PassState). MovesValue {V = X} id.slots lock (writes own) (writes z) me.1 me'.1) (sym e) go.value;
     }
-      where
-        by : (b : Bool) → (cond b (record me.0.thread { at = Some lock; pass = q0 }) (record me.0.thread { at = None; holds = holds_after lock q0 me.0.thread.holds })).holds ≡ cond b me.0.thread.holds (holds_after lock q0 me.0.thread.holds)
-        by true = refl
-        by false = refl
-
-        held-then : (thread_after lock q0 me.0.thread).holds ≡ holds_then lock q0 me.0.thread.holds
-        held-then = by (moving q0)
 
   -- an attempt
   module _ (g : moving own ≡ false) (l : ℕ) (below : l < shape.locks) (threads : ℕ) (mode : Mode) (n : ℕ) (me' : Me (Option X) SeatView) (q : PassState) (e : q ≡ attempted mode (blank own.reg.me) n)
@@ -136,13 +139,9 @@ module _ {X : Type 0} (shape : Shape) (rules : Rules) (own : PassState) (lock : 
         → TriesOnce {X = X} l mode n (record { arena = record { table = id; rules = rules; shape = shape }; lock = lock; own = own; holds = me.0.thread.holds; steps_taken = me.0.steps_taken; decisions = me.0.decisions; values = me.1 })
         (record { arena = record { table = id'; rules = rules; shape = shape }; lock = l; own = q; holds = me'.0.thread.holds; steps_taken = me'.0.steps_taken; decisions = me'.0.decisions; values = me'.1 })
     attempt-told id' there = record {
-      after = λ j. record { arena = record { table = there j; rules = rules; shape = shape }; lock = l; own = e j; holds = (ap (λ (z : SeatView). z.thread.holds) go-own.seat ∙ by (moving q1)) j; steps_taken = (go-own.seat j).steps_taken; decisions = (ap (λ (z : SeatView). z.decisions) go-own.seat ∙ append-nil me.0.decisions) j; values = me'.1 };
+      after = λ j. record { arena = record { table = there j; rules = rules; shape = shape }; lock = l; own = e j; holds = (ap (λ (z : SeatView). z.thread.holds) go-own.seat ∙ after-holds l q1 me.0.thread) j; steps_taken = (go-own.seat j).steps_taken; decisions = (ap (λ (z : SeatView). z.decisions) go-own.seat ∙ append-nil me.0.decisions) j; values = me'.1 };
       value = subst (λ (z : PassState). MovesValue {V = X} id.slots l false (writes z) me.1 me'.1) (sym e) go-own.value;
     }
-      where
-        by : (b : Bool) → (cond b (record me.0.thread { at = Some l; pass = q1 }) (record me.0.thread { at = None; holds = holds_after l q1 me.0.thread.holds })).holds ≡ cond b me.0.thread.holds (holds_after l q1 me.0.thread.holds)
-        by true = refl
-        by false = refl
 
   -- entering and leaving
   module _ (g : moving own ≡ false) (l : ℕ) (below : l < shape.locks) (mode : Mode) where
@@ -175,22 +174,16 @@ module _ {X : Type 0} (shape : Shape) (rules : Rules) (own : PassState) (lock : 
       node = k.node;
       moves = λ _. entering-stands mode may free;
       rests = λ r. absurd (let z = moves-in mode in cc);
+      here = λ r. absurd (let z = moves-in mode in cc);
     }
 
     leaving-stands : (m : Mode) → mode_held l me.0.thread.holds ≡ Some m → (m ≡ Write → l < id.slots → HasInFront {V = X} l me.1) → StandsAt {X = X} shape rules (leaving own.reg.me m) l id me
-    leaving-stands Write held value = record {
+    leaving-stands m held value = record {
       below = below;
-      seen = subst (SeenAs rules.form (leaving own.reg.me Write)) (sym (off ∙ ap (pass_at_rest own.reg.me) held)) (Leaves refl refl);
+      seen = leaving-seen rules.form l own.reg.me me.0.thread (k.rests g) m held;
       may = inl (k.rests g);
-      range = first-word l below;
-      gives = λ _ m h. value m h;
-    }
-    leaving-stands Read held value = record {
-      below = below;
-      seen = subst (SeenAs rules.form (leaving own.reg.me Read)) (sym (off ∙ ap (pass_at_rest own.reg.me) held)) (Leaves refl refl);
-      may = inl (k.rests g);
-      range = first-word l below;
-      gives = λ _ m h. value m h;
+      range = leaving-word shape rules own.reg.me l id.words below (let a = k.node in omega arith) m;
+      gives = λ _ w h. value w h;
     }
 
     moves-out : (m : Mode) → moving (leaving own.reg.me m) ≡ true
@@ -203,4 +196,5 @@ module _ {X : Type 0} (shape : Shape) (rules : Rules) (own : PassState) (lock : 
       node = k.node;
       moves = λ _. leaving-stands mode held value;
       rests = λ r. absurd (let z = moves-out mode in cc);
+      here = λ r. absurd (let z = moves-out mode in cc);
     }

@@ -10,12 +10,12 @@ use Rattle.shfl_core.specs.Words.{site}
 use Rattle.shfl_core.specs.Plan.{plan, moving}
 use Rattle.shfl_core.specs.Take.{entry, exit}
 use Rattle.shfl_core.specs.Waiting.{idle}
-use Rattle.shfl_laws.specs.Holds.{is_releasing}
+use Rattle.shfl_laws.specs.Holds.{hold_of, is_releasing}
 use Rattle.shfl_laws.specs.Seen.{SeenAs}
 use Rattle.shfl_arena.specs.declared.shape.Shape.{Shape}
 use Rattle.shfl_arena.specs.declared.view.Decision.{Decision}
 use Rattle.shfl_arena.specs.declared.view.SeatView.{SeatView}
-use Rattle.shfl_arena.specs.Threads.{MayStepAt, pass_at, resting}
+use Rattle.shfl_arena.specs.Threads.{MayStepAt, mode_held, pass_at, resting}
 use Rattle.shfl_arena.specs.ArenaWords.{place, first_node}
 use Rattle.shfl_arena.specs.ValueMoves.{HasInFront}
 
@@ -75,3 +75,5 @@ pub record SeatInvariant {X : Type 0} (shape : Shape) (rules : Rules) (own : Pas
   pub node : first_node shape + 10 * own.reg.me + 3 < id.words
   pub moves : moving own ≡ true → StandsAt shape rules own lock id me
   pub rests : moving own ≡ false → me.0.thread.at ≡ None
+  -- and then its pass tells how it holds the lock of its last call
+  pub here : moving own ≡ false → mode_held lock me.0.thread.holds ≡ hold_of own

@@ -1,5 +1,5 @@
 -- A seat that waits for a lock, and what it asks meanwhile.
-use Rattle.std.specs.Prelude.{◌≡◌, ◌≢◌, ℕ, false, List, Option, Some, None}
+use Rattle.std.specs.Prelude.{◌≡◌, ◌≢◌, ℕ, ◌+◌, false, List, Option, Some, None}
 use Rattle.shfl_line.specs.declared.words.Attr.{Attr}
 use Rattle.shfl_line.specs.declared.choosers.Answer.{Answer}
 use Rattle.shfl_line.specs.declared.choosers.Told.{Told}
@@ -36,12 +36,13 @@ pub record WaitsFor {X : Type 0} (lock : ℕ) (mode : Mode) (old now : SeatModel
   -- the value of that lock comes with a writer's hold, and no other value moves
   pub value : MovesValue old.arena.table.slots lock false (writes now.own) old.values now.values
 
--- a seat that gave the lock back, with its value
+-- a seat that gave the lock back, with its value, by one step
 pub record Frees {X : Type 0} (lock : ℕ) (mode : Mode) (old now : SeatModel X) : Type 0 where
   pub arena : now.arena ≡ old.arena
   pub number : now.own.reg.me ≡ old.own.reg.me
   pub rests : moving now.own ≡ false
   pub here : mode_held lock now.holds ≡ None
   pub elsewhere : (l : ℕ) → l ≢ lock → mode_held l now.holds ≡ mode_held l old.holds
+  pub steps : now.steps_taken ≡ old.steps_taken + 1
   pub decisions : now.decisions ≡ old.decisions
   pub value : MovesValue old.arena.table.slots lock (is_write mode) false old.values now.values

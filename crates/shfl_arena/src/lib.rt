@@ -3,6 +3,7 @@
 
 mod arena;
 pub mod laws;
+mod leaving;
 mod mutex;
 mod opening;
 mod operation;

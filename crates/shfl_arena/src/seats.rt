@@ -8,8 +8,10 @@ ghost use Rattle.shfl_arena.specs.SeatModels.{entering, leaving};
 ghost use Rattle.shfl_arena.specs.SeatSteps.{TakesStep, WinsAttempt, LosesAttempt, TriesOnce};
 ghost use Rattle.shfl_arena.specs.Threads.{mode_held};
 ghost use Rattle.shfl_arena.specs.ValueMoves.{HasInFront};
+ghost use Rattle.shfl_arena.specs.Waits.{Frees};
 
 use crate::arena::Arena;
+use crate::leaving::leave_once;
 use crate::operation::{attempt_once, disable_once, operate, store_attribute};
 use crate::shape::Shape;
 use crate::view::SeatView;
@@ -208,6 +210,23 @@ impl<V: Drop> ArenaSeat<V> {
         }
         let _ = self.step(arena, false);
         Err(found)
+    }
+
+    // Gives back a lock that it holds in this mode: `release` and the step that follows, in one. No register is written.
+    #[inline(always)]
+    pub(crate) fn leave(&mut self, arena: &Arena<V>, lock: u32, mode: Mode)
+        requires arena { self.old.arena ≡ arena.now.id }
+        requires rests { plan.moving self.old.own ≡ false }
+        requires lock { lock < self.old.arena.shape.locks }
+        requires holds { mode_held lock self.old.holds ≡ Some mode }
+        requires value { mode ≡ Write → lock < self.old.arena.table.slots
+            → HasInFront lock self.old.values }
+        ensures { Frees lock mode self.old self.new }
+    {
+        let shared = &arena.table.shared;
+        let _ = leave_once::<V, Brand>(shared, &mut self.seat, self.shape, self.rules, lock, mode);
+        self.own.phase = Phase::Idle;
+        self.lock = lock;
     }
 
     /// Disables stealing at a lock, beside the steps: the lock's word says so, and nothing else changes. It is made for the queue's

@@ -3,6 +3,7 @@ ghost use Rattle.std.specs.Prelude.{◌≡◌, false};
 ghost use Rattle.shfl_core.specs.Plan as plan;
 ghost use Rattle.shfl_core.specs.Waiting as waiting;
 ghost use Rattle.shfl_laws.specs.Holds.{hold_of};
+ghost use Rattle.shfl_arena.specs.Threads.{mode_held};
 
 use crate::seats::ArenaSeat;
 use shfl_core::asks::{ask_row, is_moving, watch_row};
@@ -50,10 +51,12 @@ impl<V: Drop> ArenaSeat<V> {
         matches!(self.own.phase, Phase::Held)
     }
 
-    /// How its last call or step left it holding that lock, if it did. It is said of a seat that has no step to make.
+    /// How it holds that lock, if it does. It is said of a seat that has no step to make.
     #[inline(always)]
     pub fn hold(&self) -> Option<Mode>
-        ensures { plan.moving self.now.own ≡ false → result ≡ hold_of self.now.own }
+        ensures pass { plan.moving self.now.own ≡ false → result ≡ hold_of self.now.own }
+        ensures exact { plan.moving self.now.own ≡ false
+            → result ≡ mode_held self.now.lock self.now.holds }
     {
         if self.held() {
             Some(self.own.reg.mode)

@@ -168,6 +168,5 @@ pub fn free<V: Drop>(arena: &Arena<V>, seat: &mut ArenaSeat<V>, lock: u32, mode:
         → HasInFront lock seat.old.values }
     ensures { Frees lock mode seat.old seat.new }
 {
-    let _ = seat.release(lock, mode);
-    let _ = seat.step(arena, false);
+    seat.leave(arena, lock, mode);
 }

@@ -62,6 +62,11 @@ fn forget(held: &mut Vec<(u32, Mode)>, lock: u32)
     ensures len { vec_len held.new ≤ vec_len held.old }
     ensures capacity { vec_capacity held.new ≡ vec_capacity held.old }
 {
+    // Whoever holds one lock alone walks over no list.
+    if held.len() == 1 && held[0].0 == lock {
+        held.clear();
+        return;
+    }
     held.retain(|x| x.0 != lock);
 }
 

@@ -5,6 +5,6 @@ use Rattle.shfl_seats.proofs.kept.KeptSeat.step.Goals as goal
 pub invariant_of-self-then-not-moving : goal.invariant_of-self-then-not-moving
 invariant_of-self-then-not-moving c = let i = c.self.inside in let rests = sym c.moving.ensures ∙ c.if-not-moving.true in (
   rested-agree c.args.choice i.seat c.step.new.self i.held.items c.note.new.held.items c.hold-hold.result c.lock-lock.result c.self.invariant.0 c.note.ensures
-      c.lock-lock.ensures (c.hold-hold.ensures rests) rests (c.step.ensures.row c.if-not-step.false),
+      c.lock-lock.ensures (c.hold-hold.ensures.pass rests) rests (c.step.ensures.row c.if-not-step.false),
   λ moves. absurd (cc),
 )
