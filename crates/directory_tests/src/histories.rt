@@ -1,8 +1,8 @@
 //! Histories of an object that answers each call with the call.
 ghost use Rattle.std.specs.Prelude.{◌≡◌};
 
+use crate::checks::{holds, is_told};
 use hist_log::{Entry, NoMemory, Object, legal};
-use std::test::Fail;
 
 /// Answers each call with its number.
 #[derive(Drop)]
@@ -77,14 +77,11 @@ fn entry(worker: u32, call: u32, reply: u32, receipt: u64) -> Entry<Echo>
 fn a_history_is_legal_where_each_reply_is_the_objects(rt: HostRuntime) {
     let right = [entry(0, 7, 7, 0), entry(1, 8, 8, 1)];
     let wrong = [entry(0, 7, 7, 0), entry(1, 8, 7, 1)];
-    assert!(rt; legal(&mut Echo { spare: 2 }, &right));
-    assert!(rt; !legal(&mut Echo { spare: 2 }, &wrong));
+    holds(&rt, legal(&mut Echo { spare: 2 }, &right));
+    holds(&rt, !legal(&mut Echo { spare: 2 }, &wrong));
 }
 
 #[test]
-fn want_of_memory_is_told(rt: HostRuntime) -> Result<(), Fail> {
-    let error = NoMemory;
-    let told = format!(in rt.alloc(); "{error}")?;
-    assert_eq!(rt; told.as_str(), "out of memory");
-    Ok(())
+fn want_of_memory_is_told(rt: HostRuntime) {
+    is_told(&rt, rt.alloc(), &NoMemory, "out of memory");
 }

@@ -2,6 +2,7 @@
 ghost use Rattle.std.specs.Prelude.{◌≡◌, ◌≤◌, [], IfOk, false, length, vec_len, vec_capacity, slice_get, Some};
 ghost use Rattle.shared_journal.specs.Models.{fresh_pass};
 
+use crate::checks::{holds, is_told, same};
 use shared_journal::{Closing, Committed, Journal, JournalPass, JournalTable, NoMemory, Step};
 use std::alloc::Global;
 use std::test::Fail;
@@ -96,6 +97,8 @@ fn closed(table: JournalTable<Lines>, pass: JournalPass<Lines>) -> Lines
     Closing::new(table, pass).finish()
 }
 
+const WRITTEN: [Line; 2] = [Line { worker: 0, text: 7 }, Line { worker: 0, text: 8 }];
+
 #[test]
 fn a_commit_adds_an_entry_at_the_place_it_answers(rt: HostRuntime) -> Result<(), Fail> {
     let alloc = rt.alloc();
@@ -108,26 +111,22 @@ fn a_commit_adds_an_entry_at_the_place_it_answers(rt: HostRuntime) -> Result<(),
         first,
         second: _,
     } = pass.commit(&rt, &table, known, None, Write { text: 7 });
-    assert_eq!(rt; (answer, place), (0, 0));
+    same(&rt, &(answer, place), &(0, 0));
     let Committed {
         answer,
         place,
         first: _,
         second,
     } = pass.commit(&rt, &table, first, Some(empty), Write { text: 8 });
-    assert_eq!(rt; (answer, place), (1, 1));
-    assert!(rt; second.is_some());
-    assert_eq!(rt; (pass.number(), pass.left()), (0, 2));
+    same(&rt, &(answer, place), &(1, 1));
+    holds(&rt, second.is_some());
+    same(&rt, &(pass.number(), pass.left()), &(0, 2));
     let journal = closed(table, pass);
-    let expected = [Line { worker: 0, text: 7 }, Line { worker: 0, text: 8 }];
-    assert_eq!(rt; journal.lines.as_slice(), expected.as_slice());
+    same(&rt, &journal.lines.as_slice(), &WRITTEN.as_slice());
     Ok(())
 }
 
 #[test]
-fn want_of_memory_is_told(rt: HostRuntime) -> Result<(), Fail> {
-    let error = NoMemory;
-    let told = format!(in rt.alloc(); "{error}")?;
-    assert_eq!(rt; told.as_str(), "out of memory");
-    Ok(())
+fn want_of_memory_is_told(rt: HostRuntime) {
+    is_told(&rt, rt.alloc(), &NoMemory, "out of memory");
 }

@@ -1,24 +1,38 @@
-//! A queue under one taker and under two.
+//! A queue under one taker.
 ghost use Rattle.std.specs.Prelude.{◌≡◌};
 
-use call_queue::CallQueue;
+use crate::checks::{holds, same};
+use call_queue::{CallQueue, Taker};
 use hist_log::NumberedCall;
+use std::process::Abort;
+use std::sync::Wait;
 use std::test::Fail;
+
+/// The taker takes this call, or finds none.
+fn takes<R: Abort + Wait>(
+    rt: &R,
+    queue: &CallQueue<u32>,
+    taker: &mut Taker<u32>,
+    due: Option<NumberedCall<u32>>,
+)
+    requires { taker.old.queue ≡ queue.now.id }
+    ensures { taker.new.queue ≡ queue.now.id }
+{
+    same(rt, &queue.take(rt, taker), &due);
+}
 
 #[test]
 fn a_taker_takes_the_calls_in_order(rt: HostRuntime) -> Result<(), Fail> {
     let (queue, mut takers) = CallQueue::open(rt.alloc(), &[7u32, 8], 1)?;
-    let Some(mut taker) = takers.pop() else {
-        return Err("taker".into());
-    };
-    let first = queue.take(&rt, &mut taker);
-    assert_eq!(&rt; first, Some(NumberedCall { at: 0, call: 7 }));
-    let second = queue.take(&rt, &mut taker);
-    assert_eq!(&rt; second, Some(NumberedCall { at: 1, call: 8 }));
-    assert!(&rt; !taker.ended());
-    assert!(&rt; queue.take(&rt, &mut taker).is_none());
-    assert!(&rt; taker.ended());
-    assert!(&rt; queue.take(&rt, &mut taker).is_none());
+    let mut taker = takers.pop().expect(&rt, "a taker");
+    let first = NumberedCall { at: 0, call: 7 };
+    takes(&rt, &queue, &mut taker, Some(first));
+    let second = NumberedCall { at: 1, call: 8 };
+    takes(&rt, &queue, &mut taker, Some(second));
+    holds(&rt, !taker.ended());
+    takes(&rt, &queue, &mut taker, None);
+    holds(&rt, taker.ended());
+    takes(&rt, &queue, &mut taker, None);
     Ok(())
 }
 
@@ -26,10 +40,8 @@ fn a_taker_takes_the_calls_in_order(rt: HostRuntime) -> Result<(), Fail> {
 fn a_queue_of_no_call_ends_at_once(rt: HostRuntime) -> Result<(), Fail> {
     let none: [u32; 0] = [];
     let (queue, mut takers) = CallQueue::open(rt.alloc(), &none, 1)?;
-    let Some(mut taker) = takers.pop() else {
-        return Err("taker".into());
-    };
-    assert!(&rt; queue.take(&rt, &mut taker).is_none());
-    assert!(&rt; taker.ended());
+    let mut taker = takers.pop().expect(&rt, "a taker");
+    takes(&rt, &queue, &mut taker, None);
+    holds(&rt, taker.ended());
     Ok(())
 }

@@ -1,10 +1,12 @@
 //! Pools with one taker.
-ghost use Rattle.std.specs.Prelude.{◌≡◌};
+ghost use Rattle.call_pool.specs.Pools.{IsPassOf};
 
-use call_pool::Pool;
+use crate::checks::{holds, same};
+use call_pool::{Pool, PoolPass};
 use dir_table::{Dir, DirCall, DirReply};
-use hist_log::Receipt;
+use hist_log::{Object, Receipt};
 use shfl_line::{Attr, Never};
+use std::sync::Wait;
 use std::test::Fail;
 use syn_outer::OpenGate;
 
@@ -15,6 +17,18 @@ const ATTR: Attr = Attr {
     kind: 0,
 };
 
+/// A call by the pass, where there is one left.
+fn take<O: Object + Drop, R: Wait>(
+    rt: &R,
+    pool: &Pool<O>,
+    pass: &mut PoolPass<O>,
+) -> Option<(u32, O::Reply, Receipt)>
+    requires { IsPassOf O.call_numbers O.admits pool.now pass.old }
+    ensures { IsPassOf O.call_numbers O.admits pool.now pass.new }
+{
+    pool.take(rt, pass, &mut Never, &OpenGate)
+}
+
 #[test]
 fn a_name_is_made_once(rt: HostRuntime) -> Result<(), Fail> {
     let alloc = rt.alloc();
@@ -22,16 +36,16 @@ fn a_name_is_made_once(rt: HostRuntime) -> Result<(), Fail> {
     let dir = Dir::open(alloc, 1, 2)?;
     let (pool, mut passes) = Pool::<Dir>::open(alloc, dir, &[ATTR], 1024, &calls)?;
     let Some(mut pass) = passes.pop() else {
-        return Err("pass".into());
+        panic!(&rt; "a pass")
     };
-    let first = pool.take(&rt, &mut pass, &mut Never, &OpenGate);
-    assert_eq!(&rt; first, Some((0, DirReply::Ino(1), Receipt { place: 0 })));
-    let second = pool.take(&rt, &mut pass, &mut Never, &OpenGate);
-    assert_eq!(&rt; second, Some((1, DirReply::Exists, Receipt { place: 1 })));
-    assert!(&rt; !pass.ended());
-    assert!(&rt; pool.take(&rt, &mut pass, &mut Never, &OpenGate).is_none());
-    assert!(&rt; pass.ended());
-    assert!(&rt; pool.take(&rt, &mut pass, &mut Never, &OpenGate).is_none());
+    let first = Some((0, DirReply::Ino(1), Receipt { place: 0 }));
+    same(&rt, &take(&rt, &pool, &mut pass), &first);
+    let second = Some((1, DirReply::Exists, Receipt { place: 1 }));
+    same(&rt, &take(&rt, &pool, &mut pass), &second);
+    holds(&rt, !pass.ended());
+    holds(&rt, take(&rt, &pool, &mut pass).is_none());
+    holds(&rt, pass.ended());
+    holds(&rt, take(&rt, &pool, &mut pass).is_none());
     Ok(())
 }
 
@@ -41,9 +55,9 @@ fn a_pool_of_no_call_ends_at_once(rt: HostRuntime) -> Result<(), Fail> {
     let dir = Dir::open(alloc, 1, 0)?;
     let (pool, mut passes) = Pool::<Dir>::open(alloc, dir, &[ATTR], 1024, &[])?;
     let Some(mut pass) = passes.pop() else {
-        return Err("pass".into());
+        panic!(&rt; "a pass")
     };
-    assert!(&rt; pool.take(&rt, &mut pass, &mut Never, &OpenGate).is_none());
-    assert!(&rt; pass.ended());
+    holds(&rt, take(&rt, &pool, &mut pass).is_none());
+    holds(&rt, pass.ended());
     Ok(())
 }

@@ -2,12 +2,14 @@
 ghost use Rattle.std.specs.Prelude.{◌≡◌, All, IfOk, vec_len};
 ghost use Rattle.dir_table.specs.Meanings.{IsAdmitted};
 
+use crate::checks::{holds, same};
 use call_pool::{Numbered, run_pool};
 use dir_table::{Dir, DirCall, DirReply};
 use hist_log::Entry;
 use shfl_line::{Attr, NoMemory};
 use shfl_policy::Policy;
 use std::alloc::Global;
+use std::process::Abort;
 use std::sync::Wait;
 use std::sync::atomic::{AtomicU64, Ordering};
 use std::test::Fail;
@@ -54,6 +56,15 @@ impl Gate for BothThere {
     }
 }
 
+/// Neither was late, and each of them had one of two calls to make the same name.
+fn made_once(rt: &impl Abort, late: &AtomicU64, history: &[Entry<Numbered<Dir>>]) {
+    same(rt, &late.load(Ordering::SeqCst), &0);
+    assert_eq!(rt; history.len(), 2);
+    holds(rt, history[0].worker != history[1].worker);
+    same(rt, &history[0].reply, &DirReply::Ino(1));
+    same(rt, &history[1].reply, &DirReply::Exists);
+}
+
 #[test]
 fn two_takers(rt: HostRuntime) -> Result<(), Fail> {
     let alloc = rt.alloc();
@@ -66,11 +77,7 @@ fn two_takers(rt: HostRuntime) -> Result<(), Fail> {
     let policy = Policy::new(0, None, None);
     let dir = Dir::open(alloc, 1, 4)?;
     let (_dir, history) = run_pool(&rt, alloc, dir, &policy, &attrs, &calls, &gate)?;
-    assert_eq!(&rt; gate.late.load(Ordering::SeqCst), 0);
-    assert_eq!(&rt; history.len(), 2);
-    assert!(&rt; history[0].worker != history[1].worker);
-    assert_eq!(&rt; history[0].reply, DirReply::Ino(1));
-    assert_eq!(&rt; history[1].reply, DirReply::Exists);
+    made_once(&rt, &gate.late, &history);
     Ok(())
 }
 
@@ -116,6 +123,6 @@ fn sixteen_takers_make_each_call_once(rt: HostRuntime) -> Result<(), Fail> {
     let calls = makes(alloc)?;
     let dir = Dir::open(alloc, CALLS, 16 * CALLS)?;
     let (_dir, history) = run_pool(&rt, alloc, dir, &policy, &attrs, &calls, &OpenGate)?;
-    assert!(&rt; all_made(alloc, &history)?);
+    holds(&rt, all_made(alloc, &history)?);
     Ok(())
 }
