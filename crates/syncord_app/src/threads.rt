@@ -27,7 +27,7 @@ fn run_of(outcome: Outcome) -> Run
     }
 }
 
-/// Runs a trace by a thread for each of its workers, which all call one directory behind the lock.
+/// Runs a trace by a thread for each of its workers, which call one directory behind the lock, or each its copy where writes don't prevail.
 pub fn run_by_threads<Rt: Threads + Wait + Sync, G: Gate + Sync>(
     rt: &Rt,
     alloc: Global,
