@@ -75,7 +75,8 @@ def digits_of(file, profile):
         built = f"{TOP}/crates/syncord/out/syncord"
         if not os.access(built, os.X_OK):
             raise Failed(70, "syncord isn't built, which assembles: bin/build-program syncord")
-        return made_by([built, "asm"] + (["2"] if profile == "2" else []), input=text).decode().strip()
+        # (a line for each slot)
+        return "".join(made_by([built, "asm"] + (["2"] if profile == "2" else []), input=text).decode().split())
     digits = re.sub(rb"\s", b"", text).decode("ascii", "replace").lower()
     if not re.fullmatch(r"([0-9a-f]{2})*", digits):
         raise Failed(1, f"{file}: no digits of a program")

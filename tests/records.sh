@@ -3,7 +3,8 @@
 # as root), and python3; the proved program isn't needed. What is no record goes to the proved program, here another one in its place, with all its
 # bytes and words. Then the pages of a recorded lock and of records that no process made are opened in a browser without a window, the slider is
 # moved to each event, and what is shown is compared with what tests/records.py finds in the record and with what was true; then the keys, the
-# pointer, narrow and dark windows, a page without scripts, and a long record. With a folder, pictures are left there to be looked at.
+# pointer, narrow and dark windows, a page without scripts, and a long record; and the page of a comparison (tests/compared.py). With a folder,
+# pictures are left there to be looked at.
 set -u
 cd "$(dirname "$0")/.." || exit 1
 if ! command -v chromium >/dev/null; then
@@ -54,4 +55,5 @@ for record in "$made"/*.record; do
     grep -n 'src=\|href=\|https\?:\|@import\|url(' "${record%.record}.html" && { echo "FAILED a page loads something from outside"; failed=1; }
 done
 python3 -B tests/records.py browse "$made" "${1:-}" || failed=1
+python3 -B tests/compared.py "$made" "${1:-}" || failed=1
 exit "$failed"

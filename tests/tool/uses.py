@@ -1,5 +1,5 @@
 """What bin/shfl shows of a program, how it starts one and what it does to it, and how bash completes its words: uses.py PROGRAM."""
-import json, os, re, subprocess, sys
+import json, os, re, shutil, subprocess, sys, tempfile
 from target import TOP, must, shfl, until, with_target
 
 
@@ -19,6 +19,26 @@ def the_tool(target):
     must(shfl("attach", pid, "5", f"{TOP}/examples/policies/socket.hex")[1].startswith("class 5: version 1; the one before is "), "the version")
     status, text = shfl("stat", pid)
     must(status == 0 and all(len(line) <= 80 for line in text.splitlines()), "more than 80 columns")
+
+
+def files(target):
+    """A policy as digits, in assembly and in C comes to be the same bytes, as far as those are there that make them; a text that is none changes nothing."""
+    pid, its = str(target.pid), f"{TOP}/examples/policies/socket"
+    has = {"hex": True, "asm": os.access(f"{TOP}/crates/syncord/out/syncord", os.X_OK), "c": shutil.which("clang") and shutil.which("llvm-objcopy")}
+    with open(f"{its}.hex", encoding="ascii") as at:
+        digits = "".join(at.read().split())
+    for form, there in has.items():
+        status, text = shfl("attach", pid, "6", f"{its}.{form}")
+        must(status == (0 if there else {"asm": 70, "c": 69}[form]), f"a policy in {form}: {status} {text}")
+        must(not there or f" {digits} -\n" in target.ask(b"shfl 1 policy 6\n"), f"a policy in {form} has other bytes")
+        must(shfl("detach", pid, "6")[0] == 0, "it stays")
+    for form, there in has.items():
+        with tempfile.NamedTemporaryFile("w", suffix=f".{form}") as file:
+            file.write("no policy\n")
+            file.flush()
+            status, text = shfl("attach", pid, "6", file.name)
+        must(not there or (status == 1 and text.startswith("shfl: ")), f"no policy in {form}: {status} {text}")
+    must(target.ask(b"shfl 1 policy 6\n") == "ok\nprofile 1 - -\nend\n", "no policy comes to be one")
 
 
 def questions_of(target, *options):
@@ -94,4 +114,4 @@ def manual(_):
             must(re.search(rf"(?<![a-z-]){it}(?![a-z])", usage), f"docs/shfl.1 lacks {it} of {word}")
 
 
-with_target(sys.argv[1], 3, [the_tool, runs, completion, manual])
+with_target(sys.argv[1], 3, [the_tool, files, runs, completion, manual])
