@@ -1,4 +1,4 @@
-/* What the files of the library share: the process's arena, its threads, and where they sleep. */
+/* What the files of the library share: the process's arenas, its threads, and where they sleep. */
 #ifndef SHFL_INSIDE_H
 #define SHFL_INSIDE_H
 #include <errno.h>
