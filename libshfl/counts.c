@@ -1,5 +1,5 @@
 /* What threads count at locks. Each has a small table of its own, by the lock's number; where two locks meet in a place, what stands
- * there is added to the first one's totals. So a thread has 6 KB and a lock 96 bytes (and what waits.c has), however long they count, and the sum of a lock's
+ * there is added to the first one's totals. So a thread has 24 KB and a lock 96 bytes (and what waits.c has), however long they count, and the sum of a lock's
  * totals and of its entries in all tables is exact. */
 #include <string.h>
 #include "inside.h"

@@ -1,4 +1,4 @@
-/* What the files of the library share: the process's arena, its threads, and where they sleep. */
+/* What the files of the library share: the process's arenas, its threads, and where they sleep. */
 #ifndef SHFL_INSIDE_H
 #define SHFL_INSIDE_H
 #include <errno.h>
@@ -57,7 +57,7 @@ struct shfl_counted {
 };
 
 /* How many locks a thread counts at a time. Where it comes to another one in a place, it adds what stands there to the lock's own. */
-#define SHFL_COUNTED_BITS 6
+#define SHFL_COUNTED_BITS 8
 #define SHFL_COUNTED (1u << SHFL_COUNTED_BITS)
 
 /* How long calls waited, by powers of two: the k-th place has those of less than 2^(10 + k) nanoseconds, the last one all longer ones too.
@@ -201,18 +201,17 @@ void shfl_count_end(uint32_t lock);
 void shfl_sum_lock(uint32_t lock, struct shfl_stat *out, struct shfl_waits *waits);
 void shfl_sum_class(uint32_t class_of, struct shfl_class_stat *out, struct shfl_waits *waits);
 
-/* room.c: what the environment asks for, false where that can't be; the memory beside the arenas, and that of so many of them; a map of memory
- * that is zero, or null. */
+/* room.c: what the environment asks for, false where that can't be; the memory beside the arenas, and what so many arenas, and threads, have of it;
+ * a map of memory that is zero, or null. */
 bool shfl_asked_for(struct shfl_process *all);
 bool shfl_make_room(struct shfl_process *all);
 bool shfl_open_room(struct shfl_process *all, uint32_t arenas);
+bool shfl_open_counts(struct shfl_process *all, uint32_t threads);
 void shfl_free_room(struct shfl_process *all);
 void *shfl_map(size_t size);
 void shfl_unmap(void *at, size_t size);
 
 /* waits.c */
-bool shfl_make_waits(struct shfl_process *all);
-void shfl_free_waits(struct shfl_process *all);
 void shfl_waits_add(struct shfl_waits *to, const struct shfl_waits *from);
 void shfl_waits_of(struct shfl_waits *to, const struct shfl_counted *at);
 void shfl_waits_clear(const struct shfl_counted *at);

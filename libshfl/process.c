@@ -164,21 +164,25 @@ bool shfl_set_attr(struct shfl_thread *me, uint16_t prio, uint16_t class_of, uin
     return shfl_seat_set_attr(&me->seat, me->attr);
 }
 
+static struct shfl_thread *take_free(int *error) {
+    struct shfl_thread *me = free_threads;
+    bool is_new = me && me->number >= shfl_process.threads_seen;
+    *error = me ? 0 : EAGAIN;
+    if (is_new && !shfl_open_counts(&shfl_process, me->number + 1)) *error = ENOMEM;
+    if (*error) return NULL;
+    free_threads = me->next_free;
+    seated++;
+    if (is_new) shfl_store(&shfl_process.threads_seen, me->number + 1);
+    return me;
+}
+
 SHFL_COLD struct shfl_thread *shfl_take_seat(int *error) {
     *error = shfl_open_process();
     if (*error) return NULL;
     shfl_guard_lock(&lists);
-    struct shfl_thread *me = free_threads;
-    if (me) {
-        free_threads = me->next_free;
-        seated++;
-        if (me->number >= shfl_process.threads_seen) shfl_store(&shfl_process.threads_seen, me->number + 1);
-    }
+    struct shfl_thread *me = take_free(error);
     shfl_guard_unlock(&lists);
-    if (!me) {
-        *error = EAGAIN;
-        return NULL;
-    }
+    if (!me) return NULL;
     *error = pthread_setspecific(at_end, me);
     if (*error) {
         end_thread(me);

@@ -54,6 +54,7 @@ void shfl_unmap(void *at, size_t size) {
     if (at) munmap(at, size);
 }
 
+static size_t places(const struct shfl_process *all) { return (size_t)all->thread_count * SHFL_COUNTED; }
 static size_t locks_most(const struct shfl_process *all) { return (size_t)all->arena_most * all->arena_locks; }
 
 static void free_lock_room(struct shfl_process *all) {
@@ -77,8 +78,11 @@ static bool name_lock_room(struct shfl_process *all) {
 
 static bool open_map(void *at, size_t size) {
     size_t page = (size_t)sysconf(_SC_PAGESIZE);
+    int before = errno;
     shfl_races_own(at, size);
-    return mprotect(at, (size + page - 1) / page * page, PROT_READ | PROT_WRITE) == 0;
+    bool done = mprotect(at, (size + page - 1) / page * page, PROT_READ | PROT_WRITE) == 0;
+    errno = before;
+    return done;
 }
 
 bool shfl_open_room(struct shfl_process *all, uint32_t arenas) {
@@ -87,13 +91,20 @@ bool shfl_open_room(struct shfl_process *all, uint32_t arenas) {
            open_map(all->lock_waits, locks * sizeof *all->lock_waits);
 }
 
+/* What a thread counts comes with the first thread that has its number. */
+bool shfl_open_counts(struct shfl_process *all, uint32_t threads) {
+    size_t count = (size_t)threads * SHFL_COUNTED;
+    return open_map(all->counts, count * sizeof *all->counts) && open_map(all->waits, count * sizeof *all->waits);
+}
+
 void shfl_free_room(struct shfl_process *all) {
     free(all->threads);
     all->threads = NULL;
     if (all->parkings) free_lock_room(all);
-    shfl_free_waits(all);
-    shfl_unmap(all->counts, all->thread_count * SHFL_COUNTED * sizeof *all->counts);
+    shfl_unmap(all->counts, places(all) * sizeof *all->counts);
+    shfl_unmap(all->waits, places(all) * sizeof *all->waits);
     all->counts = NULL;
+    all->waits = NULL;
 }
 
 /* The memory of C, zero: a page of it is taken where it is first used. Where a process may not have so many addresses it has one arena. */
@@ -105,9 +116,9 @@ bool shfl_make_room(struct shfl_process *all) {
     bool locks = name_lock_room(all);
     if (!locks) all->arena_most = 1;
     locks = (locks || name_lock_room(all)) && shfl_open_room(all, 1);
-    all->counts = shfl_map(all->thread_count * SHFL_COUNTED * sizeof *all->counts);
-    bool waits = shfl_make_waits(all);
-    if (all->threads && locks && all->counts && waits) return true;
+    all->counts = map_as(places(all) * sizeof *all->counts, PROT_NONE);
+    all->waits = map_as(places(all) * sizeof *all->waits, PROT_NONE);
+    if (all->threads && locks && all->counts && all->waits) return true;
     shfl_free_room(all);
     return false;
 }

@@ -3,19 +3,6 @@
  * where nobody waits. */
 #include "inside.h"
 
-static size_t size_of(const struct shfl_process *all) { return (size_t)all->thread_count * SHFL_COUNTED * sizeof *all->waits; }
-
-/* Of threads; of locks they stand beside the totals (room.c). */
-bool shfl_make_waits(struct shfl_process *all) {
-    all->waits = shfl_map(size_of(all));
-    return all->waits != NULL;
-}
-
-void shfl_free_waits(struct shfl_process *all) {
-    shfl_unmap(all->waits, size_of(all));
-    all->waits = NULL;
-}
-
 /* The waits that belong to what a thread counted. */
 static struct shfl_waits *waits_at(const struct shfl_counted *at) { return &shfl_process.waits[at - shfl_process.counts]; }
 

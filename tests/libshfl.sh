@@ -29,8 +29,12 @@ read -ra words <<<"$(pkg-config --cflags --libs shfl 2>/dev/null || echo "-I$roo
 [ -z "$(nm -D --defined-only "$room/prefix/lib/libshfl.so.1" | awk '$2 != "A" && $3 !~ /^shfl_/')" ] || complain "libshfl.so.1 shows other names"
 [ -z "$(nm -g --defined-only "$room/prefix/lib/libshfl.a" | awk 'NF == 3 && $3 !~ /^shfl_/')" ] || complain "libshfl.a shows other names"
 
-# the document's program, shared and static
-awk '/^```c/ { code = 1; next } /^```/ { code = 0 } code' "$top/docs/LIBSHFL.md" >"$room/program.c"
+# the document's programs, the first shared and static
+block() { awk -v wanted="$1" '/^```c/ { code = ++number == wanted; next } /^```/ { code = 0 } code' "$top/docs/LIBSHFL.md"; }
+block 1 >"$room/program.c"
+block 2 >"$room/policy.c"
+"$cc" -Wall -Wextra -Werror "$room/policy.c" "${words[@]}" -o "$room/policy" || exit 1
+[ "$("$room/policy")" = "taken 1, found taken 0" ] || complain "the document's program with a policy"
 "$cc" -Wall -Wextra -Werror "$room/program.c" "${words[@]}" -o "$room/program" || exit 1
 [ "$("$room/program")" = 400000 ] || complain "the document's program"
 "$cc" -I "$room/prefix/include" "$room/program.c" "$room/prefix/lib/libshfl.a" -lpthread -o "$room/static" || exit 1

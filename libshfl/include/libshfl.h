@@ -71,10 +71,30 @@ int shfl_cond_destroy(shfl_cond_t *cond); /* EBUSY: somebody waits */
  * thread's first. EBUSY: it is called from within a call. */
 int shfl_thread_attr(uint16_t prio, uint16_t class_of, uint16_t kind);
 
-/* Why a policy isn't attached: fault 1 to 12 of a program (hook 0 should, 1 skip), at a slot, 10 and 11 of a register there. */
+/* The profiles of programs, the two that a policy has, and what one may be refused for. */
+enum shfl_profile { SHFL_PROFILE_BASE = 1, SHFL_PROFILE_EXTENDED = 2 };
+enum shfl_hook { SHFL_HOOK_SHOULD, SHFL_HOOK_SKIP };
+enum shfl_fault_code {
+    SHFL_FAULT_NONE,
+    SHFL_FAULT_EMPTY,
+    SHFL_FAULT_LENGTH, /* no multiple of 8 bytes */
+    SHFL_FAULT_TOO_LONG, /* more than 4,096 bytes */
+    SHFL_FAULT_OPCODE, /* the profile doesn't have it */
+    SHFL_FAULT_REGISTER, /* above 9 */
+    SHFL_FAULT_FIELD, /* one that must be 0 */
+    SHFL_FAULT_HALF, /* of a wide load, at the end or as a jump's target */
+    SHFL_FAULT_JUMP, /* it doesn't lead forward */
+    SHFL_FAULT_LEAVES, /* a way leads out of the program */
+    SHFL_FAULT_NO_VALUE, /* a register is read that has none on some way */
+    SHFL_FAULT_POINTER, /* the context's is used as a number */
+    SHFL_FAULT_LOAD, /* outside the context, not aligned, or from a number */
+    SHFL_FAULT_NO_MEMORY = 255
+};
+
+/* Why a policy isn't attached: the first fault of the first bad program, at a slot, and of the two about values of a register there. */
 struct shfl_fault { uint32_t slot; uint8_t fault, hook, reg; };
 
-/* The policy of a class from now on, in place of the one before, also for threads that wait: the bytes of two programs of profile 1 or 2,
+/* The policy of a class from now on, in place of the one before, also for threads that wait: the bytes of two programs of a profile,
  * of which either may be null and 0 bytes long, and then answers no. EINVAL: no such class or profile, or a program is refused, and
  * then `fault`, unless null, says for what. Threads that take a lock of a class with a policy queue after one attempt. */
 int shfl_class_policy(unsigned class_of, unsigned profile, const uint8_t *should, size_t should_length, const uint8_t *skip,

@@ -96,6 +96,36 @@ static void classes(void) {
     IS((int)it.version == 0 && it.attached == 0, 1);
 }
 
+struct refused { uint8_t bytes[16], length, fault; };
+
+/* A program of each fault, as either hook. The class has no policy afterwards. */
+static void programs(void) {
+    static const struct refused all[] = {
+        {{0x95}, 1, SHFL_FAULT_LENGTH},
+        {{0x85, 0, 0, 0, 1}, 8, SHFL_FAULT_OPCODE},
+        {{0xb7, 0x0a, 0, 0, 0, 0, 0, 0, 0x95}, 16, SHFL_FAULT_REGISTER},
+        {{0xb7, 0x10, 0, 0, 0, 0, 0, 0, 0x95}, 16, SHFL_FAULT_FIELD},
+        {{0x18, 0, 0, 0, 5}, 8, SHFL_FAULT_HALF},
+        {{0x05, 0, 0xff, 0xff, 0, 0, 0, 0, 0x95}, 16, SHFL_FAULT_JUMP},
+        {{0xb7}, 8, SHFL_FAULT_LEAVES},
+        {{0xbf, 0x20, 0, 0, 0, 0, 0, 0, 0x95}, 16, SHFL_FAULT_NO_VALUE},
+        {{0xbf, 0x10, 0, 0, 0, 0, 0, 0, 0x95}, 16, SHFL_FAULT_POINTER},
+        {{0x61, 0x10, 0x28, 0, 0, 0, 0, 0, 0x95}, 16, SHFL_FAULT_LOAD},
+    };
+    static uint8_t longer[4104];
+    struct shfl_fault why;
+    struct shfl_class_stat it;
+    for (size_t k = 0; k < sizeof all / sizeof *all; k++) {
+        IS(shfl_class_policy(1, SHFL_PROFILE_BASE, all[k].bytes, all[k].length, NULL, 0, &why), EINVAL);
+        IS(why.fault == all[k].fault && why.hook == SHFL_HOOK_SHOULD, 1);
+        IS(shfl_class_policy(1, SHFL_PROFILE_EXTENDED, NULL, 0, all[k].bytes, all[k].length, &why), EINVAL);
+        IS(why.fault == all[k].fault && why.hook == SHFL_HOOK_SKIP, 1);
+    }
+    IS(shfl_class_policy(1, SHFL_PROFILE_BASE, longer, sizeof longer, NULL, 0, &why), EINVAL);
+    IS(why.fault, SHFL_FAULT_TOO_LONG);
+    IS(shfl_class_stat(1, &it) || it.version || it.attached, 0);
+}
+
 /* Bytes that never were a lock. */
 static void no_locks(void) {
     static const uint32_t numbers[] = {65537, 1u << 20, (1u << 24) + 1, 1u << 25, UINT32_MAX - 1, UINT32_MAX};
@@ -126,6 +156,7 @@ int main(void) {
     IS(pthread_create(&thread, NULL, other, NULL) || pthread_join(thread, NULL), 0);
     IS(shfl_mutex_unlock(&m) || shfl_rwlock_unlock(&l), 0);
     classes();
+    programs();
     no_locks();
     IS(shfl_mutex_lock(&m) || shfl_mutex_unlock(&m) || shfl_rwlock_rdlock(&l) || shfl_rwlock_unlock(&l), 0);
     puts("what can't be is answered, and changes nothing");
