@@ -2,8 +2,9 @@
 # Servers as Debian has them, unmodified, under libshfl_preload.so beside themselves without it, in turn: memcached, redis with four threads for its connections, MariaDB under
 # sysbench; and a driver over libleveldb. Each is given work by many clients at once whose outcome is the same whatever came first (preload/keys.py, preload/rows.sh,
 # preload/leveldb.c), and what it has at the end must be the same; then a load of so many seconds, of which the calls a second are told, and the processor time that the server
-# used for each, which another work on the machine changes less: median; worst. As far as they are installed (memcached, redis-server, redis-tools, mariadb-server, sysbench, libleveldb-dev). Words: preload-servers.sh [SECONDS [TIMES [PROGRAM ..]]]; 5 seconds, three
-# times, memcached redis mariadb leveldb. PRELOAD names a library that is there already, PORT the first of two ports of the loopback (21411).
+# used for each, which other work on the machine changes less: median; worst. As far as they are installed (memcached, redis-server, redis-tools, mariadb-server, sysbench,
+# libleveldb-dev). Words: preload-servers.sh [SECONDS [TIMES [PROGRAM ..]]]; 5 seconds, three times, memcached redis mariadb leveldb. PRELOAD names a library that is there
+# already, PORT a port of the loopback (21411).
 set -u
 top="$(cd "$(dirname "$(readlink -f "${BASH_SOURCE[0]}")")/.." && pwd)"
 seconds="${1:-5}" times="${2:-3}" port="${PORT:-21411}"

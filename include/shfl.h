@@ -41,7 +41,7 @@ struct shfl_ask { uint64_t waiter; uint16_t batch; uint8_t kind; };
  * of the pass whom. */
 struct shfl_watch { uint32_t whom; uint8_t kind; };
 
-/* Why a policy isn't attached: fault 0 it is, 1 to 12 a fault of a program, 255 no memory; hook 0 should, 1 skip. */
+/* Why a policy isn't attached: fault 0 it is, 1 to 12 a fault of a program, 254 no such profile or no bytes, 255 no memory; hook 0 should, 1 skip. */
 struct shfl_verdict { uint32_t slot; uint8_t fault, hook, reg; };
 
 /* What came of a step. A loop may pause after the last three, and after no other. */
@@ -53,11 +53,11 @@ enum shfl_outcome {
     SHFL_GROUPED_NOBODY /* a round ended that moved nobody */
 };
 
-/* count is 1 to 64 and the same twice, form below 4, limit 1 to 1024, each handle zero. False: no memory, and each is still zero.
- * These three are calls of the library that the headers stand before: shfl_parking.h. */
+/* count is 1 to 64 and the same twice, form below 4, limit 1 to 1024, each handle zero. False: it isn't so (errno is EINVAL), or there is no memory
+ * (ENOMEM), and each handle is as it was. These three are calls of the library that the headers stand before: shfl_parking.h. */
 bool shfl_open(const uint64_t *attrs, size_t count, uint8_t form, uint16_t limit, struct shfl_pass *passes, size_t same_count);
 void shfl_close(struct shfl_pass *pass); /* the last one of a lock frees it; one that isn't idle leaves the others waiting for good */
-/* profile is 1 or 2; no bytes are no program, but neither pointer is null. It takes memory. */
+/* profile is 1 or 2; no bytes are no program, and then the pointer may be null. It takes memory. */
 struct shfl_verdict shfl_attach(struct shfl_pass *pass, uint8_t profile, const uint8_t *should, size_t should_length,
                                 const uint8_t *skip, size_t skip_length);
 

@@ -7,6 +7,7 @@
  */
 #ifndef SHFL_PARKING_H
 #define SHFL_PARKING_H
+#include <errno.h>
 #include <stdlib.h>
 #include <string.h>
 #include "shfl_futex.h"
@@ -44,15 +45,28 @@ static inline struct shfl_place *shfl_place_of(struct shfl_parking *parking, uin
     return (struct shfl_place *)(parking + 1) + whom;
 }
 
+/* Whether what the library's proof takes for granted of an opening holds: the numbers are in their ranges, and no pass is open. */
+static inline bool shfl_may_open(const uint64_t *attrs, size_t count, uint8_t form, uint16_t limit, const struct shfl_pass *passes,
+                                 size_t same_count) {
+    if (!attrs || !passes || count < 1 || count > 64 || same_count != count || form > SHFL_RW_PARK || limit < 1 || limit > 1024) return false;
+    for (size_t k = 0; k < count; k++)
+        if (passes[k].at) return false;
+    return true;
+}
+
 /* shfl_open with a parking for the lock. The library writes its handles side by side, and C has more in each pass, so they are moved
  * to their places from the last to the first. */
 static inline bool shfl_open_parking(const uint64_t *attrs, size_t count, uint8_t form, uint16_t limit, struct shfl_pass *passes,
                                      size_t same_count) {
+    if (!shfl_may_open(attrs, count, form, limit, passes, same_count)) {
+        errno = EINVAL;
+        return false;
+    }
     size_t size = sizeof(struct shfl_parking) + count * sizeof(struct shfl_place);
     struct shfl_parking *parking = (struct shfl_parking *)SHFL_ALLOCATE(size);
-    if (!parking) return false;
-    if (!shfl_open(attrs, count, form, limit, passes, same_count)) {
-        SHFL_FREE(parking);
+    if (!parking || !shfl_open(attrs, count, form, limit, passes, same_count)) {
+        if (parking) SHFL_FREE(parking);
+        errno = ENOMEM;
         return false;
     }
     memset(parking, 0, size);
@@ -88,10 +102,13 @@ static inline void shfl_queue_when(struct shfl_pass *pass, enum shfl_when when, 
     pass->queues = when == SHFL_QUEUE || (when == SHFL_BY_POLICY && pass->attached);
 }
 
-/* shfl_attach, which remembers whether there is a program. */
+/* shfl_attach, which remembers whether there is a program. A profile that isn't there, and bytes that aren't, are fault 254. */
 static inline struct shfl_verdict shfl_attach_parking(struct shfl_pass *pass, uint8_t profile, const uint8_t *should,
                                                       size_t should_length, const uint8_t *skip, size_t skip_length) {
-    struct shfl_verdict verdict = shfl_attach(pass, profile, should, should_length, skip, skip_length);
+    static const uint8_t none = 0;
+    struct shfl_verdict verdict = {0, 254, 0, 0};
+    if (profile < 1 || profile > 2 || (!should && should_length) || (!skip && skip_length)) return verdict;
+    verdict = shfl_attach(pass, profile, should ? should : &none, should_length, skip ? skip : &none, skip_length);
     if (verdict.fault == 0) {
         pass->attached = should_length + skip_length > 0;
         shfl_queue_when(pass, (enum shfl_when)pass->when, pass->tries);

@@ -24,7 +24,7 @@ done
 if "$room/room" >"$room/got"; then
     sed 's,^,tests/c.sh: ,' "$room/got"
 else
-    echo "tests/c.sh: a lock takes too much memory, or keeps some: $(cat "$room/got")" >&2
+    echo "tests/c.sh: a lock takes too much memory, or keeps some, or one is opened that can't be: $(cat "$room/got")" >&2
     failed=1
 fi
 
