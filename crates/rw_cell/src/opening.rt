@@ -1,6 +1,7 @@
 //! The cell's opening.
 ghost use Rattle.std.specs.Prelude.{◌≡◌, ℕ, ◌<◌, ◌≤◌, true, All, [], length, map, sum, vec_len, slice_get, slice_index, slice_index_or, vec_capacity, IfOk, Some};
 ghost use Rattle.shfl_core.specs.Plan.{shares};
+ghost use Rattle.shfl_core.specs.Words.{most_passes};
 ghost use Rattle.shfl_line.specs.Words.{attr_word};
 ghost use Rattle.shfl_table.specs.PassModel.{fresh_pass};
 ghost use Rattle.shfl_table.specs.Places.{Every};
@@ -126,7 +127,7 @@ impl<O: Object + Drop> RwCellOf<Book<O>, Entry<O>, O> {
         calls: &[u32],
     ) -> Result<(RwCell<O>, Vec<RwPass<O>>), NoMemory>
         requires some { 0 < length calls.now }
-        requires few { length calls.now ≤ 64 }
+        requires few { length calls.now ≤ most_passes }
         requires attrs { length attrs.now ≡ length calls.now }
         requires copies { vec_len copies ≡ length calls.now }
         requires form { shares form ≡ true }

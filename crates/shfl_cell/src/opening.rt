@@ -1,6 +1,7 @@
 //! The cell's opening.
 ghost use Rattle.std.specs.Prelude.{◌≡◌, ℕ, All, ◌<◌, ◌≤◌, length, map, sum, vec_len, slice_get, slice_index, slice_index_or, IfOk, Some};
 ghost use Rattle.shfl_line.specs.Words.{attr_word};
+ghost use Rattle.shfl_core.specs.Words.{most_passes};
 ghost use Rattle.shfl_table.specs.PassModel.{fresh_pass};
 ghost use Rattle.shfl_table.specs.Books.{allowed_of};
 ghost use Rattle.shfl_cell.specs.Cells.{fresh, cell_on, no_attr, AreInOrder};
@@ -83,7 +84,7 @@ impl<O: Object + Drop> ShflCellOf<Book<O>> {
         calls: &[u32],
     ) -> Result<(ShflCell<O>, Vec<CellPass<O>>), NoMemory>
         requires some { 0 < length calls.now }
-        requires few { length calls.now ≤ 64 }
+        requires few { length calls.now ≤ most_passes }
         requires attrs { length attrs.now ≡ length calls.now }
         requires limited { (0 < limit) × (limit ≤ 1024) }
         requires calls { sum calls.now ≤ 65536 }

@@ -1,5 +1,6 @@
 //! The opening of a lock, with a ticket for each of its passes.
 ghost use Rattle.std.specs.Prelude.{◌≡◌, ℕ, ◌<◌, ◌≤◌, length, map, vec_len, slice_get, slice_index, IfOk, None, Some, []};
+ghost use Rattle.shfl_core.specs.Words.{most_passes};
 ghost use Rattle.shfl_line.specs.Words.{attr_of, attr_word};
 ghost use Rattle.shfl_table.specs.PassModel.{fresh_pass};
 ghost use Rattle.shfl_ticket.specs.Tickets.{AreOpened, fresh_ticket};
@@ -60,11 +61,11 @@ fn deal(
     Ok(tickets)
 }
 
-/// A lock with nothing behind it, and a ticket for each of its passes, in order. Each word has the attributes of a pass. `limit`
+/// A lock with nothing behind it, and a ticket for each of its passes, 1 to 65,535, in order. Each word has the attributes of a pass. `limit`
 /// bounds a batch. A lock of 64 passes takes less than 12 KiB of memory: its callers sleep, where they do, in places of their own.
 pub fn open(alloc: Global, words: &[u64], form: Form, limit: u16) -> Result<Vec<Ticket>, NoMemory>
     requires some { 0 < length words.now }
-    requires few { length words.now ≤ 64 }
+    requires few { length words.now ≤ most_passes }
     requires limited { (0 < limit) × (limit ≤ 1024) }
     ensures { IfOk result (λ v.
         AreOpened (record { limit = limit; form = form }) words.now v.items) }

@@ -29,7 +29,7 @@ pub struct Ticket {
     pub(crate) pass: Pass<()>,
 }
 
-// A lock has up to 64 of them, each in a block of its own.
+// A lock has many of them, each in a block of its own.
 const _: () = prove!(size_of::<Ticket>() <= 88);
 
 impl Model for Ticket {
