@@ -1,6 +1,7 @@
+//! Each way in which a command ends.
+use crate::outcomes::{CutOutcome, Outcome, failing_sink, failing_source, sink, source};
 use std::alloc::Global;
-use std::test::Fail;
-use syn_outer::{MemSink, MemSource, SureSink, SureSource};
+use std::process::Abort;
 use syncord_endings::{Refusal, Work, perform};
 
 /// A command that refuses all but `copy`, which it reports as it stands.
@@ -27,84 +28,82 @@ impl Work for Only {
     }
 }
 
-#[test]
-fn a_report_is_written(rt: HostRuntime) -> Result<(), Fail> {
-    let alloc = rt.alloc();
-    let only = Only {
-        refusal: Refusal::Program { number: 1 },
-    };
-    let mut src = SureSource::new(Vec::from_slice(alloc, b"copy")?);
-    let mut out = SureSink::open(alloc, 100).ok().ok_or("memory")?;
-    let mut err = SureSink::open(alloc, 100).ok().ok_or("memory")?;
-    assert_eq!(rt; perform(&only, alloc, &mut src, &mut out, &mut err), 0);
-    assert_eq!(rt; out.bytes(), b"copy".as_slice());
-    assert_eq!(rt; err.bytes(), b"".as_slice());
-    Ok(())
+/// One that refuses with the program's fault 1.
+const ONE: Only = Only {
+    refusal: Refusal::Program { number: 1 },
+};
+
+/// What the command does with these bytes.
+fn performed(rt: &impl Abort, alloc: Global, only: &Only, bytes: &[u8]) -> Outcome {
+    let mut src = source(rt, alloc, bytes);
+    let mut out = sink(rt, alloc, 100);
+    let mut err = sink(rt, alloc, 100);
+    let status = perform(only, alloc, &mut src, &mut out, &mut err);
+    Outcome { status, out, err }
 }
 
 #[test]
-fn each_refusal_has_its_line(rt: HostRuntime) -> Result<(), Fail> {
-    let alloc = rt.alloc();
-    let cases = [
-        (
-            Refusal::Line { line: 12, what: 3 },
-            1u8,
-            "syncord: line 12: fault 3\n",
-        ),
-        (Refusal::Program { number: 2 }, 6, "syncord: refused 2\n"),
-        (
-            Refusal::Slot {
-                number: 8,
-                slot: 511,
-            },
-            6,
-            "syncord: refused 8 at slot 511\n",
-        ),
-        (
-            Refusal::Register {
-                number: 10,
-                slot: 0,
-                register: 2,
-            },
-            6,
-            "syncord: refused 10 at slot 0 register 2\n",
-        ),
-        (Refusal::NoMemory, 5, ""),
-    ];
-    for (refusal, status, message) in cases {
-        let mut src = SureSource::new(Vec::new(alloc));
-        let mut out = SureSink::open(alloc, 100).ok().ok_or("memory")?;
-        let mut err = SureSink::open(alloc, 100).ok().ok_or("memory")?;
-        let answer = perform(&Only { refusal }, alloc, &mut src, &mut out, &mut err);
-        assert_eq!(rt; answer, status);
-        assert_eq!(rt; out.bytes(), b"".as_slice());
-        assert_eq!(rt; err.bytes(), message.as_bytes());
+fn a_report_is_written(rt: HostRuntime) {
+    performed(&rt, rt.alloc(), &ONE, b"copy").reports(&rt, "copy");
+}
+
+/// Refusals, and the status and the line of each.
+const REFUSALS: [(Refusal, u8, &str); 5] = [
+    (
+        Refusal::Line { line: 12, what: 3 },
+        1,
+        "syncord: line 12: fault 3\n",
+    ),
+    (Refusal::Program { number: 2 }, 6, "syncord: refused 2\n"),
+    (
+        Refusal::Slot {
+            number: 8,
+            slot: 511,
+        },
+        6,
+        "syncord: refused 8 at slot 511\n",
+    ),
+    (
+        Refusal::Register {
+            number: 10,
+            slot: 0,
+            register: 2,
+        },
+        6,
+        "syncord: refused 10 at slot 0 register 2\n",
+    ),
+    (Refusal::NoMemory, 5, ""),
+];
+
+#[test]
+fn each_refusal_has_its_line(rt: HostRuntime) {
+    for (refusal, status, message) in REFUSALS {
+        performed(&rt, rt.alloc(), &Only { refusal }, b"").refuses(&rt, status, message);
     }
-    Ok(())
+}
+
+/// A run whose source fails at its second call.
+fn unread(rt: &impl Abort, alloc: Global) -> Outcome {
+    let mut src = failing_source(rt, alloc, b"copy", 16, 2);
+    let mut out = sink(rt, alloc, 100);
+    let mut err = sink(rt, alloc, 100);
+    let status = perform(&ONE, alloc, &mut src, &mut out, &mut err);
+    Outcome { status, out, err }
+}
+
+/// A run whose sink fails at its second call.
+fn unwritten(rt: &impl Abort, alloc: Global) -> CutOutcome {
+    let mut src = source(rt, alloc, b"copy");
+    let mut out = failing_sink(rt, alloc, 100, 3, 2);
+    let mut err = sink(rt, alloc, 100);
+    let status = perform(&ONE, alloc, &mut src, &mut out, &mut err);
+    CutOutcome { status, out, err }
 }
 
 #[test]
-fn faults_of_source_and_sink_are_told(rt: HostRuntime) -> Result<(), Fail> {
+fn faults_of_source_and_sink_are_told(rt: HostRuntime) {
     let alloc = rt.alloc();
-    let only = Only {
-        refusal: Refusal::Program { number: 1 },
-    };
-    let bytes = Vec::from_slice(alloc, b"copy")?;
-    let mut src = MemSource::new(bytes, 16, vec![in alloc; 2u32]?);
-    let mut out = SureSink::open(alloc, 100).ok().ok_or("memory")?;
-    let mut err = SureSink::open(alloc, 100).ok().ok_or("memory")?;
-    assert_eq!(rt; perform(&only, alloc, &mut src, &mut out, &mut err), 3);
-    assert_eq!(rt; err.bytes(), b"syncord: read fault\n".as_slice());
-    let mut src = SureSource::new(Vec::from_slice(alloc, b"copy")?);
-    let mut out = MemSink::open(alloc, 100, 3, vec![in alloc; 2u32]?)
-        .ok()
-        .ok_or("memory")?;
-    let mut err = SureSink::open(alloc, 100).ok().ok_or("memory")?;
-    assert_eq!(rt; perform(&only, alloc, &mut src, &mut out, &mut err), 4);
-    assert_eq!(rt; out.bytes(), b"cop".as_slice());
-    assert_eq!(rt;
-        err.bytes(),
-        b"syncord: write fault after 3 bytes\n".as_slice()
-    );
-    Ok(())
+    unread(&rt, alloc).refuses(&rt, 3, "syncord: read fault\n");
+    let message = b"syncord: write fault after 3 bytes\n";
+    unwritten(&rt, alloc).is(&rt, 4, b"cop", message);
 }

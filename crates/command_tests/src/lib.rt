@@ -4,11 +4,15 @@
 #[cfg(test)]
 mod asm;
 #[cfg(test)]
+mod checks;
+#[cfg(test)]
 mod choosers;
 #[cfg(test)]
 mod endings;
 #[cfg(test)]
 mod line;
+#[cfg(test)]
+mod outcomes;
 #[cfg(test)]
 mod pool;
 #[cfg(test)]
