@@ -1,102 +1,77 @@
 -- What is read is the some-same whose text the bytes are.
-use Rattle.std.proofs.Common.{◌≡◌, ℕ, ◌+◌, ◌<◌, ◌≤◌, List, [], ◌∷◌, ◌++◌, length, map, Bool, true, false, cond, Option, Some, None, Result, Ok, Err, eqb, leb, refl, sym, ap, ◌∙◌, subst, arith}
+use Rattle.std.proofs.Common.{◌≡◌, ℕ, ◌+◌, ◌<◌, ◌≤◌, List, [], ◌∷◌, ◌++◌, length, map, Bool, true, false, cond, Result, Ok, Err, leb, refl, sym, ap, ◌∙◌, subst, length-append, arith}
 use Rattle.std.specs.Prelude.{codes}
 use Rattle.std.specs.List.{flat_map, AllByRecursion}
+use Rattle.std.proofs.ByRecursion.{All-push}
 use Rattle.std.proofs.lemmas.Bool.Decides.{nat_tests}
-use Rattle.std.proofs.lemmas.List.{map-append, append-nil}
+use Rattle.std.proofs.lemmas.List.{map-append}
 use Rattle.shfl_line.specs.declared.words.Attr.{Attr}
 use Rattle.shfl_line.specs.declared.events.Form.{Form}
 use Rattle.doc_text.specs.declared.fault.Fault.{Fault}
-use Rattle.doc_text.specs.Text.{pieces, ended}
-use Rattle.doc_text.specs.Words.{words, same}
+use Rattle.doc_text.specs.Text.{pieces, ended, IsPlain}
+use Rattle.doc_text.specs.Words.{words}
 use Rattle.doc_text.specs.Faults.{fault, ◌>>=◌, or_fault, fixed_due, lines_from, Then}
 use Rattle.doc_text.proofs.Joining.{joined, joined-pieces}
 use Rattle.doc_text.proofs.Due.{bind-some, or_fault-some, fixed_due-some}
-use Rattle.policy_text.specs.Attributes.{attr_in, attr_line, IsAttr}
+use Rattle.policy_text.specs.Attributes.{attr_line, IsAttr}
 use Rattle.policy_text.specs.Headings.{heading_lines}
-use Rattle.policy_text.proofs.AttrLines.{attr-text}
-use Rattle.policy_text.proofs.Chains.{some-same, ok-same}
+use Rattle.policy_text.proofs.AttrSections.{attrs_in-found}
+use Rattle.policy_text.proofs.Chains.{ok-same}
+use Rattle.policy_text.proofs.LinesRead.{lines_from-read}
 use Rattle.shfl_sched.specs.declared.schedule.Rule.{Rule}
 use Rattle.shfl_sched.specs.declared.schedule.Event.{Event}
+use Rattle.shfl_sched.specs.declared.faults.TheConstants.{PASS, EVENT, OVER}
 use Rattle.shfl_sched.specs.Schedules.{ScheduleModel, IsEventOf, IsWithin}
 use Rattle.shfl_sched.specs.Lines.{event_in}
-use Rattle.shfl_sched.specs.Grammar.{Front, front_in, policy_line, ReadsRule, pass_says, passes_in, event_says, events_in, schedule_in, ReadsSchedule}
+use Rattle.shfl_sched.specs.Grammar.{Front, front_in, policy_line, ReadsRule, pass_lines, passes_in, event_says, events_in, schedule_in, ReadsSchedule}
 use Rattle.shfl_sched.specs.Spelling.{form_line, limit_line, event_line, body_lines, IsRuleLine, IsText}
 use Rattle.shfl_sched.proofs.Wording.{event-some}
-use Rattle.shfl_sched.proofs.Sections.{lines-some, section-some}
 use Rattle.shfl_sched.proofs.RuleLines.{rule-some}
 use Rattle.shfl_sched.proofs.Fronts.{FrontLines, front-some}
 
 -- ---- the passes
 
-abbrev or_full : List Attr → ℕ → Attr → Result (Option Attr) Fault
-or_full done line b = cond (leb 64 (length done)) (fault line 7) (Ok (Some b))
-
-pass-tells : (done : List Attr) (line : ℕ) (t : List ℕ) (a : Attr) → pass_says done line t ≡ Ok (Some a) → (t ≡ attr_line (codes "pass") a) × IsAttr a × (length done < 64)
-unfolding pass_says
-pass-tells done line t a h = by_tests (same t (codes "events")) (eqb (length done) 0) h
-  where
-    by_room : (b : Attr) (v : Bool) → leb 64 (length done) ≡ v → ◌≡◌ {A = Result (Option Attr) Fault} (cond v (fault line 7) (Ok (Some b))) (Ok (Some a)) → (b ≡ a) × (length done < 64)
-    by_room b true e k = cc
-    by_room b false e k = let is : Some b ≡ Some a = cc in let lt : length done < 64 = grind (arith, nat_tests) in (some-same b a is, lt)
-
-    by_tests : (v w : Bool) → ◌≡◌ {A = Result (Option Attr) Fault} (cond v (cond w (fault line 7) (Ok None)) (or_fault line 7 (attr_in (codes "pass") (words t)) >>= or_full done line)) (Ok (Some a)) → (t ≡ attr_line (codes "pass") a) × IsAttr a × (length done < 64)
-    by_tests true true k = cc
-    by_tests true false k = cc
-    by_tests false w k =
-        let r = bind-some (or_fault line 7 (attr_in (codes "pass") (words t))) (or_full done line) (Some a) k in
-        let b = by_room r.0 (leb 64 (length done)) refl r.2 in
-        let s = attr-text (codes "pass") t r.0 (or_fault-some line 7 (attr_in (codes "pass") (words t)) r.0 r.1) in
-        (s.0 ∙ ap (attr_line (codes "pass")) b.0, subst IsAttr b.0 s.1, b.1)
-
-pass-stops : (done : List Attr) (line : ℕ) (t : List ℕ) → pass_says done line t ≡ Ok None → 0 < length done
-unfolding pass_says
-pass-stops done line t h = by_tests (same t (codes "events")) (eqb (length done) 0) refl h
-  where
-    by_room : (b : Attr) (v : Bool) → ◌≡◌ {A = Result (Option Attr) Fault} (cond v (fault line 7) (Ok (Some b))) (Ok None) → 0 < length done
-    by_room b true k = cc
-    by_room b false k = cc
-
-    by_tests : (v w : Bool) → eqb (length done) 0 ≡ w → ◌≡◌ {A = Result (Option Attr) Fault} (cond v (cond w (fault line 7) (Ok None)) (or_fault line 7 (attr_in (codes "pass") (words t)) >>= or_full done line)) (Ok None) → 0 < length done
-    by_tests true true e k = cc
-    by_tests true false e k = grind (arith, nat_tests)
-    by_tests false w e k =
-        let r = bind-some (or_fault line 7 (attr_in (codes "pass") (words t))) (or_full done line) None k in
-        by_room r.0 (leb 64 (length done)) r.2
-
 abbrev Passes : List Attr → List (List ℕ) → List (List ℕ) → Type 0
-Passes passes ps qs = (ps ≡ map ended (map (attr_line (codes "pass")) passes) ++ qs) × AllByRecursion IsAttr passes × (0 < length passes) × (length passes ≤ 64)
+Passes passes ps qs = (ps ≡ map ended (map (attr_line (codes "pass")) passes) ++ qs) × (0 < length passes) × (length passes ≤ 64) × AllByRecursion IsAttr passes
 
 passes-some : (line : ℕ) (ps qs : List (List ℕ)) (passes : List Attr) → passes_in line ps ≡ Ok (passes, qs) → Passes passes ps qs
 unfolding passes_in
-passes-some line ps qs passes h =
-    let r = section-some (attr_line (codes "pass")) IsAttr 64 pass_says (λ _. 7) pass-tells pass-stops [] line ps qs passes h (omega arith) in
-    (r.0.pieces ∙ ap (λ (l : List Attr). map ended (map (attr_line (codes "pass")) l) ++ qs) (sym r.0.items), subst (AllByRecursion IsAttr) (sym r.0.items) r.0.each, r.1, r.0.few)
+passes-some line ps qs passes h = attrs_in-found pass_lines line ps passes qs h
 
 -- ---- the events
 
 event-tells : (form : Form) (passes : ℕ) (done : List Event) (line : ℕ) (t : List ℕ) (e : Event) → event_says form passes done line t ≡ Ok e → (t ≡ event_line e) × IsEventOf form passes e × (length done < 65536)
 unfolding event_says
 event-tells form passes done line t e h =
-    let r = bind-some (or_fault line 8 (event_in form passes (words t))) (λ (d : Event). cond (leb 65536 (length done)) (fault line 9) (Ok d)) e h in
+    let r = bind-some (or_fault line EVENT (event_in form passes (words t))) (λ (d : Event). cond (leb 65536 (length done)) (fault line OVER) (Ok d)) e h in
     let b = by_room r.0 (leb 65536 (length done)) refl r.2 in
-    let s = event-some form passes t r.0 (or_fault-some line 8 (event_in form passes (words t)) r.0 r.1) in
+    let s = event-some form passes t r.0 (or_fault-some line EVENT (event_in form passes (words t)) r.0 r.1) in
     (s.0 ∙ ap event_line b.0, subst (IsEventOf form passes) b.0 s.1, b.1)
   where
-    by_room : (d : Event) (v : Bool) → leb 65536 (length done) ≡ v → ◌≡◌ {A = Result Event Fault} (cond v (fault line 9) (Ok d)) (Ok e) → (d ≡ e) × (length done < 65536)
+    by_room : (d : Event) (v : Bool) → leb 65536 (length done) ≡ v → ◌≡◌ {A = Result Event Fault} (cond v (fault line OVER) (Ok d)) (Ok e) → (d ≡ e) × (length done < 65536)
     by_room d true f k = cc
     by_room d false f k = let lt : length done < 65536 = grind (arith, nat_tests) in (ok-same d e k, lt)
 
 abbrev Events : Form → ℕ → List Event → List (List ℕ) → Type 0
 Events form passes events ps = (ps ≡ ended (codes "events") ∷ map ended (map event_line events)) × AllByRecursion (IsEventOf form passes) events × (length events ≤ 65536)
 
+-- what holds of the events read so far
+abbrev EventsKept : Form → ℕ → List Event → Type 0
+EventsKept form passes events = (length events ≤ 65536) × AllByRecursion (IsEventOf form passes) events
+
+event-step : (form : Form) (passes : ℕ) (done : List Event) (line : ℕ) (t : List ℕ) (e : Event) → IsPlain t → event_says form passes done line t ≡ Ok e → EventsKept form passes done
+    → (t ≡ event_line e) × EventsKept form passes (done ++ e ∷ [])
+event-step form passes done line t e plain h kept =
+    let r = event-tells form passes done line t e h in
+    (r.0, (omega (arith, length-append done (e ∷ []), r.2), All-push (IsEventOf form passes) done e kept.1 r.1))
+
 events-some : (form : Form) (passes line : ℕ) (ps : List (List ℕ)) (events : List Event) → events_in form passes line ps ≡ Ok events → Events form passes events ps
 unfolding events_in
 events-some form passes line ps events h =
-    let r = bind-some (fixed_due line 7 (codes "events") ps) (λ (qs : List (List ℕ)). lines_from (event_says form passes) [] (line + 1) qs) events h in
-    let l = lines-some event_line (IsEventOf form passes) 65536 (event_says form passes) (event-tells form passes) [] (line + 1) r.0 events r.2 (omega arith) in
-    let lines : r.0 ≡ map ended (map event_line events) = l.pieces ∙ append-nil (map ended (map event_line l.more)) ∙ ap (λ (es : List Event). map ended (map event_line es)) (sym l.items) in
-    (fixed_due-some line 7 (codes "events") ps r.0 r.1 ∙ ap (λ (qs : List (List ℕ)). ended (codes "events") ∷ qs) lines, subst (AllByRecursion (IsEventOf form passes)) (sym l.items) l.each, l.few)
+    let r = bind-some (fixed_due line PASS (codes "events") ps) (λ (qs : List (List ℕ)). lines_from (event_says form passes) [] (line + 1) qs) events h in
+    let l = lines_from-read (event_says form passes) event_line (EventsKept form passes) (event-step form passes) r.0 [] (line + 1) events (omega arith, tt) r.2 in
+    let lines : r.0 ≡ map ended (map event_line events) = l.2 ∙ ap (λ (es : List Event). map ended (map event_line es)) (sym l.1) in
+    (fixed_due-some line PASS (codes "events") ps r.0 r.1 ∙ ap (λ (qs : List (List ℕ)). ended (codes "events") ∷ qs) lines, l.3.1, l.3.0)
 
 -- ---- the whole
 
@@ -139,8 +114,8 @@ whole-parts bytes f rule passes events qs s front line p e k =
       record {
         version = front.version;
         limit = front.limit;
-        passes = (p.2, p.3);
-        attrs = p.1;
+        passes = (p.1, p.2);
+        attrs = p.3;
         few = e.2;
         events = e.1;
       },

@@ -8,7 +8,8 @@ use Rattle.doc_text.specs.Faults.{◌>>=◌, line_due, one_of}
 use Rattle.doc_text.proofs.Due.{bind-some, one_of-some, line_due-some}
 use Rattle.policy_text.specs.Headings.{Heading, heading_in, heading_lines, IsVersion}
 use Rattle.policy_text.proofs.HeadingLines.{Heads, heading_in-some}
-use Rattle.shfl_sched.specs.Lines.{form_in, limit_in}
+use Rattle.lock_words.specs.Lines.{form_in, limit_in}
+use Rattle.shfl_sched.specs.declared.faults.TheConstants.{FORM, LIMIT, POLICY, PROFILE}
 use Rattle.shfl_sched.specs.Grammar.{Front, front_in}
 use Rattle.shfl_sched.specs.Spelling.{form_line, limit_line}
 use Rattle.shfl_sched.proofs.Wording.{form-some, limit-some}
@@ -25,13 +26,13 @@ abbrev with_policy : Heading → Form → ℕ → List ℕ × List (List ℕ) �
 with_policy h form limit p = Ok (record { version = h.version; profile = h.profile; form = form; limit = limit; policy = p.0; rest = p.1 })
 
 abbrev with_limit : Heading → Form → ℕ × List (List ℕ) → Result Front Fault
-with_limit h form l = line_due (h.version + 3) 5 l.1 >>= with_policy h form l.0
+with_limit h form l = line_due (h.version + 3) POLICY l.1 >>= with_policy h form l.0
 
 abbrev with_form : Heading → Form × List (List ℕ) → Result Front Fault
-with_form h f = one_of (h.version + 2) 4 limit_in f.1 >>= with_limit h f.0
+with_form h f = one_of (h.version + 2) LIMIT limit_in f.1 >>= with_limit h f.0
 
 abbrev with_heading : Heading → Result Front Fault
-with_heading h = one_of (h.version + 1) 3 form_in h.rest >>= with_form h
+with_heading h = one_of (h.version + 1) FORM form_in h.rest >>= with_form h
 
 three-lines : (a b c a' b' : List ℕ) (ps qs rs : List (List ℕ)) → ps ≡ ended a ∷ qs → a ≡ a' → qs ≡ ended b ∷ rs → b ≡ b' → (ts : List (List ℕ)) → rs ≡ ended c ∷ ts → ps ≡ ended a' ∷ ended b' ∷ ended c ∷ ts
 three-lines a b c a' b' ps qs rs e p f q ts g = rw (e, p, f, q, g) refl
@@ -51,14 +52,14 @@ front-parts ps f h form limit policy rest headed behind batch k =
 pub front-some : (ps : List (List ℕ)) (f : Front) → front_in ps ≡ Ok f → FrontLines ps f
 unfolding front_in
 front-some ps f k =
-    let h = bind-some (heading_in (codes "shfl-line") 10 ps) with_heading f k in
-    let form = bind-some (one_of (h.0.version + 1) 3 form_in h.0.rest) (with_form h.0) f h.2 in
-    let limit = bind-some (one_of (h.0.version + 2) 4 limit_in form.0.1) (with_limit h.0 form.0.0) f form.2 in
-    let policy = bind-some (line_due (h.0.version + 3) 5 limit.0.1) (with_policy h.0 form.0.0 limit.0.0) f limit.2 in
-    let headed = heading_in-some (codes "shfl-line") 10 ps h.0 h.1 in
-    let o = one_of-some (h.0.version + 1) 3 form_in h.0.rest form.0.1 form.0.0 form.1 in
-    let l = one_of-some (h.0.version + 2) 4 limit_in form.0.1 limit.0.1 limit.0.0 limit.1 in
-    let p = line_due-some (h.0.version + 3) 5 limit.0.1 policy.0.1 policy.0.0 policy.1 in
+    let h = bind-some (heading_in (codes "shfl-line") PROFILE ps) with_heading f k in
+    let form = bind-some (one_of (h.0.version + 1) FORM form_in h.0.rest) (with_form h.0) f h.2 in
+    let limit = bind-some (one_of (h.0.version + 2) LIMIT limit_in form.0.1) (with_limit h.0 form.0.0) f form.2 in
+    let policy = bind-some (line_due (h.0.version + 3) POLICY limit.0.1) (with_policy h.0 form.0.0 limit.0.0) f limit.2 in
+    let headed = heading_in-some (codes "shfl-line") PROFILE ps h.0 h.1 in
+    let o = one_of-some (h.0.version + 1) FORM form_in h.0.rest form.0.1 form.0.0 form.1 in
+    let l = one_of-some (h.0.version + 2) LIMIT limit_in form.0.1 limit.0.1 limit.0.0 limit.1 in
+    let p = line_due-some (h.0.version + 3) POLICY limit.0.1 policy.0.1 policy.0.0 policy.1 in
     let batch = limit-some l.0 limit.0.0 l.3 in
     let behind = three-lines o.0 l.0 policy.0.0 (form_line form.0.0) (limit_line limit.0.0) h.0.rest form.0.1 limit.0.1 o.2 (form-some o.0 form.0.0 o.3) l.2 batch.0 policy.0.1 p.1 in
     front-parts ps f h.0 form.0.0 limit.0.0 policy.0.0 policy.0.1 headed behind (batch.1, batch.2) policy.2

@@ -2,11 +2,9 @@ pub mod RunSteps
 pub mod RunRows
 pub mod RunMoments
 pub mod Parked
-pub mod Options
 pub mod Loading
 pub mod Once
 pub mod Wording
-pub mod Sections
 pub mod RuleLines
 pub mod Fronts
 pub mod Found

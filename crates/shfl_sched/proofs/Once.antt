@@ -15,6 +15,7 @@ use Rattle.shfl_sched.specs.declared.rule.RuleLine.{RuleLine}
 use Rattle.shfl_sched.specs.declared.rule.RuleLine.TheVariants as said
 use Rattle.shfl_sched.specs.Schedules.{ScheduleModel}
 use Rattle.shfl_sched.specs.Lines.{rule_in}
+use Rattle.shfl_sched.specs.declared.faults.TheConstants.{POLICY}
 use Rattle.shfl_sched.specs.Grammar.{Front, front_in, policy_line, LoadsPolicy, ReadsSaid, ReadsRule, schedule_in, ReadsSchedule}
 
 loads-once : (profile : Profile) (source : Option (List ℕ)) (a b : Option (List Insn)) → Loads profile source a → Loads profile source b → a ≡ b
@@ -53,7 +54,7 @@ said-once profile line (said.Program source) a b h k = policy-once profile line 
 -- a policy line says one rule, or has one fault
 rule-once : (profile : Profile) (line : ℕ) (text : List ℕ) (a b : Result Rule Fault) → ReadsRule profile line text a → ReadsRule profile line text b → a ≡ b
 unfolding ReadsRule
-rule-once profile line text a b h k = by_line (or_fault line 5 (rule_in (words text))) h k
+rule-once profile line text a b h k = by_line (or_fault line POLICY (rule_in (words text))) h k
   where
     by_line : (r : Result RuleLine Fault) → Then r (ReadsSaid profile line) a → Then r (ReadsSaid profile line) b → a ≡ b
     by_line (Ok r) h k = said-once profile line r a b h k

@@ -15,6 +15,7 @@ use Rattle.shfl_sched.specs.declared.schedule.Rule.TheVariants as rules
 use Rattle.shfl_sched.specs.declared.rule.RuleLine.{RuleLine}
 use Rattle.shfl_sched.specs.declared.rule.RuleLine.TheVariants as said
 use Rattle.shfl_sched.specs.Lines.{rule_named, named_rule_in, program_words_in, program_rule_in, otherwise, rule_in}
+use Rattle.shfl_sched.specs.declared.faults.TheConstants.{POLICY}
 use Rattle.shfl_sched.specs.Grammar.{ReadsSaid, ReadsRule}
 use Rattle.shfl_sched.specs.Spelling.{IsRuleLine}
 use Rattle.shfl_sched.proofs.Wording.{keyed-some}
@@ -97,6 +98,6 @@ pub rule-some : (profile : Profile) (line : ℕ) (text : List ℕ) (r : Rule) �
 unfolding ReadsRule
 rule-some profile line text r h = by_line (rule_in (words text)) refl h
   where
-    by_line : (o : Option RuleLine) → rule_in (words text) ≡ o → Then (or_fault line 5 o) (ReadsSaid profile line) (Ok r) → IsRuleLine profile text r
+    by_line : (o : Option RuleLine) → rule_in (words text) ≡ o → Then (or_fault line POLICY o) (ReadsSaid profile line) (Ok r) → IsRuleLine profile text r
     by_line None e k = cc
     by_line (Some l) e k = said-line profile line text r l (rule-spells text l e) k

@@ -18,6 +18,7 @@ use Rattle.shfl_sched.specs.declared.schedule.Rule.TheVariants as rules
 use Rattle.shfl_sched.specs.declared.rule.RuleLine.{RuleLine}
 use Rattle.shfl_sched.specs.declared.rule.RuleLine.TheVariants as said
 use Rattle.shfl_sched.specs.Lines.{rule_in}
+use Rattle.shfl_sched.specs.declared.faults.TheConstants.{POLICY}
 use Rattle.shfl_sched.specs.Grammar.{ReadsSaid, ReadsRule}
 use Rattle.shfl_sched.specs.Spelling.{IsRuleLine}
 
@@ -62,6 +63,6 @@ rule-read profile line text (rules.Program policy) (source, should, skip, e, a, 
     let each : AllByRecursion IsPart (program_words should skip) = ((refl, refl), ((refl, refl), (program-part source.should should a, (program-part source.skip skip b, tt)))) in
     let says : rule_in (words (spaced (program_words should skip))) ≡ Some (said.Program source) =
     ap rule_in (line-words (codes "policy") (codes "program" ∷ should ∷ skip ∷ []) each) ∙ words-read should skip source some_should some_skip (source_in-words should skip source a b) in
-    let here : Then (or_fault line 5 (rule_in (words (spaced (program_words should skip))))) (ReadsSaid profile line) (Ok (rules.Program policy)) =
-    subst (λ (o : Option RuleLine). Then (or_fault line 5 o) (ReadsSaid profile line) (Ok (rules.Program policy))) (sym says) (policy, loaded, refl) in
+    let here : Then (or_fault line POLICY (rule_in (words (spaced (program_words should skip))))) (ReadsSaid profile line) (Ok (rules.Program policy)) =
+    subst (λ (o : Option RuleLine). Then (or_fault line POLICY o) (ReadsSaid profile line) (Ok (rules.Program policy))) (sym says) (policy, loaded, refl) in
     subst (IsRead profile line (rules.Program policy)) (sym e) (line-plain (program_words should skip) each, here)

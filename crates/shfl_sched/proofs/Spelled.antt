@@ -15,7 +15,8 @@ use Rattle.shfl_sched.specs.declared.schedule.Act.TheVariants as acts
 use Rattle.shfl_sched.specs.declared.schedule.Event.{Event}
 use Rattle.shfl_sched.specs.Schedules.{IsEventOf}
 use Rattle.lock_words.specs.Forms.{form_text, form_named, batch_in}
-use Rattle.shfl_sched.specs.Lines.{form_in, limit_in, act_named, event_in}
+use Rattle.lock_words.specs.Lines.{form_in, limit_in}
+use Rattle.shfl_sched.specs.Lines.{act_named, event_in}
 use Rattle.shfl_sched.specs.Spelling.{form_line, limit_line, act_word, event_line}
 use Rattle.shfl_sched.proofs.Wording.{keyed}
 

@@ -11,27 +11,25 @@ use Rattle.shfl_line.specs.declared.events.Form.{Form}
 use Rattle.doc_text.specs.declared.fault.Fault.{Fault}
 use Rattle.doc_text.specs.Text.{pieces, ended, IsPlain}
 use Rattle.doc_text.proofs.Due.{line_due-ended, fixed_due-ended, one_of-ended}
-use Rattle.doc_text.proofs.Loops.{lines_from-joined, section_from-joined}
+use Rattle.doc_text.proofs.Loops.{lines_from-joined}
 use Rattle.policy_text.specs.Attributes.{attr_line, IsAttr}
 use Rattle.policy_text.specs.Headings.{heading_lines, IsVersion}
-use Rattle.policy_text.proofs.AttrLines.{attr-plain, attr_in-line}
+use Rattle.policy_text.proofs.AttrSections.{attrs_in-only}
 use Rattle.policy_text.proofs.HeadingLines.{heading_in-lines}
+use Rattle.policy_text.proofs.LinesRead.{all-at}
 use Rattle.policy_text.proofs.Parts.{pieces-lines_before}
 use Rattle.doc_text.specs.Faults.{Then}
 use Rattle.shfl_sched.specs.declared.schedule.Rule.{Rule}
 use Rattle.shfl_sched.specs.declared.schedule.Event.{Event}
 use Rattle.shfl_sched.specs.Schedules.{ScheduleModel, IsEventOf, IsWithin}
-use Rattle.shfl_sched.specs.Lines.{form_in, limit_in}
-use Rattle.shfl_sched.specs.Grammar.{Front, front_in, policy_line, ReadsRule, pass_says, passes_in, event_says, events_in, schedule_in, ReadsSchedule}
+use Rattle.lock_words.specs.Lines.{form_in, limit_in}
+use Rattle.shfl_sched.specs.declared.faults.TheConstants.{FORM, LIMIT, POLICY, PASS, PROFILE}
+use Rattle.shfl_sched.specs.Grammar.{Front, front_in, policy_line, ReadsRule, pass_lines, passes_in, event_says, events_in, schedule_in, ReadsSchedule}
 use Rattle.shfl_sched.specs.Spelling.{form_line, limit_line, event_line, body_lines, schedule_lines, IsText}
 use Rattle.shfl_sched.proofs.Spelled.{form-read, limit-read, event-read}
 use Rattle.shfl_sched.proofs.RuleWords.{rule-read}
 
 -- ---- lists
-
-middle : {A : Type 0} (P : A → Type 0) (done more : List A) (x : A) → AllByRecursion P (done ++ x ∷ more) → P x
-middle P [] more x h = h.0
-middle P (y ∷ done) more x h = middle P done more x h.1
 
 earlier : {A : Type 0} (most : ℕ) (xs done more : List A) (x : A) → xs ≡ done ++ x ∷ more → length xs ≤ most → leb most (length done) ≡ false
 earlier {A} most xs done more x e few =
@@ -45,21 +43,11 @@ earlier {A} most xs done more x e few =
 abbrev pass_line : Attr → List ℕ
 pass_line = attr_line (codes "pass")
 
-pass-read : (done : List Attr) (line : ℕ) (a : Attr) → IsAttr a → leb 64 (length done) ≡ false → IsPlain (pass_line a) × (pass_says done line (pass_line a) ≡ Ok (Some a))
-unfolding pass_says
-pass-read done line a h room =
-    (attr-plain (codes "pass") a (refl, refl) h, rw (attr_in-line (codes "pass") a (refl, refl) h, room) refl)
-
-events-end : (passes : List Attr) (line : ℕ) → 0 < length passes → pass_says passes line (codes "events") ≡ Ok None
-unfolding pass_says
-events-end passes line some = rw (ne_eqb (length passes) 0 (λ e. omega (arith, e, some))) refl
-
 passes-read : (line : ℕ) (passes : List Attr) (rest : List ℕ) → AllByRecursion IsAttr passes → 0 < length passes → length passes ≤ 64
     → passes_in line (pieces (flat_map ended (map pass_line passes) ++ (ended (codes "events") ++ rest))) ≡ Ok (passes, ended (codes "events") ∷ pieces rest)
 unfolding passes_in
 passes-read line passes rest each some few =
-    section_from-joined pass_says (λ _. 7) pass_line [] passes line (codes "events") rest
-    (λ done more a l e. pass-read done l a (middle IsAttr done more a (subst (AllByRecursion IsAttr) e each)) (earlier 64 passes done more a e few)) refl (λ l. events-end passes l some)
+    attrs_in-only pass_lines (refl, refl) (λ a h. refl) line passes (codes "events") rest some few each refl refl
 
 -- ---- the events
 
@@ -75,8 +63,8 @@ events-read : (form : Form) (passes line : ℕ) (events : List Event) → passes
 unfolding events_in
 events-read form passes line events small each few =
     let all = lines_from-joined (event_says form passes) event_line [] events (line + 1)
-    (λ done more e l is. one-read form passes done l e small (middle (IsEventOf form passes) done more e (subst (AllByRecursion (IsEventOf form passes)) is each)) (earlier 65536 events done more e is few)) in
-    rw (fixed_due-ended line 7 (codes "events") (pieces (flat_map ended (map event_line events))) refl) all
+    (λ done more e l is. one-read form passes done l e small (all-at (IsEventOf form passes) done more e (subst (AllByRecursion (IsEventOf form passes)) is each)) (earlier 65536 events done more e is few)) in
+    rw (fixed_due-ended line PASS (codes "events") (pieces (flat_map ended (map event_line events))) refl) all
 
 -- ---- the lines up to the policy
 
@@ -94,14 +82,14 @@ unfolding front_in
 front-read version called form limit policy rest known some few plain =
     let f = form-read form in
     let l = limit-read limit some few in
-    let heading = heading_in-lines (codes "shfl-line") 10 version called (flat_map ended (three form limit policy) ++ rest) (refl, refl) known in
+    let heading = heading_in-lines (codes "shfl-line") PROFILE version called (flat_map ended (three form limit policy) ++ rest) (refl, refl) known in
     let lines = pieces-lines_before (three form limit policy) rest (f.0, (l.0, (plain, tt))) in
     rw (
       heading,
       lines,
-      one_of-ended (version + 1) 3 form_in (form_line form) (ended (limit_line limit) ∷ ended policy ∷ pieces rest) form f.0 f.1,
-      one_of-ended (version + 2) 4 limit_in (limit_line limit) (ended policy ∷ pieces rest) limit l.0 l.1,
-      line_due-ended (version + 3) 5 policy (pieces rest) plain,
+      one_of-ended (version + 1) FORM form_in (form_line form) (ended (limit_line limit) ∷ ended policy ∷ pieces rest) form f.0 f.1,
+      one_of-ended (version + 2) LIMIT limit_in (limit_line limit) (ended policy ∷ pieces rest) limit l.0 l.1,
+      line_due-ended (version + 3) POLICY policy (pieces rest) plain,
     ) refl
 
 -- ---- the whole

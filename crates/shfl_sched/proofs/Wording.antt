@@ -17,7 +17,8 @@ use Rattle.shfl_sched.specs.declared.schedule.Act.TheVariants as acts
 use Rattle.shfl_sched.specs.declared.schedule.Event.{Event}
 use Rattle.shfl_sched.specs.Schedules.{IsEventOf, is_act_of}
 use Rattle.lock_words.specs.Forms.{form_text, form_named, batch_in}
-use Rattle.shfl_sched.specs.Lines.{form_in, limit_in, act_named, pass_in, event_in}
+use Rattle.lock_words.specs.Lines.{behind, form_in, limit_in}
+use Rattle.shfl_sched.specs.Lines.{act_named, pass_in, event_in}
 use Rattle.shfl_sched.specs.Spelling.{form_line, limit_line, act_word, event_line}
 
 two-line : (a b c d : List ℕ) → a ≡ c → b ≡ d → spaced (a ∷ b ∷ []) ≡ spaced (c ∷ d ∷ [])
@@ -29,14 +30,14 @@ two-text t a b c d e f g = text-spaced t (a ∷ b ∷ []) e ∙ two-line a b c d
 
 -- a fixed word and a word that says something
 abbrev pub keyed : {A : Type 0} → List ℕ → (List ℕ → Option A) → List (List ℕ) → Option A
-keyed word find ws = two ws >>? λ w. cond (same w.0 word) (find w.1) None
+keyed word find ws = behind word ws >>? find
 
 pub keyed-some : {A : Type 0} (word : List ℕ) (find : List ℕ → Option A) (t : List ℕ) (x : A) → keyed word find (words t) ≡ Some x → (u : List ℕ) × (t ≡ spaced (word ∷ u ∷ [])) × (find u ≡ Some x)
 keyed-some {A} word find t x h =
-    let r = then-some (two (words t)) (λ (w : List ℕ × List ℕ). cond (same w.0 word) (find w.1) None) x h in
-    let w = test-some (same r.0.0 word) (find r.0.1) x r.2 in
-    let first : r.0.0 ≡ word = same-true r.0.0 word w.0 in
-    (r.0.1, two-text t r.0.0 r.0.1 word r.0.1 (two-some (words t) r.0 r.1) first refl, w.1)
+    let u = then-some (behind word (words t)) find x h in
+    let r = then-some (two (words t)) (λ (w : List ℕ × List ℕ). cond (same w.0 word) (Some w.1) None) u.0 u.1 in
+    let w = test-some (same r.0.0 word) (Some r.0.1) u.0 r.2 in
+    (u.0, two-text t r.0.0 r.0.1 word u.0 (two-some (words t) r.0 r.1) (same-true r.0.0 word w.0) (some-same r.0.1 u.0 w.1), u.2)
 
 -- ---- the form
 

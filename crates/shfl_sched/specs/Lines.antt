@@ -3,7 +3,7 @@ use Rattle.std.specs.Prelude.{ℕ, List, ◌&&◌, Option, Some, None, nat_lt, i
 use Rattle.shfl_line.specs.declared.events.Form.{Form}
 use Rattle.doc_text.specs.Words.{is_word, same, two, four, ◌>>?◌}
 use Rattle.doc_text.specs.Numbers.{number_in}
-use Rattle.lock_words.specs.Forms.{form_named, batch_in}
+use Rattle.lock_words.specs.Lines.{behind}
 use Rattle.policy_text.specs.Programs.{source_in}
 use Rattle.shfl_sched.specs.declared.schedule.Act.{Act}
 use Rattle.shfl_sched.specs.declared.schedule.Act.TheVariants as acts
@@ -11,18 +11,6 @@ use Rattle.shfl_sched.specs.declared.schedule.Event.{Event}
 use Rattle.shfl_sched.specs.declared.rule.RuleLine.{RuleLine}
 use Rattle.shfl_sched.specs.declared.rule.RuleLine.TheVariants as said
 use Rattle.shfl_sched.specs.Schedules.{is_act_of}
-
--- ---- the form
-
--- `form spin`, `form rw`, `form park` or `form rw-park`
-abbrev pub form_in : List (List ℕ) → Option Form
-form_in ws = two ws >>? λ w. if same w.0 (codes "form") then form_named w.1 else None
-
--- ---- the limit
-
--- `limit N`
-abbrev pub limit_in : List (List ℕ) → Option ℕ
-limit_in ws = two ws >>? λ w. if same w.0 (codes "limit") then batch_in w.1 else None
 
 -- ---- the policy
 
@@ -35,7 +23,7 @@ rule_named word =
 
 -- `policy never`, `policy always` or `policy socket`
 abbrev pub named_rule_in : List (List ℕ) → Option RuleLine
-named_rule_in ws = two ws >>? λ w. if same w.0 (codes "policy") then rule_named w.1 else None
+named_rule_in ws = behind (codes "policy") ws >>? rule_named
 
 -- the two words of the programs in `policy program SHOULD SKIP`
 abbrev pub program_words_in : List (List ℕ) → Option (List ℕ × List ℕ)

@@ -4,15 +4,16 @@ ghost use Rattle.doc_text.specs.Text.{pieces};
 ghost use Rattle.doc_text.specs.Words.{words};
 ghost use Rattle.doc_text.specs.Faults.{GivesOrWants, lines_from};
 ghost use Rattle.shfl_core.specs.Plan.{shares};
-ghost use Rattle.shfl_sched.specs.Errors.{fault_of};
+ghost use Rattle.policy_text.specs.Errors.{fault_of};
 ghost use Rattle.shfl_sched.specs.Schedules.{is_act_of};
 ghost use Rattle.shfl_sched.specs.Lines.{act_named, pass_in, event_in};
 ghost use Rattle.shfl_sched.specs.Spelling.{act_word, NamesNoAct, NamesNoActOf};
 ghost use Rattle.shfl_sched.specs.Grammar.{event_says, events_in};
 
-use crate::error::ScheduleError;
+use crate::faults::{EVENT, OVER, PASS};
 use crate::schedule::{Act, Event};
 use doc_text::{Fault, fixed_due, is_same, number, text_at};
+use policy_text::DocumentError;
 use shfl_line::Form;
 use std::alloc::Global;
 
@@ -105,10 +106,10 @@ fn event_says(
     ensures room { OnOk result (length before.now < 65536) }
 {
     let Some(event) = event_of(form, passes, text) else {
-        return Err(Fault { line, what: 8 });
+        return Err(Fault { line, what: EVENT });
     };
     if before.len() >= 65536 {
-        return Err(Fault { line, what: 9 });
+        return Err(Fault { line, what: OVER });
     }
     Ok(event)
 }
@@ -121,7 +122,7 @@ fn event_lines(
     passes: u32,
     bytes: &[u8],
     first: u32,
-) -> Result<Vec<Event>, ScheduleError>
+) -> Result<Vec<Event>, DocumentError>
     requires { first < 100 }
     ensures few { IfOk result (λ v. length v.items ≤ 65536) }
     ensures exact { GivesOrWants fault_of (λ v. v.items) result
@@ -132,7 +133,7 @@ fn event_lines(
     let mut line = first;
     while !rest.is_empty() {
         let Some((text, after)) = text_at(rest) else {
-            return Err(ScheduleError::Format { line, what: 1 });
+            return Err(DocumentError::Format { line, what: 1 });
         };
         let event = event_says(form, passes, events.as_slice(), line, text)?;
         events.push(event)?;
@@ -150,11 +151,11 @@ pub fn events_of(
     passes: u32,
     bytes: &[u8],
     first: u32,
-) -> Result<Vec<Event>, ScheduleError>
+) -> Result<Vec<Event>, DocumentError>
     requires { first < 99 }
     ensures exact { GivesOrWants fault_of (λ v. v.items) result
         (events_in form passes first (pieces bytes.now)) }
 {
-    let rest = fixed_due(bytes, first, 7, b"events")?;
+    let rest = fixed_due(bytes, first, PASS, b"events")?;
     event_lines(alloc, form, passes, rest, first + 1)
 }

@@ -2,8 +2,8 @@
 #![tactic(auto)]
 
 mod chooser;
-mod error;
 mod events;
+mod faults;
 mod front;
 mod handing;
 mod laws;
@@ -20,9 +20,9 @@ mod run_laws;
 mod schedule;
 
 pub use chooser::RuleChooser;
-pub use error::ScheduleError;
 pub use handing::RunError;
 pub use laws::laws_of_schedules;
+pub use policy_text::DocumentError as ScheduleError;
 pub use read::read_schedule;
 pub use run::run_schedule;
 pub use run_laws::runs_are_moves;

@@ -1,17 +1,18 @@
 //! From bytes to a schedule.
 ghost use Rattle.std.specs.Prelude.{◌≡◌, ◌≤◌, Ok, length, IfOk};
 ghost use Rattle.doc_text.specs.Faults.{GivesOrWants};
-ghost use Rattle.shfl_sched.specs.Errors.{fault_of, Allows};
+ghost use Rattle.policy_text.specs.Errors.{fault_of};
+ghost use Rattle.shfl_sched.specs.Errors.{Allows};
 ghost use Rattle.shfl_sched.specs.Grammar.{front_in, schedule_in, ReadsSchedule};
 ghost use Rattle.shfl_sched.specs.Schedules.{ScheduleModel, IsWithin};
 ghost use Rattle.shfl_sched.specs.Spelling.{IsText};
 
-use crate::error::ScheduleError;
 use crate::events::events_of;
 use crate::front::front_of;
 use crate::passes::passes_of;
 use crate::rule::rule_of;
 use crate::schedule::Schedule;
+use policy_text::DocumentError as ScheduleError;
 use std::alloc::Global;
 
 #[tactic(auto, unfolding(crate::specs::Grammar::schedule_in))]

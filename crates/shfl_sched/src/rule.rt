@@ -5,12 +5,13 @@ ghost use Rattle.shfl_sched.specs.Errors.{Allows};
 ghost use Rattle.shfl_sched.specs.Lines.{rule_named, named_rule_in, program_words_in, program_rule_in, rule_in};
 ghost use Rattle.shfl_sched.specs.Grammar.{LoadsPolicy, ReadsRule};
 
-use crate::error::ScheduleError;
+use crate::faults::{POLICY, PROGRAM};
 use crate::schedule::Rule;
 use bpf_isa::Profile;
-use doc_text::{four_words, is_same, two_words};
+use doc_text::{four_words, is_same};
+use lock_words::behind;
 use policy_source::PolicySource;
-use policy_text::{NoMemory, source_of};
+use policy_text::{DocumentError, NoMemory, source_of};
 use shfl_policy::{LoadError, load};
 use std::alloc::Global;
 
@@ -40,11 +41,7 @@ fn rule_named(word: &[u8]) -> Option<RuleLine>
 fn named_rule(text: &[u8]) -> Option<RuleLine>
     ensures { result ≡ named_rule_in (words text.now) }
 {
-    let (word, name) = two_words(text)?;
-    if !is_same(word, b"policy") {
-        return None;
-    }
-    rule_named(name)
+    rule_named(behind(b"policy", text)?)
 }
 
 // The two words of the programs.
@@ -88,13 +85,16 @@ fn loaded(
     profile: Profile,
     line: u32,
     source: &PolicySource,
-) -> Result<Rule, ScheduleError>
+) -> Result<Rule, DocumentError>
     ensures { Allows result (LoadsPolicy profile line source.now) }
 {
     match load(alloc, 0, profile, source) {
         Ok(policy) => Ok(Rule::Program(policy)),
-        Err(LoadError::NoMemory) => Err(ScheduleError::NoMemory),
-        Err(LoadError::Bad { .. }) => Err(ScheduleError::Format { line, what: 6 }),
+        Err(LoadError::NoMemory) => Err(DocumentError::NoMemory),
+        Err(LoadError::Bad { .. }) => Err(DocumentError::Format {
+            line,
+            what: PROGRAM,
+        }),
     }
 }
 
@@ -105,11 +105,11 @@ pub fn rule_of(
     profile: Profile,
     line: u32,
     text: &[u8],
-) -> Result<Rule, ScheduleError>
+) -> Result<Rule, DocumentError>
     ensures { Allows result (ReadsRule profile line text.now) }
 {
     match rule_line(alloc, text)? {
-        None => Err(ScheduleError::Format { line, what: 5 }),
+        None => Err(DocumentError::Format { line, what: POLICY }),
         Some(RuleLine::Never) => Ok(Rule::Never),
         Some(RuleLine::Always) => Ok(Rule::Always),
         Some(RuleLine::Socket) => Ok(Rule::Socket),
