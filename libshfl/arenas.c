@@ -3,6 +3,14 @@
 #include "arenas.h"
 #include "races.h"
 
+/* From malloc, so that who looks for leaks finds the seats by it. */
+static struct shfl_desk *make_desks(size_t count) {
+    void *desks;
+    if (posix_memalign(&desks, sizeof(struct shfl_desk), count * sizeof(struct shfl_desk))) return NULL;
+    shfl_races_own(desks, count * sizeof(struct shfl_desk));
+    return desks;
+}
+
 static void seat_threads(struct shfl_desk *desks, const struct shfl_seat *seats) {
     for (uint32_t k = 0; k < shfl_process.thread_count; k++) desks[k].seat = seats[k];
 }
@@ -22,11 +30,10 @@ SHFL_COLD int shfl_grow(void) {
     struct shfl_process *all = &shfl_process;
     if (all->arena_count == all->arena_most) return EAGAIN;
     int before = errno;
-    size_t size = all->thread_count * sizeof(struct shfl_desk);
     struct shfl_seat *seats = calloc(all->thread_count, sizeof *seats);
-    struct shfl_desk *desks = shfl_map(size);
+    struct shfl_desk *desks = make_desks(all->thread_count);
     int error = seats && desks ? open_one(all, seats, desks) : ENOMEM;
-    if (error) shfl_unmap(desks, size);
+    if (error) free(desks);
     free(seats);
     errno = before;
     return error;

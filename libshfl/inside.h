@@ -201,15 +201,12 @@ void shfl_count_end(uint32_t lock);
 void shfl_sum_lock(uint32_t lock, struct shfl_stat *out, struct shfl_waits *waits);
 void shfl_sum_class(uint32_t class_of, struct shfl_class_stat *out, struct shfl_waits *waits);
 
-/* room.c: what the environment asks for, false where that can't be; the memory beside the arenas, and what so many arenas, and threads, have of it;
- * a map of memory that is zero, or null. */
+/* room.c: what the environment asks for, false where that can't be; the memory beside the arenas, and what so many arenas, and threads, have of it. */
 bool shfl_asked_for(struct shfl_process *all);
 bool shfl_make_room(struct shfl_process *all);
 bool shfl_open_room(struct shfl_process *all, uint32_t arenas);
 bool shfl_open_counts(struct shfl_process *all, uint32_t threads);
 void shfl_free_room(struct shfl_process *all);
-void *shfl_map(size_t size);
-void shfl_unmap(void *at, size_t size);
 
 /* waits.c */
 void shfl_waits_add(struct shfl_waits *to, const struct shfl_waits *from);

@@ -38,19 +38,13 @@ bool shfl_asked_for(struct shfl_process *all) {
     return is_form_asked(&all->form) && is_in_range && are_arenas_asked(all);
 }
 
-static void *map_as(size_t size, int rights) {
-    void *at = mmap(NULL, size, rights, MAP_PRIVATE | MAP_ANONYMOUS | MAP_NORESERVE, -1, 0);
+/* Addresses, for what comes to be there (open_map). */
+static void *name_map(size_t size) {
+    void *at = mmap(NULL, size, PROT_NONE, MAP_PRIVATE | MAP_ANONYMOUS | MAP_NORESERVE, -1, 0);
     return at == MAP_FAILED ? NULL : at;
 }
 
-/* Where threads meet here, those who look for races need not look. */
-void *shfl_map(size_t size) {
-    void *at = map_as(size, PROT_READ | PROT_WRITE);
-    if (at) shfl_races_own(at, size);
-    return at;
-}
-
-void shfl_unmap(void *at, size_t size) {
+static void unmap(void *at, size_t size) {
     if (at) munmap(at, size);
 }
 
@@ -58,9 +52,9 @@ static size_t places(const struct shfl_process *all) { return (size_t)all->threa
 static size_t locks_most(const struct shfl_process *all) { return (size_t)all->arena_most * all->arena_locks; }
 
 static void free_lock_room(struct shfl_process *all) {
-    shfl_unmap(all->parkings, locks_most(all) * sizeof *all->parkings);
-    shfl_unmap(all->totals, locks_most(all) * sizeof *all->totals);
-    shfl_unmap(all->lock_waits, locks_most(all) * sizeof *all->lock_waits);
+    unmap(all->parkings, locks_most(all) * sizeof *all->parkings);
+    unmap(all->totals, locks_most(all) * sizeof *all->totals);
+    unmap(all->lock_waits, locks_most(all) * sizeof *all->lock_waits);
     all->parkings = NULL;
     all->totals = NULL;
     all->lock_waits = NULL;
@@ -68,14 +62,15 @@ static void free_lock_room(struct shfl_process *all) {
 
 /* Addresses for the locks of all arenas that may be, one behind the other; memory comes with each arena. */
 static bool name_lock_room(struct shfl_process *all) {
-    all->parkings = map_as(locks_most(all) * sizeof *all->parkings, PROT_NONE);
-    all->totals = map_as(locks_most(all) * sizeof *all->totals, PROT_NONE);
-    all->lock_waits = map_as(locks_most(all) * sizeof *all->lock_waits, PROT_NONE);
+    all->parkings = name_map(locks_most(all) * sizeof *all->parkings);
+    all->totals = name_map(locks_most(all) * sizeof *all->totals);
+    all->lock_waits = name_map(locks_most(all) * sizeof *all->lock_waits);
     if (all->parkings && all->totals && all->lock_waits) return true;
     free_lock_room(all);
     return false;
 }
 
+/* Memory that is zero. Where threads meet here, those who look for races need not look. */
 static bool open_map(void *at, size_t size) {
     size_t page = (size_t)sysconf(_SC_PAGESIZE);
     int before = errno;
@@ -101,8 +96,8 @@ void shfl_free_room(struct shfl_process *all) {
     free(all->threads);
     all->threads = NULL;
     if (all->parkings) free_lock_room(all);
-    shfl_unmap(all->counts, places(all) * sizeof *all->counts);
-    shfl_unmap(all->waits, places(all) * sizeof *all->waits);
+    unmap(all->counts, places(all) * sizeof *all->counts);
+    unmap(all->waits, places(all) * sizeof *all->waits);
     all->counts = NULL;
     all->waits = NULL;
 }
@@ -116,8 +111,8 @@ bool shfl_make_room(struct shfl_process *all) {
     bool locks = name_lock_room(all);
     if (!locks) all->arena_most = 1;
     locks = (locks || name_lock_room(all)) && shfl_open_room(all, 1);
-    all->counts = map_as(places(all) * sizeof *all->counts, PROT_NONE);
-    all->waits = map_as(places(all) * sizeof *all->waits, PROT_NONE);
+    all->counts = name_map(places(all) * sizeof *all->counts);
+    all->waits = name_map(places(all) * sizeof *all->waits);
     if (all->threads && locks && all->counts && all->waits) return true;
     shfl_free_room(all);
     return false;

@@ -1,6 +1,6 @@
 #!/usr/bin/env bash
 # libshfl as its document says: installed into an empty prefix, docs/LIBSHFL.md's program built by pkg-config's words alone, against the shared
-# library and the static one; each call and each error (tests/libshfl/posix.c), exact counts under 16 and 64 threads (storm.c), what
+# library and the static one; each call and each error (tests/libshfl/posix.c), each argument that can't be (arguments.c), exact counts under 16 and 64 threads (storm.c), more locks than an arena has (growth.c), what
 # shfl_stat counts (counts.c), the C++ classes (locks.cpp), the checked build's messages, and no visible name but those that begin with shfl_.
 # The preload library under programs that know pthread alone (pthreads.c, conditions.c, standard.cpp), which are first run with libc's own
 # locks, in an arena that is too small, in one that can't be, and with a malloc that takes a mutex (heap.c). Under valgrind where it is there, and with
@@ -44,6 +44,7 @@ for name in posix arguments storm counts; do
     "$cc" -std=gnu11 -O2 -g -Wall -Wextra -Werror "$top/tests/libshfl/$name.c" "${words[@]}" -o "$room/$name" || exit 1
 done
 run "calls" "$room/posix"
+run "arguments" "$room/arguments"
 run "counts" "$room/counts"
 run "storm" "$room/storm" 16 "$rounds" 120
 run "storm" "$room/storm" 64 "$((rounds / 4))" 120
@@ -137,6 +138,7 @@ for name in posix arguments storm counts; do
         -lshfl -pthread -o "$room/$name.san" || exit 1
 done
 run "checked by gcc" env LD_LIBRARY_PATH="$room/prefixsan/lib" "$room/posix.san"
+run "checked by gcc" env LD_LIBRARY_PATH="$room/prefixsan/lib" "$room/arguments.san"
 run "checked by gcc" env LD_LIBRARY_PATH="$room/prefixsan/lib" "$room/counts.san"
 run "checked by gcc" env LD_LIBRARY_PATH="$room/prefixsan/lib" "$room/storm.san" 16 "$((rounds / 4))" 120
 exit "$failed"

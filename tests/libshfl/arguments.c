@@ -91,7 +91,6 @@ static void classes(void) {
     IS(shfl_class_policy(1, 1, NULL, 16, NULL, 0, NULL), EINVAL);
     IS(shfl_class_policy(1, 1, no, 16, NULL, 16, NULL), EINVAL);
     IS(shfl_class_policy(1, 1, no, 8, NULL, 0, NULL), EINVAL);
-    IS(shfl_class_policy(1, 1, no, SIZE_MAX / 16 * 8, NULL, 0, NULL), EINVAL);
     IS(shfl_class_stat(1, &it), 0);
     IS((int)it.version == 0 && it.attached == 0, 1);
 }
@@ -112,7 +111,7 @@ static void programs(void) {
         {{0xbf, 0x10, 0, 0, 0, 0, 0, 0, 0x95}, 16, SHFL_FAULT_POINTER},
         {{0x61, 0x10, 0x28, 0, 0, 0, 0, 0, 0x95}, 16, SHFL_FAULT_LOAD},
     };
-    static uint8_t longer[4104];
+    static uint8_t longer[1 << 20];
     struct shfl_fault why;
     struct shfl_class_stat it;
     for (size_t k = 0; k < sizeof all / sizeof *all; k++) {
