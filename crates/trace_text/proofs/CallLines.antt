@@ -11,6 +11,7 @@ use Rattle.doc_text.specs.Faults.{or_fault, fixed_due}
 use Rattle.doc_text.proofs.Due.{bind-some, or_fault-some, fixed_due-some}
 use Rattle.policy_text.proofs.Chains.{then-some, unless-ok, ok-same, some-same}
 use Rattle.policy_text.proofs.Parts.{IsPart, text-spaced, words-parts}
+use Rattle.trace_text.specs.declared.faults.TheConstants.{POLICY, CALL, STRANGER, RANGE, ATTACH, OVER}
 use Rattle.trace_text.specs.Document.{CallLine, PolicyLine}
 use Rattle.trace_text.specs.Lines.{act_in, call_in, is_in_range, may_do, is_attach, attach_count, is_full}
 use Rattle.trace_text.specs.Grammar.{call_says, calls_in}
@@ -18,7 +19,7 @@ use Rattle.trace_text.specs.Spelling.{act_words, call_line}
 use Rattle.trace_text.specs.Limits.{IsName, spelled_names, IsCall}
 use Rattle.name_order.proofs.Placing.{all-push}
 use Rattle.trace_text.proofs.CallLoop.{attach_count-push}
-use Rattle.trace_text.proofs.Sections.{lines_from-read}
+use Rattle.policy_text.proofs.LinesRead.{lines_from-read}
 use Rattle.trace_text.proofs.CallWords.{capped-some, act-some}
 
 -- the words of a call line
@@ -47,15 +48,15 @@ record CallRead (workers : ℕ) (policies : List PolicyLine) (before : List Call
 call_says-some : (workers : ℕ) (policies : List PolicyLine) (before : List CallLine) (line : ℕ) (t : List ℕ) (c : CallLine) → workers ≤ 16 → IsPlain t → call_says workers policies before line t ≡ Ok c → CallRead workers policies before t c
 unfolding call_says
 call_says-some workers policies before line t c few plain h =
-    let x = bind-some (or_fault line 10 (call_in (words t))) _ c h in
-    let known = unless-ok (leb workers x.0.worker) line 11 _ c x.2 in
-    let ranged = unless-ok (not (is_in_range x.0.act)) line 12 _ c known.1 in
-    let may = unless-ok (not (may_do policies x.0.worker x.0.act)) line 13 _ c ranged.1 in
-    let room = unless-ok (is_full before x.0.act) line 14 _ c may.1 in
+    let x = bind-some (or_fault line CALL (call_in (words t))) _ c h in
+    let known = unless-ok (leb workers x.0.worker) line STRANGER _ c x.2 in
+    let ranged = unless-ok (not (is_in_range x.0.act)) line RANGE _ c known.1 in
+    let may = unless-ok (not (may_do policies x.0.worker x.0.act)) line ATTACH _ c ranged.1 in
+    let room = unless-ok (is_full before x.0.act) line OVER _ c may.1 in
     let is : x.0 ≡ c = ok-same x.0 c room.1 in
     let worker = leb-false workers x.0.worker known.0 in
     let range = not-false (is_in_range x.0.act) ranged.0 in
-    let s = call_in-some (words t) x.0 (or_fault-some line 10 (call_in (words t)) x.0 x.1) (words-parts t plain) (omega (arith, worker, few)) range in
+    let s = call_in-some (words t) x.0 (or_fault-some line CALL (call_in (words t)) x.0 x.1) (words-parts t plain) (omega (arith, worker, few)) range in
     subst (CallRead workers policies before t) is (record {
       text = text-spaced t (decimal x.0.worker ∷ act_words x.0.act) s.0;
       call = record { worker = worker; ranged = range; may = not-false (may_do policies x.0.worker x.0.act) may.0; names = s.1 };
@@ -91,8 +92,8 @@ pub calls_in-found : (workers : ℕ) (policies : List PolicyLine) (line : ℕ) (
     → (ps ≡ ended (codes "calls") ∷ map ended (map call_line calls)) × CallsKept workers policies calls
 unfolding calls_in
 calls_in-found workers policies line ps calls few h =
-    let r = bind-some (fixed_due line 5 (codes "calls") ps) _ calls h in
-    let f = fixed_due-some line 5 (codes "calls") ps r.0 r.1 in
+    let r = bind-some (fixed_due line POLICY (codes "calls") ps) _ calls h in
+    let f = fixed_due-some line POLICY (codes "calls") ps r.0 r.1 in
     let start : CallsKept workers policies [] = record { few = omega arith; attaches = omega arith; each = tt } in
     let l = lines_from-read (call_says workers policies) call_line (CallsKept workers policies) (call-step workers policies few) r.0 [] (line + 1) calls start r.2 in
     (subst (λ (xs : List CallLine). ps ≡ ended (codes "calls") ∷ map ended (map call_line xs)) (sym l.1) (f ∙ ap (λ (qs : List (List ℕ)). ended (codes "calls") ∷ qs) l.2), l.3)

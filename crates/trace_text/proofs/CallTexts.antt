@@ -13,13 +13,14 @@ use Rattle.doc_text.proofs.Joining.{decimal-word}
 use Rattle.doc_text.proofs.Due.{fixed_due-ended}
 use Rattle.doc_text.proofs.Loops.{lines_from-joined}
 use Rattle.policy_text.proofs.Parts.{IsPart, line-plain, line-words}
+use Rattle.trace_text.specs.declared.faults.TheConstants.{POLICY, CALL, STRANGER, RANGE, ATTACH, OVER}
 use Rattle.trace_text.specs.Document.{Act, make, drop_name, rename, find, count, next, attach, CallLine, PolicyLine}
 use Rattle.trace_text.specs.Lines.{entry_in, act_in, call_in, is_entry, is_in_range, may_do, is_attach, attach_count, is_full}
 use Rattle.trace_text.specs.Grammar.{call_says, calls_in}
 use Rattle.trace_text.specs.Spelling.{act_words, call_line}
 use Rattle.trace_text.specs.Limits.{IsName, spelled_names, IsCall}
 use Rattle.trace_text.proofs.CallLoop.{attach_count-at}
-use Rattle.trace_text.proofs.Sections.{all-at}
+use Rattle.policy_text.proofs.LinesRead.{all-at}
 use Rattle.trace_text.proofs.CallWords.{capped-decimal, small, entry-range}
 
 -- ---- the words of a call
@@ -82,7 +83,7 @@ module _ (workers : ℕ) (policies : List PolicyLine) (few : workers ≤ 16) whe
 
   -- words that say a call where there is room for it
   says-call : (before : List CallLine) (line : ℕ) (ws : List (List ℕ)) (c : CallLine) → call_in ws ≡ Some c → IsCall workers policies c → is_full before c.act ≡ false
-      → ◌≡◌ {A = Result CallLine Fault} (or_fault line 10 (call_in ws) >>= λ call. cond (leb workers call.worker) (fault line 11) (cond (not (is_in_range call.act)) (fault line 12) (cond (not (may_do policies call.worker call.act)) (fault line 13) (cond (is_full before call.act) (fault line 14) (Ok call))))) (Ok c)
+      → ◌≡◌ {A = Result CallLine Fault} (or_fault line CALL (call_in ws) >>= λ call. cond (leb workers call.worker) (fault line STRANGER) (cond (not (is_in_range call.act)) (fault line RANGE) (cond (not (may_do policies call.worker call.act)) (fault line ATTACH) (cond (is_full before call.act) (fault line OVER) (Ok call))))) (Ok c)
   says-call before line ws c read h room = rw (read, lt-leb workers c.worker h.worker, h.ranged, h.may, room) refl
 
   call_says-line : (before : List CallLine) (line : ℕ) (c : CallLine) → IsCall workers policies c → is_full before c.act ≡ false → call_says workers policies before line (call_line c) ≡ Ok c
@@ -104,7 +105,7 @@ module _ (workers : ℕ) (policies : List PolicyLine) (few : workers ≤ 16) whe
       → calls_in workers policies line (ended (codes "calls") ∷ pieces (flat_map ended (map call_line calls))) ≡ Ok calls
   unfolding calls_in
   calls_in-only line calls short most all =
-      ap (λ (r : Result (List (List ℕ)) Fault). r >>= λ ps. lines_from (call_says workers policies) [] (line + 1) ps) (fixed_due-ended line 5 (codes "calls") (pieces (flat_map ended (map call_line calls))) refl)
+      ap (λ (r : Result (List (List ℕ)) Fault). r >>= λ ps. lines_from (call_says workers policies) [] (line + 1) ps) (fixed_due-ended line POLICY (codes "calls") (pieces (flat_map ended (map call_line calls))) refl)
       ∙ lines_from-joined (call_says workers policies) call_line [] calls (line + 1) each
     where
       each : (done more : List CallLine) (x : CallLine) (l : ℕ) → calls ≡ done ++ x ∷ more → IsPlain (call_line x) × (call_says workers policies done l (call_line x) ≡ Ok x)

@@ -1,24 +1,26 @@
 -- The document that was read is the one whose text the bytes are.
-use Rattle.std.proofs.Common.{◌≡◌, ℕ, ◌+◌, List, [], ◌∷◌, ◌++◌, length, map, Result, Ok, Err, refl, sym, ap, ◌∙◌, subst, arith, append_assoc}
+use Rattle.std.proofs.Common.{◌≡◌, ℕ, ◌+◌, ◌<◌, ◌≤◌, List, [], ◌∷◌, ◌++◌, length, map, Result, Ok, Err, refl, sym, ap, ◌∙◌, subst, arith, append_assoc}
 use Rattle.std.specs.Prelude.{codes}
-use Rattle.std.specs.List.{flat_map, AllZip}
+use Rattle.std.specs.List.{flat_map, AllZip, AllByRecursion}
 use Rattle.std.proofs.lemmas.List.{append-nil, map-append}
 use Rattle.doc_text.specs.declared.fault.Fault.{Fault}
 use Rattle.doc_text.specs.Text.{pieces, ended}
 use Rattle.doc_text.proofs.Joining.{joined, joined-pieces}
 use Rattle.doc_text.proofs.Due.{bind-some}
+use Rattle.policy_text.specs.Attributes.{IsAttr}
 use Rattle.policy_text.specs.Headings.{Heading, heading_lines}
+use Rattle.policy_text.proofs.AttrSections.{attrs_in-found}
 use Rattle.policy_text.proofs.Chains.{ok-same}
 use Rattle.policy_text.proofs.HeadingLines.{Heads, heading_in-some}
 use Rattle.policy_text.proofs.Parts.{joined-lines}
 use Rattle.shfl_line.specs.declared.words.Attr.{Attr}
 use Rattle.doc_text.specs.Faults.{Then}
+use Rattle.trace_text.specs.declared.faults.TheConstants.{PROFILE}
 use Rattle.trace_text.specs.Document.{PolicyLine, CallLine, Document}
-use Rattle.trace_text.specs.Grammar.{Front, trace_heading, workers_in, front_in, policies_line, document_in, calls_in, ReadsPolicies, ReadsTrace}
+use Rattle.trace_text.specs.Grammar.{Front, trace_heading, worker_lines, workers_in, front_in, policies_line, document_in, calls_in, ReadsPolicies, ReadsTrace}
 use Rattle.trace_text.specs.Spelling.{worker_line, call_line, lines_with}
 use Rattle.trace_text.specs.Texts.{IsPolicyText, IsText}
 use Rattle.trace_text.specs.Limits.{Fits}
-use Rattle.trace_text.proofs.WorkerLines.{workers_in-found}
 use Rattle.trace_text.proofs.PolicyLines.{PoliciesKept, policies-read}
 use Rattle.trace_text.proofs.CallLines.{calls_in-found}
 
@@ -55,7 +57,12 @@ front_in-some ps f e =
 
 trace_heading-some : (ps : List (List ℕ)) (h : Heading) → trace_heading ps ≡ Ok h → Heads (codes "syncord-trace") ps h
 unfolding trace_heading
-trace_heading-some ps h e = heading_in-some (codes "syncord-trace") 15 ps h e
+trace_heading-some ps h e = heading_in-some (codes "syncord-trace") PROFILE ps h e
+
+workers_in-found : (line : ℕ) (ps : List (List ℕ)) (ws : List Attr) (qs : List (List ℕ)) → workers_in line ps ≡ Ok (ws, qs)
+    → (ps ≡ map ended (map worker_line ws) ++ qs) × (0 < length ws) × (length ws ≤ 16) × AllByRecursion IsAttr ws
+unfolding workers_in
+workers_in-found line ps ws qs h = attrs_in-found worker_lines line ps ws qs h
 
 -- the document of its parts
 abbrev document : Front → List PolicyLine → List CallLine → Document

@@ -3,8 +3,6 @@ pub mod CallLoop
 pub mod Gathering
 pub mod OtherPlaces
 pub mod PolicyLoop
-pub mod Sections
-pub mod WorkerLines
 pub mod PolicyNames
 pub mod PolicyLines
 pub mod PolicyTexts

@@ -6,6 +6,7 @@ use Rattle.doc_text.specs.declared.fault.Fault.{Fault}
 use Rattle.doc_text.specs.Text.{pieces, text_in}
 use Rattle.doc_text.specs.Faults.{fault, ◌>>=◌, or_fault, Then}
 use Rattle.policy_text.specs.Accepted.{Judged}
+use Rattle.trace_text.specs.declared.faults.TheConstants.{PROGRAM}
 use Rattle.trace_text.specs.Document.{PolicyLine, Document}
 use Rattle.trace_text.specs.Grammar.{Front, front_in, policies_line, document_in, policy_says, ReadsPolicies, ReadsTrace}
 
@@ -14,7 +15,7 @@ Policies = Result (List PolicyLine × List (List ℕ)) Fault
 
 -- what a line leads to that declares a policy, or ends them
 abbrev Leads : Profile → List PolicyLine → ℕ → List ℕ → List (List ℕ) → Option PolicyLine → Policies → Type 0
-Leads profile before line p ps o read = MatchOption o (read ≡ Ok (before, p ∷ ps)) (λ policy. Judged profile policy.source (ReadsPolicies profile (before ++ policy ∷ []) (line + 1) ps read) (read ≡ fault line 9))
+Leads profile before line p ps o read = MatchOption o (read ≡ Ok (before, p ∷ ps)) (λ policy. Judged profile policy.source (ReadsPolicies profile (before ++ policy ∷ []) (line + 1) ps read) (read ≡ fault line PROGRAM))
 
 -- what stands behind a policy is read in one way
 abbrev Again : Profile → List PolicyLine → ℕ → List (List ℕ) → Policies → Policies → Type 0

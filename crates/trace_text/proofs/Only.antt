@@ -1,33 +1,37 @@
 -- Bytes that are a text of a trace within the limits are read as it.
-use Rattle.std.proofs.Common.{◌≡◌, ◌<◌, ◌≤◌, ℕ, ◌+◌, List, [], ◌∷◌, ◌++◌, length, map, false, Result, Ok, Err, IfOk, refl, sym, ap, ◌∙◌, subst, arith, append_assoc, length-append}
+use Rattle.std.proofs.Common.{◌≡◌, ◌<◌, ◌≤◌, ℕ, ◌+◌, List, [], ◌∷◌, ◌++◌, length, map, false, not, None, Result, Ok, Err, IfOk, refl, sym, ap, ◌∙◌, subst, arith, append_assoc, length-append}
 use Rattle.std.specs.Prelude.{codes}
 use Rattle.std.specs.List.{flat_map, AllByRecursion, AllZip}
 use Rattle.std.proofs.lemmas.Grind.{flat_map-append}
 use Rattle.bpf_isa.specs.declared.insn.Profile.{Profile}
 use Rattle.shfl_line.specs.declared.words.Attr.{Attr}
 use Rattle.doc_text.specs.declared.fault.Fault.{Fault}
-use Rattle.doc_text.specs.Text.{pieces, ended}
+use Rattle.doc_text.specs.Text.{pieces, ended, IsPlain}
+use Rattle.doc_text.specs.Words.{words}
 use Rattle.doc_text.specs.Faults.{GivesOrWants, Then}
 use Rattle.doc_text.proofs.Joining.{pieces-ended}
 use Rattle.policy_text.specs.declared.error.NoMemory.{NoMemory}
 use Rattle.policy_text.specs.Attributes.{IsAttr}
+use Rattle.policy_text.specs.Sections.{begins, ends}
 use Rattle.policy_text.specs.Headings.{heading, heading_lines, IsVersion}
+use Rattle.policy_text.proofs.AttrLines.{attr-words}
+use Rattle.policy_text.proofs.AttrSections.{attrs_in-only}
 use Rattle.policy_text.proofs.HeadingLines.{heading_in-lines}
 use Rattle.policy_text.proofs.ProgramWords.{program_word-is}
 use Rattle.policy_text.specs.Programs.{program_word}
-use Rattle.trace_text.specs.declared.error.TraceError.{TraceError}
-use Rattle.trace_text.specs.declared.error.TraceError.TheVariants as errors
+use Rattle.policy_text.specs.declared.document_error.DocumentError.{DocumentError}
+use Rattle.policy_text.specs.declared.document_error.DocumentError.TheVariants as errors
+use Rattle.trace_text.specs.declared.faults.TheConstants.{PROFILE}
 use Rattle.trace_text.specs.declared.trace.Trace.{Trace}
 use Rattle.trace_text.specs.Document.{PolicyLine, CallLine, Document}
-use Rattle.trace_text.specs.Errors.{fault_of, Allows}
-use Rattle.trace_text.specs.Grammar.{Front, trace_heading, workers_in, front_in, policies_line, document_in, calls_in, ReadsPolicies, ReadsTrace}
+use Rattle.policy_text.specs.Errors.{fault_of, Allows}
+use Rattle.trace_text.specs.Grammar.{Front, trace_heading, worker_lines, workers_in, front_in, policies_line, document_in, calls_in, ReadsPolicies, ReadsTrace}
 use Rattle.trace_text.specs.Spelling.{worker_line, policy_line, call_line, lines_with, spelling}
 use Rattle.trace_text.specs.Texts.{IsPolicyText, IsText}
 use Rattle.trace_text.specs.Limits.{IsPolicy, AreNamedApart, Fits}
 use Rattle.trace_text.specs.Lines.{is_declared}
 use Rattle.trace_text.specs.Traces.{document_of}
-use Rattle.trace_text.proofs.Sections.{all-at}
-use Rattle.trace_text.proofs.WorkerLines.{workers_in-only}
+use Rattle.policy_text.proofs.LinesRead.{all-at}
 use Rattle.trace_text.proofs.PolicyNames.{apart-at}
 use Rattle.trace_text.proofs.PolicyTexts.{policy_text-plain, policy_text-begins, policies-only, policies-read_so}
 use Rattle.trace_text.proofs.CallTexts.{calls_in-only}
@@ -39,6 +43,15 @@ Policies = Result (List PolicyLine × List (List ℕ)) Fault
 -- workers and the pieces behind them
 abbrev read_workers : List Attr → List (List ℕ) → Result (List Attr × List (List ℕ)) Fault
 read_workers ws qs = Ok (ws, qs)
+
+-- a worker line is no end of the workers, and any that begins otherwise is
+goes_on : (a : Attr) → IsAttr a → ends (codes "worker") None (worker_line a) ≡ false
+goes_on a h = ap (λ (ws : List (List ℕ)). not (begins (codes "worker") ws)) (attr-words (codes "worker") a (refl, refl) h)
+
+workers_in-only : (line : ℕ) (ws : List Attr) (last rest : List ℕ) → 0 < length ws → length ws ≤ 16 → AllByRecursion IsAttr ws → IsPlain last → begins (codes "worker") (words last) ≡ false
+    → workers_in line (pieces (flat_map ended (map worker_line ws) ++ (ended last ++ rest))) ≡ Ok (ws, ended last ∷ pieces rest)
+unfolding workers_in
+workers_in-only line ws last rest some few all plain other = attrs_in-only worker_lines (refl, refl) goes_on line ws last rest some few all plain (ap not other)
 
 -- the workers end where the first policy stands
 workers-ended : (line : ℕ) (ws : List Attr) (profile : Profile) (policies : List PolicyLine) (texts : List (List ℕ)) (rest : List ℕ) → 0 < length ws → length ws ≤ 16 → AllByRecursion IsAttr ws
@@ -55,7 +68,7 @@ workers-ended line ws profile (p ∷ ps) (t ∷ ts) rest some few all zip there 
 
 trace_heading-lines : (version : ℕ) (profile : Profile) (rest : List ℕ) → IsVersion version profile → trace_heading (pieces (flat_map ended (heading_lines (codes "syncord-trace") version profile) ++ rest)) ≡ Ok (heading version profile (pieces rest))
 unfolding trace_heading
-trace_heading-lines version profile rest h = heading_in-lines (codes "syncord-trace") 15 version profile rest (refl, refl) h
+trace_heading-lines version profile rest h = heading_in-lines (codes "syncord-trace") PROFILE version profile rest (refl, refl) h
 
 front_in-parts : (ps : List (List ℕ)) (version : ℕ) (profile : Profile) (rest : List (List ℕ)) (ws : List Attr) (behind : List (List ℕ)) → trace_heading ps ≡ Ok (heading version profile rest) → workers_in (version + 1) rest ≡ read_workers ws behind
     → front_in ps ≡ Ok (record { version = version; profile = profile; workers = ws; rest = behind })
@@ -125,11 +138,11 @@ text-read bytes d fits text =
 
 -- ---- of what a reader returned
 
-pub returned-found : (bytes : List ℕ) (r : Result Trace TraceError) → Allows document_of r (ReadsTrace bytes) → IfOk r (λ t. IsText bytes (document_of t) × Fits (document_of t))
+pub returned-found : (bytes : List ℕ) (r : Result Trace DocumentError) → Allows document_of r (ReadsTrace bytes) → IfOk r (λ t. IsText bytes (document_of t) × Fits (document_of t))
 returned-found bytes (Ok t) h = found bytes (document_of t) h
 returned-found bytes (Err e) h = tt
 
-pub returned-only : (bytes : List ℕ) (r : Result Trace TraceError) → Allows document_of r (ReadsTrace bytes) → (d : Document) → Fits d → IsText bytes d → GivesOrWants fault_of document_of r (Ok d)
+pub returned-only : (bytes : List ℕ) (r : Result Trace DocumentError) → Allows document_of r (ReadsTrace bytes) → (d : Document) → Fits d → IsText bytes d → GivesOrWants fault_of document_of r (Ok d)
 returned-only bytes (Ok t) h d fits text = sym (only bytes d (Ok (document_of t)) fits text h)
 returned-only bytes (Err (errors.Format line what)) h d fits text = sym (only bytes d (Err (record { line = line; what = what })) fits text h)
 returned-only bytes (Err errors.NoMemory) h d fits text = tt

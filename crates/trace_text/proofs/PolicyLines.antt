@@ -16,6 +16,7 @@ use Rattle.policy_text.specs.Programs.{source_in}
 use Rattle.policy_text.proofs.Chains.{then-some, test-some, unless-ok, ok-same, some-same, four-some}
 use Rattle.policy_text.proofs.Parts.{text-spaced}
 use Rattle.policy_text.proofs.ProgramWords.{source_in-some, program-bytes}
+use Rattle.trace_text.specs.declared.faults.TheConstants.{POLICY, POLICIES, AGAIN, DIGITS, PROGRAM}
 use Rattle.trace_text.specs.Document.{PolicyLine}
 use Rattle.trace_text.specs.Lines.{is_policy_name, PolicyWords, policy_in, programs_in, is_declared}
 use Rattle.trace_text.specs.Grammar.{policy_says, ReadsPolicies}
@@ -52,7 +53,7 @@ record PolicyRead (before : List PolicyLine) (t : List ℕ) (p : PolicyLine) : T
 
 -- what the words of a policy give behind those before
 abbrev judged : List PolicyLine → ℕ → PolicyWords → Result (Option PolicyLine) Fault
-judged before line w = cond (leb 64 (length before)) (fault line 6) (cond (is_declared before w.name) (fault line 7) (or_fault line 8 (programs_in w) >>= λ policy. Ok (Some policy)))
+judged before line w = cond (leb 64 (length before)) (fault line POLICIES) (cond (is_declared before w.name) (fault line AGAIN) (or_fault line DIGITS (programs_in w) >>= λ policy. Ok (Some policy)))
 
 policy_says-some : (before : List PolicyLine) (line : ℕ) (t : List ℕ) (p : PolicyLine) → policy_says before line t ≡ Ok (Some p) → PolicyRead before t p
 unfolding policy_says
@@ -60,10 +61,10 @@ policy_says-some before line t p h = by_test (same t (codes "calls")) h
   where
     by_words : (w : PolicyWords) → PolicyLike (words t) w → judged before line w ≡ Ok (Some p) → PolicyRead before t p
     by_words w like k =
-        let room = unless-ok (leb 64 (length before)) line 6 _ (Some p) k in
-        let new = unless-ok (is_declared before w.name) line 7 _ (Some p) room.1 in
-        let x = bind-some (or_fault line 8 (programs_in w)) _ (Some p) new.1 in
-        let s = then-some (source_in w.should w.skip) _ x.0 (or_fault-some line 8 (programs_in w) x.0 x.1) in
+        let room = unless-ok (leb 64 (length before)) line POLICIES _ (Some p) k in
+        let new = unless-ok (is_declared before w.name) line AGAIN _ (Some p) room.1 in
+        let x = bind-some (or_fault line DIGITS (programs_in w)) _ (Some p) new.1 in
+        let s = then-some (source_in w.should w.skip) _ x.0 (or_fault-some line DIGITS (programs_in w) x.0 x.1) in
         let programs = source_in-some w.should w.skip s.0 s.1 in
         let made : PolicyLine = record { name = w.name; source = s.0 } in
         let is : made ≡ p = some-same made x.0 s.2 ∙ some-same x.0 p (ok-same (Some x.0) (Some p) x.2) in
@@ -74,29 +75,29 @@ policy_says-some before line t p h = by_test (same t (codes "calls")) h
           new = new.0;
         })
 
-    by_test : (v : Bool) → ◌≡◌ {A = Result (Option PolicyLine) Fault} (cond v (cond (eqb (length before) 0) (fault line 5) (Ok None)) (or_fault line 5 (policy_in (words t)) >>= judged before line)) (Ok (Some p)) → PolicyRead before t p
-    by_test true k = let none = (unless-ok (eqb (length before) 0) line 5 _ (Some p) k).1 in cc
+    by_test : (v : Bool) → ◌≡◌ {A = Result (Option PolicyLine) Fault} (cond v (cond (eqb (length before) 0) (fault line POLICY) (Ok None)) (or_fault line POLICY (policy_in (words t)) >>= judged before line)) (Ok (Some p)) → PolicyRead before t p
+    by_test true k = let none = (unless-ok (eqb (length before) 0) line POLICY _ (Some p) k).1 in cc
     by_test false k =
-        let w = bind-some (or_fault line 5 (policy_in (words t))) _ (Some p) k in
-        by_words w.0 (policy_in-some (words t) w.0 (or_fault-some line 5 (policy_in (words t)) w.0 w.1)) w.2
+        let w = bind-some (or_fault line POLICY (policy_in (words t))) _ (Some p) k in
+        by_words w.0 (policy_in-some (words t) w.0 (or_fault-some line POLICY (policy_in (words t)) w.0 w.1)) w.2
 
 policy_says-none : (before : List PolicyLine) (line : ℕ) (t : List ℕ) → policy_says before line t ≡ Ok None → 0 < length before
 unfolding policy_says
 policy_says-none before line t h = by_test (same t (codes "calls")) h
   where
-    by_words : (w : PolicyWords) → ◌≡◌ {A = Result (Option PolicyLine) Fault} (cond (leb 64 (length before)) (fault line 6) (cond (is_declared before w.name) (fault line 7) (or_fault line 8 (programs_in w) >>= λ policy. Ok (Some policy)))) (Ok None) → 0 < length before
+    by_words : (w : PolicyWords) → ◌≡◌ {A = Result (Option PolicyLine) Fault} (cond (leb 64 (length before)) (fault line POLICIES) (cond (is_declared before w.name) (fault line AGAIN) (or_fault line DIGITS (programs_in w) >>= λ policy. Ok (Some policy)))) (Ok None) → 0 < length before
     by_words w k =
-        let room = unless-ok (leb 64 (length before)) line 6 _ None k in
-        let new = unless-ok (is_declared before w.name) line 7 _ None room.1 in
-        let x = bind-some (or_fault line 8 (programs_in w)) _ None new.1 in
+        let room = unless-ok (leb 64 (length before)) line POLICIES _ None k in
+        let new = unless-ok (is_declared before w.name) line AGAIN _ None room.1 in
+        let x = bind-some (or_fault line DIGITS (programs_in w)) _ None new.1 in
         let some = x.2 in
         cc
 
-    by_test : (v : Bool) → ◌≡◌ {A = Result (Option PolicyLine) Fault} (cond v (cond (eqb (length before) 0) (fault line 5) (Ok None)) (or_fault line 5 (policy_in (words t)) >>= λ w. cond (leb 64 (length before)) (fault line 6) (cond (is_declared before w.name) (fault line 7) (or_fault line 8 (programs_in w) >>= λ policy. Ok (Some policy))))) (Ok None) → 0 < length before
+    by_test : (v : Bool) → ◌≡◌ {A = Result (Option PolicyLine) Fault} (cond v (cond (eqb (length before) 0) (fault line POLICY) (Ok None)) (or_fault line POLICY (policy_in (words t)) >>= λ w. cond (leb 64 (length before)) (fault line POLICIES) (cond (is_declared before w.name) (fault line AGAIN) (or_fault line DIGITS (programs_in w) >>= λ policy. Ok (Some policy))))) (Ok None) → 0 < length before
     by_test true k =
-        let some = eqb-false (length before) 0 (unless-ok (eqb (length before) 0) line 5 _ None k).0 in
+        let some = eqb-false (length before) 0 (unless-ok (eqb (length before) 0) line POLICY _ None k).0 in
         omega (arith, some)
-    by_test false k = let w = bind-some (or_fault line 5 (policy_in (words t))) _ None k in by_words w.0 w.2
+    by_test false k = let w = bind-some (or_fault line POLICY (policy_in (words t))) _ None k in by_words w.0 w.2
 
 -- ---- all lines
 
@@ -118,12 +119,12 @@ piece-front p t ps qs e f = rw (e, f) refl
 -- one line read, and then those behind it
 module _ (profile : Profile) (before : List PolicyLine) (line : ℕ) (p : List ℕ) (ps : List (List ℕ)) (all : List PolicyLine) (qs : List (List ℕ)) (kept : PoliciesKept profile before) where
   abbrev ends : Option PolicyLine → Policies → Type 0
-  ends o read = MatchOption o (read ≡ Ok (before, p ∷ ps)) (λ policy. Judged profile policy.source (ReadsPolicies profile (before ++ policy ∷ []) (line + 1) ps read) (read ≡ fault line 9))
+  ends o read = MatchOption o (read ≡ Ok (before, p ∷ ps)) (λ policy. Judged profile policy.source (ReadsPolicies profile (before ++ policy ∷ []) (line + 1) ps read) (read ≡ fault line PROGRAM))
 
   abbrev Again : Type 0
   Again = (more : List PolicyLine) → PoliciesKept profile more → ReadsPolicies profile more (line + 1) ps (Ok (all, qs)) → PoliciesRead profile more ps all qs
 
-  by_policy : Again → (t : List ℕ) → p ≡ ended t → (policy : PolicyLine) → PolicyRead before t policy → Judged profile policy.source (ReadsPolicies profile (before ++ policy ∷ []) (line + 1) ps (Ok (all, qs))) (◌≡◌ {A = Policies} (Ok (all, qs)) (fault line 9)) → PoliciesRead profile before (p ∷ ps) all qs
+  by_policy : Again → (t : List ℕ) → p ≡ ended t → (policy : PolicyLine) → PolicyRead before t policy → Judged profile policy.source (ReadsPolicies profile (before ++ policy ∷ []) (line + 1) ps (Ok (all, qs))) (◌≡◌ {A = Policies} (Ok (all, qs)) (fault line PROGRAM)) → PoliciesRead profile before (p ∷ ps) all qs
   by_policy again t e policy r (inl (accepted, more)) =
       let good : IsPolicy profile policy = record { name = r.name; accepted = accepted; should = program-bytes policy.source.should r.text.0 r.text.3; skip = program-bytes policy.source.skip r.text.1 r.text.4 } in
       let s = again (before ++ policy ∷ []) (record { few = omega (arith, length-append before (policy ∷ []), r.room); each = all-push (IsPolicy profile) before policy kept.each good; apart = apart-push before policy kept.apart r.new }) more in

@@ -10,11 +10,13 @@ use Rattle.doc_text.specs.Text.{pieces, text_in, IsPlain, ended}
 use Rattle.doc_text.specs.Words.{words, same, is_word}
 use Rattle.doc_text.specs.Faults.{fault, ◌>>=◌, or_fault}
 use Rattle.doc_text.proofs.Joining.{same-true, pieces-ended, text_in-ended}
+use Rattle.policy_text.specs.Sections.{begins}
 use Rattle.policy_text.specs.Accepted.{AcceptsSource, Judged}
 use Rattle.policy_text.proofs.Parts.{IsPart, line-plain, line-words}
 use Rattle.policy_text.proofs.ProgramWords.{source_in-words, program-part, program-is_word}
+use Rattle.trace_text.specs.declared.faults.TheConstants.{POLICY, POLICIES, AGAIN, DIGITS, PROGRAM}
 use Rattle.trace_text.specs.Document.{PolicyLine}
-use Rattle.trace_text.specs.Lines.{begins, is_policy_name, PolicyWords, policy_in, programs_in, is_declared}
+use Rattle.trace_text.specs.Lines.{is_policy_name, PolicyWords, policy_in, programs_in, is_declared}
 use Rattle.trace_text.specs.Grammar.{policy_says, ReadsPolicies}
 use Rattle.trace_text.specs.Texts.{IsPolicyText}
 use Rattle.trace_text.specs.Limits.{IsPolicy}
@@ -34,7 +36,7 @@ policy_text-begins profile p t good h = ap (begins (codes "worker")) (policy_tex
 
 -- words that say a policy where it may stand
 says-policy : (before : List PolicyLine) (line : ℕ) (t : List ℕ) (ws : List (List ℕ)) (p : PolicyLine) (w : PolicyWords) → same t (codes "calls") ≡ false → policy_in ws ≡ Some w → length before < 64 → is_declared before w.name ≡ false → programs_in w ≡ Some p
-    → ◌≡◌ {A = Result (Option PolicyLine) Fault} (cond (same t (codes "calls")) (cond (eqb (length before) 0) (fault line 5) (Ok None)) (or_fault line 5 (policy_in ws) >>= λ w. cond (leb 64 (length before)) (fault line 6) (cond (is_declared before w.name) (fault line 7) (or_fault line 8 (programs_in w) >>= λ policy. Ok (Some policy))))) (Ok (Some p))
+    → ◌≡◌ {A = Result (Option PolicyLine) Fault} (cond (same t (codes "calls")) (cond (eqb (length before) 0) (fault line POLICY) (Ok None)) (or_fault line POLICY (policy_in ws) >>= λ w. cond (leb 64 (length before)) (fault line POLICIES) (cond (is_declared before w.name) (fault line AGAIN) (or_fault line DIGITS (programs_in w) >>= λ policy. Ok (Some policy))))) (Ok (Some p))
 says-policy before line t ws p w other read room new programs = rw (other, read, lt-leb 64 (length before) room, new, programs) refl
 
 policy_in-known : (name should skip : List ℕ) → is_policy_name name ≡ true → is_word should ≡ true → is_word skip ≡ true → policy_in (codes "policy" ∷ name ∷ should ∷ skip ∷ []) ≡ Some (record { name = name; should = should; skip = skip })
@@ -67,7 +69,7 @@ module _ (profile : Profile) (before : List PolicyLine) (line : ℕ) (ps qs : Li
   unfolding ReadsPolicies
   more-only policy g accepted h = by_judged (rw (e, f, g) at h)
     where
-      by_judged : Judged profile policy.source (ReadsPolicies profile (before ++ policy ∷ []) (line + 1) qs read) (read ≡ fault line 9) → ReadsPolicies profile (before ++ policy ∷ []) (line + 1) qs read
+      by_judged : Judged profile policy.source (ReadsPolicies profile (before ++ policy ∷ []) (line + 1) qs read) (read ≡ fault line PROGRAM) → ReadsPolicies profile (before ++ policy ∷ []) (line + 1) qs read
       by_judged (inl (yes_, more)) = more
       by_judged (inr (refused, bad)) = absurd (refused accepted)
 

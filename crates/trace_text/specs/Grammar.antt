@@ -5,28 +5,23 @@ use Rattle.bpf_isa.specs.declared.insn.Profile.{Profile}
 use Rattle.doc_text.specs.declared.fault.Fault.{Fault}
 use Rattle.doc_text.specs.Text.{pieces, text_in}
 use Rattle.doc_text.specs.Words.{words, same}
-use Rattle.doc_text.specs.Faults.{fault, ◌>>=◌, or_fault, fixed_due, lines_from, section_from, Then}
+use Rattle.doc_text.specs.Faults.{fault, ◌>>=◌, or_fault, fixed_due, lines_from, Then}
 use Rattle.trace_text.specs.Document.{CallLine, PolicyLine, Document}
-use Rattle.policy_text.specs.Attributes.{attr_in}
 use Rattle.policy_text.specs.Headings.{Heading, heading_in}
 use Rattle.policy_text.specs.Accepted.{Judged}
-use Rattle.trace_text.specs.Lines.{begins, policy_in, programs_in, is_declared, call_in, is_in_range, may_do, is_full}
+use Rattle.policy_text.specs.Sections.{SectionModel, attrs_in}
+use Rattle.trace_text.specs.declared.faults.TheConstants.{WORKER, WORKERS, POLICY, POLICIES, AGAIN, DIGITS, PROGRAM, CALL, STRANGER, RANGE, ATTACH, OVER, PROFILE}
+use Rattle.trace_text.specs.Lines.{policy_in, programs_in, is_declared, call_in, is_in_range, may_do, is_full}
 
 -- ---- the workers
 
 -- A line that begins with `worker` is one, good or bad; at the first place each line is due to be one.
--- A bad worker line is fault 3, and one more than 16 is fault 4.
-unfoldable pub worker_says : List Attr → ℕ → List ℕ → Result (Option Attr) Fault
-worker_says before line text =
-    if begins (codes "worker") (words text) then (or_fault line 3 (attr_in (codes "worker") (words text)) >>= λ attr. if nat_le 16 (length before) then fault line 4 else Ok (Some attr))
-    else if length before == 0 then fault line 3 else Ok None
-
--- behind the workers a policy line is due, which is fault 5
-abbrev pub worker_due : List Attr → ℕ
-worker_due before = if length before == 0 then 3 else 5
+-- A bad worker line is fault 3, and one more than 16 is fault 4. Behind the workers a policy line is due, which is fault 5.
+abbrev pub worker_lines : SectionModel
+worker_lines = record { word = codes "worker"; last = None; most = 16; bad = WORKER; over = WORKERS; short = POLICY }
 
 unfoldable pub workers_in : ℕ → List (List ℕ) → Result (List Attr × List (List ℕ)) Fault
-workers_in line ps = section_from worker_says worker_due [] line ps
+workers_in line ps = attrs_in worker_lines line ps
 
 -- ---- the policies
 
@@ -34,19 +29,19 @@ workers_in line ps = section_from worker_says worker_due [] line ps
 -- before is fault 7, and bad digits are fault 8. That a program isn't accepted is fault 9, which stands below.
 unfoldable pub policy_says : List PolicyLine → ℕ → List ℕ → Result (Option PolicyLine) Fault
 policy_says before line text =
-    if same text (codes "calls") then (if length before == 0 then fault line 5 else Ok None)
-    else or_fault line 5 (policy_in (words text)) >>= λ p.
-    if nat_le 64 (length before) then fault line 6
-    else if is_declared before p.name then fault line 7
-    else or_fault line 8 (programs_in p) >>= λ policy. Ok (Some policy)
+    if same text (codes "calls") then (if length before == 0 then fault line POLICY else Ok None)
+    else or_fault line POLICY (policy_in (words text)) >>= λ p.
+    if nat_le 64 (length before) then fault line POLICIES
+    else if is_declared before p.name then fault line AGAIN
+    else or_fault line DIGITS (programs_in p) >>= λ policy. Ok (Some policy)
 
 -- The policies and the pieces from the line `calls` on, or a fault. A policy whose programs aren't both accepted is fault 9.
 -- It is a relation, since acceptance speaks of all paths through a program.
 unfoldable pub ReadsPolicies : Profile → List PolicyLine → ℕ → List (List ℕ) → Result (List PolicyLine × List (List ℕ)) Fault → Type 0
-ReadsPolicies profile before line [] read = read ≡ fault line 5
+ReadsPolicies profile before line [] read = read ≡ fault line POLICY
 ReadsPolicies profile before line (p ∷ ps) read =
     Then (or_fault line 1 (text_in p) >>= policy_says before line)
-    (λ o read. MatchOption o (read ≡ Ok (before, p ∷ ps)) (λ policy. Judged profile policy.source (ReadsPolicies profile (before ++ policy ∷ []) (line + 1) ps read) (read ≡ fault line 9)))
+    (λ o read. MatchOption o (read ≡ Ok (before, p ∷ ps)) (λ policy. Judged profile policy.source (ReadsPolicies profile (before ++ policy ∷ []) (line + 1) ps read) (read ≡ fault line PROGRAM)))
     read
 
 -- ---- the calls
@@ -55,16 +50,16 @@ ReadsPolicies profile before line (p ∷ ps) read =
 -- attachment that may not be is fault 13, and one more call than there is room for is fault 14.
 unfoldable pub call_says : ℕ → List PolicyLine → List CallLine → ℕ → List ℕ → Result CallLine Fault
 call_says workers policies before line text =
-    or_fault line 10 (call_in (words text)) >>= λ call.
-    if nat_le workers call.worker then fault line 11
-    else if not (is_in_range call.act) then fault line 12
-    else if not (may_do policies call.worker call.act) then fault line 13
-    else if is_full before call.act then fault line 14
+    or_fault line CALL (call_in (words text)) >>= λ call.
+    if nat_le workers call.worker then fault line STRANGER
+    else if not (is_in_range call.act) then fault line RANGE
+    else if not (may_do policies call.worker call.act) then fault line ATTACH
+    else if is_full before call.act then fault line OVER
     else Ok call
 
 -- the line `calls`, and the calls to the end
 unfoldable pub calls_in : ℕ → List PolicyLine → ℕ → List (List ℕ) → Result (List CallLine) Fault
-calls_in workers policies line ps = fixed_due line 5 (codes "calls") ps >>= λ ps. lines_from (call_says workers policies) [] (line + 1) ps
+calls_in workers policies line ps = fixed_due line POLICY (codes "calls") ps >>= λ ps. lines_from (call_says workers policies) [] (line + 1) ps
 
 -- ---- the whole
 
@@ -77,7 +72,7 @@ pub record Front : Type 0 where
 
 -- the version and the profile; a bad or missing profile line is fault 15
 unfoldable pub trace_heading : List (List ℕ) → Result Heading Fault
-trace_heading ps = heading_in (codes "syncord-trace") 15 ps
+trace_heading ps = heading_in (codes "syncord-trace") PROFILE ps
 
 unfoldable pub front_in : List (List ℕ) → Result Front Fault
 front_in ps = trace_heading ps >>= λ h. workers_in (h.version + 1) h.rest >>= λ w. Ok (record { version = h.version; profile = h.profile; workers = w.0; rest = w.1 })

@@ -8,7 +8,6 @@ pub mod Spelled
 pub mod Traces
 pub mod CallLists
 pub mod InMemory
-pub mod Errors
 pub mod Report
 pub mod Reported
 pub mod Histories

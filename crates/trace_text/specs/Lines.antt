@@ -6,11 +6,6 @@ use Rattle.doc_text.specs.Numbers.{capped_in}
 use Rattle.policy_text.specs.Programs.{source_in}
 use Rattle.trace_text.specs.Document.{Act, make, drop_name, rename, find, count, next, attach, CallLine, PolicyLine}
 
--- the line begins with this word
-abbrev pub begins : List ℕ → List (List ℕ) → Bool
-begins word [] = false
-begins word (w ∷ ws) = same w word
-
 -- `a` to `z`, `0` to `9`, `-` and `_`
 abbrev pub is_name_byte : ℕ → Bool
 is_name_byte b = nat_le 97 b && nat_le b 122 || nat_le 48 b && nat_le b 57 || b == 45 || b == 95

@@ -2,19 +2,20 @@ ghost use Rattle.std.specs.Prelude.{◌≡◌, ◌<◌, ◌≤◌, length, map, 
 ghost use Rattle.doc_text.specs.Text.{pieces};
 ghost use Rattle.doc_text.specs.Faults.{Gives, GivesOrWants};
 ghost use Rattle.trace_text.specs.CallLists.{list_said, IsListOf, numbered_said, IsNumbered};
-ghost use Rattle.trace_text.specs.Errors.{fault_of};
+ghost use Rattle.policy_text.specs.Errors.{fault_of};
 ghost use Rattle.trace_text.specs.Lines.{is_entry, is_in_range, may_do, is_full};
 ghost use Rattle.trace_text.specs.Grammar.{call_says, calls_in};
 ghost use Rattle.trace_text.specs.Spelled.{act_said, call_said, MayBe};
 ghost use Rattle.trace_text.specs.Traces.{policy_of};
 
 use crate::call_list::{CallList, Numbered};
-use crate::error::TraceError;
+use crate::faults::{ATTACH, CALL, OVER, POLICY, RANGE, STRANGER};
 use crate::policies::is_declared;
 use crate::shape::shape_of;
 use crate::spelled::{SpelledAct, SpelledCall, is_attach};
 use crate::trace::NamedSource;
 use doc_text::{Fault, fixed_due, text_at};
+use policy_text::DocumentError;
 use std::alloc::Global;
 
 // No call is shorter than `0 next 0` and its line feed.
@@ -76,20 +77,23 @@ fn call_says<'a>(
         MayBe workers (map policy_of policies.now) (call_said c)) }
 {
     let Some(call) = shape_of(text) else {
-        return Err(Fault { line, what: 10 });
+        return Err(Fault { line, what: CALL });
     };
     if call.worker as usize >= workers {
-        return Err(Fault { line, what: 11 });
+        return Err(Fault {
+            line,
+            what: STRANGER,
+        });
     }
     if !is_in_range(&call.act) {
-        return Err(Fault { line, what: 12 });
+        return Err(Fault { line, what: RANGE });
     }
     if !may_do(policies, call.worker, &call.act) {
-        return Err(Fault { line, what: 13 });
+        return Err(Fault { line, what: ATTACH });
     }
     let full = is_attach(&call.act) && before.attaches >= 4096;
     if before.calls.len() >= 65536 || full {
-        return Err(Fault { line, what: 14 });
+        return Err(Fault { line, what: OVER });
     }
     Ok(call)
 }
@@ -102,7 +106,7 @@ pub fn calls_of(
     policies: &[NamedSource],
     bytes: &[u8],
     first: u32,
-) -> Result<Numbered, TraceError>
+) -> Result<Numbered, DocumentError>
     requires few_policies { length policies.now ≤ 64 }
     requires soon { first < 100 }
     ensures exact { GivesOrWants fault_of (numbered_said policies.now) result
@@ -110,12 +114,12 @@ pub fn calls_of(
     ensures numbered { IfOk result (IsNumbered workers policies.now) }
     ensures few { IfOk result (λ n. length n.calls.items ≤ 65536) }
 {
-    let mut rest = fixed_due(bytes, first, 5, b"calls")?;
+    let mut rest = fixed_due(bytes, first, POLICY, b"calls")?;
     let mut list = CallList::open(alloc, (rest.len() / SHORTEST_LINE).min(65536))?;
     let mut line = first + 1;
     while !rest.is_empty() {
         let Some((text, after)) = text_at(rest) else {
-            return Err(TraceError::Format { line, what: 1 });
+            return Err(DocumentError::Format { line, what: 1 });
         };
         let call = call_says(workers, policies, &list, line, text)?;
         list.push(workers, policies, &call)?;

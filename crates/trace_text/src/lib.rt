@@ -3,7 +3,7 @@
 
 mod call_list;
 mod calls;
-mod error;
+mod faults;
 mod generator;
 mod laws;
 mod numbering;
@@ -19,10 +19,9 @@ mod words;
 mod workers;
 mod write;
 
-pub use error::TraceError;
 pub use generator::generate;
 pub use laws::laws_of_traces;
-pub use policy_text::NoMemory;
+pub use policy_text::{DocumentError as TraceError, NoMemory};
 pub use read::read_trace;
 pub use reports::{push_counted, push_rows, render};
 pub use totals::summary;

@@ -2,16 +2,16 @@ ghost use Rattle.std.specs.Prelude.{◌≡◌, ◌<◌, ◌≤◌, ◌+◌, ◌^
 ghost use Rattle.doc_text.specs.Text.{pieces};
 ghost use Rattle.doc_text.specs.Words.{words};
 ghost use Rattle.doc_text.specs.Faults.{GivesOrWants};
-ghost use Rattle.trace_text.specs.Errors.{fault_of, Allows};
+ghost use Rattle.policy_text.specs.Errors.{fault_of, Allows};
 ghost use Rattle.trace_text.specs.Lines.{is_name_byte, is_policy_name, policy_in, is_declared};
 ghost use Rattle.trace_text.specs.Grammar.{policy_says, ReadsPolicies};
 ghost use Rattle.trace_text.specs.Traces.{policy_of};
 
-use crate::error::TraceError;
+use crate::faults::{AGAIN, DIGITS, POLICIES, POLICY, PROGRAM};
 use crate::trace::NamedSource;
 use bpf_isa::Profile;
 use doc_text::{four_words, is_same, text_at};
-use policy_text::{accepts, source_of};
+use policy_text::{DocumentError, accepts, source_of};
 use std::alloc::Global;
 
 fn is_name_byte(byte: u8) -> bool
@@ -65,7 +65,7 @@ fn policy_says(
     before: &[NamedSource],
     line: u32,
     text: &[u8],
-) -> Result<Option<NamedSource>, TraceError>
+) -> Result<Option<NamedSource>, DocumentError>
     ensures exact { GivesOrWants fault_of (option_map policy_of) result
         (policy_says (map policy_of before.now) line text.now) }
     ensures room { IfOk result (λ o. OnSome o (length before.now < 64)) }
@@ -73,22 +73,25 @@ fn policy_says(
 {
     if is_same(text, b"calls") {
         return if before.is_empty() {
-            Err(TraceError::Format { line, what: 5 })
+            Err(DocumentError::Format { line, what: POLICY })
         } else {
             Ok(None)
         };
     }
     let Some((name, should, skip)) = policy_words(text) else {
-        return Err(TraceError::Format { line, what: 5 });
+        return Err(DocumentError::Format { line, what: POLICY });
     };
     if before.len() >= 64 {
-        return Err(TraceError::Format { line, what: 6 });
+        return Err(DocumentError::Format {
+            line,
+            what: POLICIES,
+        });
     }
     if is_declared(before, name) {
-        return Err(TraceError::Format { line, what: 7 });
+        return Err(DocumentError::Format { line, what: AGAIN });
     }
     let Some(source) = source_of(alloc, should, skip)? else {
-        return Err(TraceError::Format { line, what: 8 });
+        return Err(DocumentError::Format { line, what: DIGITS });
     };
     let name = Vec::from_slice(alloc, name)?;
     Ok(Some(NamedSource { name, source }))
@@ -100,7 +103,7 @@ pub fn policies_of(
     profile: Profile,
     bytes: &[u8],
     first: u32,
-) -> Result<(Vec<NamedSource>, &[u8]), TraceError>
+) -> Result<(Vec<NamedSource>, &[u8]), DocumentError>
     requires { first < 20 }
     ensures exact { Allows (λ x. (map policy_of x.0.items, pieces x.1.now)) result
         (ReadsPolicies profile [] first (pieces bytes.now)) }
@@ -112,17 +115,20 @@ pub fn policies_of(
     let mut line = first;
     while !rest.is_empty() {
         let Some((text, after)) = text_at(rest) else {
-            return Err(TraceError::Format { line, what: 1 });
+            return Err(DocumentError::Format { line, what: 1 });
         };
         let Some(policy) = policy_says(alloc, policies.as_slice(), line, text)? else {
             return Ok((policies, rest));
         };
         if !accepts(alloc, profile, &policy.source)? {
-            return Err(TraceError::Format { line, what: 9 });
+            return Err(DocumentError::Format {
+                line,
+                what: PROGRAM,
+            });
         }
         policies.push(policy)?;
         rest = after;
         line += 1;
     }
-    Err(TraceError::Format { line, what: 5 })
+    Err(DocumentError::Format { line, what: POLICY })
 }

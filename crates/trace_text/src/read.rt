@@ -3,7 +3,7 @@ ghost use Rattle.doc_text.specs.Text.{pieces};
 ghost use Rattle.doc_text.specs.Faults.{Gives, GivesOrWants};
 ghost use Rattle.policy_text.specs.Headings.{heading};
 ghost use Rattle.trace_text.specs.Document.{Document};
-ghost use Rattle.trace_text.specs.Errors.{fault_of, Allows};
+ghost use Rattle.policy_text.specs.Errors.{fault_of, Allows};
 ghost use Rattle.trace_text.specs.Grammar.{trace_heading, front_in, ReadsTrace};
 ghost use Rattle.trace_text.specs.Limits.{Fits};
 ghost use Rattle.name_order.specs.Names.{AreRisingBy, SameMembers};
@@ -12,13 +12,13 @@ ghost use Rattle.trace_text.specs.Texts.{IsText};
 ghost use Rattle.trace_text.specs.Traces.{document_of, names_of, IsWithin};
 
 use crate::calls::calls_of;
-use crate::error::TraceError;
+use crate::faults::PROFILE;
 use crate::policies::policies_of;
 use crate::trace::Trace;
 use crate::workers::workers_of;
 use bpf_isa::Profile;
 use doc_text::Fault;
-use policy_text::heading_of;
+use policy_text::{DocumentError as TraceError, heading_of};
 use std::alloc::Global;
 
 #[tactic(auto, unfolding(crate::specs::Grammar::trace_heading))]
@@ -27,7 +27,7 @@ fn trace_heading(bytes: &[u8]) -> Result<(u8, Profile, &[u8]), Fault>
         (trace_heading (pieces bytes.now)) }
     ensures known { IfOk result (λ x. x.0 ≤ 2) }
 {
-    heading_of(b"syncord-trace", 15, bytes)
+    heading_of(b"syncord-trace", PROFILE, bytes)
 }
 
 #[tactic(auto, unfolding(crate::specs::Grammar::front_in, crate::specs::Grammar::document_in))]
