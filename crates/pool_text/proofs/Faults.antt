@@ -9,6 +9,7 @@ use Rattle.trace_text.specs.declared.trace.TraceAct.TheVariants as does
 use Rattle.trace_text.specs.declared.trace.TraceCall.{TraceCall}
 use Rattle.trace_text.specs.Lines.{is_attach}
 use Rattle.trace_text.specs.Traces.{dir_act, act_of, call_of, is_attachment}
+use Rattle.pool_text.specs.declared.calls.TheConstants.{OVER, ATTACH}
 use Rattle.pool_text.specs.PoolDocuments.{fault_from}
 
 directory_call : (names : List (List ℕ)) (c : DirCall) → is_attach (dir_act names c) ≡ false
@@ -46,13 +47,13 @@ long_which [] = refl
 long_which (c ∷ cs) = ap suc (long_which cs)
 
 abbrev step : ℕ → ℕ → Bool → Bool → List Bool → Option Fault
-step k line many b others = if many then Some (record { line = line; what = 16 }) else if b then Some (record { line = line; what = 17 }) else fault_from (k + 1) (line + 1) others
+step k line many b others = if many then Some (record { line = line; what = OVER }) else if b then Some (record { line = line; what = ATTACH }) else fault_from (k + 1) (line + 1) others
 
-pub too_many : (cs : List TraceCall) (k line : ℕ) → k < length cs → 4096 ≤ k → fault_from k line (drop k (which cs)) ≡ Some (record { line = line; what = 16 })
+pub too_many : (cs : List TraceCall) (k line : ℕ) → k < length cs → 4096 ≤ k → fault_from k line (drop k (which cs)) ≡ Some (record { line = line; what = OVER })
 too_many cs k line below many = let b = some_left (which cs) k (let l = long_which cs in omega arith) in
     ap (fault_from k line) b.1 ∙ ap (λ t. step k line t b.0 (drop (suc k) (which cs))) (le-leb 4096 k many)
 
-pub an_attachment : (cs : List TraceCall) (k line : ℕ) (x : TraceCall) → k < length cs → k < 4096 → x ≡ get_or cs k x → is_attachment x.act ≡ true → fault_from k line (drop k (which cs)) ≡ Some (record { line = line; what = 17 })
+pub an_attachment : (cs : List TraceCall) (k line : ℕ) (x : TraceCall) → k < length cs → k < 4096 → x ≡ get_or cs k x → is_attachment x.act ≡ true → fault_from k line (drop k (which cs)) ≡ Some (record { line = line; what = ATTACH })
 an_attachment cs k line x below few is attach =
     ap (fault_from k line) (from_place cs k x below is) ∙ (λ i. step k line (lt-leb 4096 k few i) (attach i) (drop (suc k) (which cs)))
 

@@ -7,6 +7,7 @@ use Rattle.trace_text.specs.declared.trace.TraceAct.TheVariants as does
 use Rattle.trace_text.specs.declared.trace.TraceCall.{TraceCall}
 use Rattle.trace_text.specs.Document.{Document}
 use Rattle.trace_text.specs.Lines.{is_attach}
+use Rattle.pool_text.specs.declared.calls.TheConstants.{OVER, ATTACH}
 
 -- the number of the first call line: the heading, the workers, the policies and the line `calls` stand before it
 abbrev pub first_call_line : Document → ℕ
@@ -17,8 +18,8 @@ first_call_line d = d.version + length d.workers + length d.policies + 2
 abbrev pub fault_from : ℕ → ℕ → List Bool → Option Fault
 fault_from before line [] = None
 fault_from before line (attaches ∷ others) =
-    if nat_le 4096 before then Some (record { line = line; what = 16 })
-    else if attaches then Some (record { line = line; what = 17 })
+    if nat_le 4096 before then Some (record { line = line; what = OVER })
+    else if attaches then Some (record { line = line; what = ATTACH })
     else fault_from (before + 1) (line + 1) others
 
 -- the fault of a trace whose call lines are to stand in a pool

@@ -12,6 +12,12 @@ use trace_text::{NoMemory, Trace, TraceAct, TraceCall};
 /// The most call lines.
 const MOST_CALLS: usize = 4096;
 
+/// The fault of a call too many.
+pub const OVER: u8 = 16;
+
+/// The fault of an attachment.
+pub const ATTACH: u8 = 17;
+
 fn attaches(call: &TraceCall) -> bool
     ensures { result ≡ is_attachment call.now.act }
 {
@@ -40,10 +46,10 @@ pub fn first_fault(trace: &Trace) -> Option<Fault>
     for place in 0..trace.calls.len() {
         let line = first + place as u32;
         if place >= MOST_CALLS {
-            return Some(Fault { line, what: 16 });
+            return Some(Fault { line, what: OVER });
         }
         if attaches(&trace.calls[place]) {
-            return Some(Fault { line, what: 17 });
+            return Some(Fault { line, what: ATTACH });
         }
     }
     None
