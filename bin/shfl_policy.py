@@ -28,9 +28,13 @@ def object_of(file, room):
 def compiled(file):
     """The digits of the function in a C file, as bin/policy compiles it; whether it is accepted the process says."""
     with tempfile.TemporaryDirectory() as room:
-        made_by(["llvm-objcopy", "-O", "binary", "--only-section=.text", object_of(file, room), f"{room}/policy.bin"])
-        with open(f"{room}/policy.bin", "rb") as made:
-            digits = made.read(4097).hex()
+        made = object_of(file, room)
+        functions = re.findall(r" F \.text\s.*?(\S+)$", made_by(["llvm-objdump", "-t", made]).decode(errors="replace"), re.M)
+        if len(functions) > 1:
+            raise Failed(1, f"{file}: more than one function in the section .text ({', '.join(functions)}), and the first would run: make static what the policy calls")
+        made_by(["llvm-objcopy", "-O", "binary", "--only-section=.text", made, f"{room}/policy.bin"])
+        with open(f"{room}/policy.bin", "rb") as bytes_of:
+            digits = bytes_of.read(4097).hex()
     if not digits:
         raise Failed(1, f"{file}: no function in the section .text")
     return digits

@@ -69,5 +69,16 @@ while IFS='|' read -r _ policy hook anchor waiter batch answer _; do
     fi
 done < <(sed -n '/^| Policy | Hook/,/^$/p' docs/POLICIES.md)
 [ "$count" -gt 0 ] || failed=1
+
+# a second function in the file would run in the place of the policy
+if command -v clang >/dev/null && command -v llvm-objdump >/dev/null; then
+    two="$(mktemp --suffix=.c)"
+    trap 'rm -f "$two"' EXIT
+    printf '%s\n' 'unsigned long other(const void *c) { return 1; }' 'unsigned long policy(const void *c) { return 0; }' >"$two"
+    if bin/policy "$two" >/dev/null 2>&1 || [ $? -ne 1 ]; then
+        echo "bin/policy: a file with two functions isn't refused" >&2
+        failed=1
+    fi
+fi
 [ "$failed" = 0 ] && echo "policies: $count questions are answered as told"
 exit "$failed"
