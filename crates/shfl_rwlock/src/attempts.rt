@@ -27,7 +27,7 @@ impl<'a, T: Drop> RwSeat<'a, T> {
         if !self.try_take(lock, Mode::Read) {
             return Err(LockError::Busy);
         }
-        let Some(value) = lender.value.try_read() else {
+        let Some(value) = lender.try_read() else {
             self.give_back(lock);
             return Err(LockError::Busy);
         };
@@ -53,7 +53,7 @@ impl<'a, T: Drop> RwSeat<'a, T> {
         if !self.try_take(lock, Mode::Write) {
             return Err(LockError::Busy);
         }
-        let Some(value) = lender.value.try_write() else {
+        let Some(value) = lender.try_write() else {
             self.give_back(lock);
             return Err(LockError::Busy);
         };

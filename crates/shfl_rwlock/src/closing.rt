@@ -1,24 +1,18 @@
 //! The closing of locks gives their values back.
 ghost use Rattle.std.specs.Prelude.{◌≡◌, ◌≤◌, IfOk, IfErr, vec_capacity, vec_len};
 
-use crate::lender::Lender;
 use crate::locks::RwLocks;
 use std::alloc::Global;
-
-// The value that a lender has.
-fn taken<T: Drop>(lender: Lender<T>) -> T {
-    let Lender { lock: _, value } = lender;
-    value.into_inner()
-}
+use std::sync::RwLock;
 
 // The values out of their locks, in `out`.
-fn taken_out<T: Drop>(values: Vec<Lender<T>>, mut out: Vec<T>) -> Vec<T>
+fn taken_out<T: Drop>(values: Vec<RwLock<T>>, mut out: Vec<T>) -> Vec<T>
     requires empty { vec_len out ≡ 0 }
     requires room { vec_len values ≤ vec_capacity out }
     ensures { vec_len result ≡ vec_len values }
 {
-    for lender in values {
-        out.push_reserved(taken(lender));
+    for value in values {
+        out.push_reserved(value.into_inner());
     }
     out
 }

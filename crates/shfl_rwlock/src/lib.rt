@@ -4,7 +4,6 @@
 mod attempts;
 mod closing;
 mod guard;
-mod lender;
 mod locks;
 mod refusals;
 mod seat;

@@ -3,14 +3,13 @@ ghost use Rattle.std.specs.Prelude.{◌≡◌, ◌<◌, ◌≤◌, [], true, All
 ghost use Rattle.shfl_arena.specs.SeatModels.{IsNewAt};
 ghost use Rattle.shfl_core.specs.Plan.{shares};
 ghost use Rattle.shfl_core.specs.Words.{most_passes};
-ghost use Rattle.shfl_rwlock.specs.Lenders.{AreFrom};
 
-use crate::lender::Lender;
 use crate::seat::RwSeat;
 use shfl_arena::{Arena, ArenaSeat, Shape};
 use shfl_line::{Attr, Form, NoMemory};
 use std::alloc::Global;
 use std::marker::Model;
+use std::sync::RwLock;
 
 /// Values, each behind a lock of its own, which several may read at a time or one may write. All locks share one set of nodes, a node for each
 /// thread.
@@ -19,13 +18,12 @@ pub struct RwLocks<T: Drop> {
     // Who may have a value, and who waits for it.
     pub(crate) arena: Arena<()>,
     // Each lends its value to those whom the arena lets at it, so nobody waits there.
-    pub(crate) values: Vec<Lender<T>>,
+    pub(crate) values: Vec<RwLock<T>>,
     locks: u32,
 }
 
 impl<T: Drop> Model for RwLocks<T> {
     ghost use Rattle.std.specs.Prelude.{◌≡◌, true, vec_len};
-    ghost use Rattle.shfl_rwlock.specs.Lenders.{AreFrom};
     ghost use Rattle.shfl_arena.specs.SeatModels.{ArenaModel};
     ghost use Rattle.shfl_core.specs.Plan.{shares};
 
@@ -36,23 +34,19 @@ impl<T: Drop> Model for RwLocks<T> {
     ghost invariant = { λ r. (r.arena.id.table.slots ≡ 0)
         × (shares r.arena.id.rules.form ≡ true)
         × (r.locks ≡ r.arena.id.shape.locks)
-        × (vec_len r.values ≡ r.locks)
-        × AreFrom 0 r.values.items };
+        × (vec_len r.values ≡ r.locks) };
 }
 
 // The queue of each lock takes batches of so many from one socket at most.
 const LIMIT: u16 = 1024;
 
-// What lends each value, in their order.
-fn laid<T: Drop>(alloc: Global, values: Vec<T>) -> Result<Vec<Lender<T>>, NoMemory>
-    requires { vec_len values ≤ 16777216 }
-    ensures { IfOk result (λ v. (vec_len v ≡ vec_len values) × AreFrom 0 v.items) }
+// Each value in a lock of the library's.
+fn laid<T: Drop>(alloc: Global, values: Vec<T>) -> Result<Vec<RwLock<T>>, NoMemory>
+    ensures { IfOk result (λ v. vec_len v ≡ vec_len values) }
 {
     let mut kept = Vec::with_capacity(alloc, values.len())?;
-    let mut lock = 0;
     for value in values {
-        kept.push_reserved(Lender::new(lock, value));
-        lock += 1;
+        kept.push_reserved(RwLock::new(value));
     }
     Ok(kept)
 }

@@ -6,23 +6,21 @@ ghost use Rattle.shfl_core.specs.Plan.{shares};
 ghost use Rattle.shfl_line.specs.declared.events.Mode.{Mode};
 ghost use Rattle.shfl_line.specs.declared.events.Mode.TheVariants.{Read, Write};
 ghost use Rattle.shfl_rwlock.specs.declared.refusals.LockError.TheVariants.{Busy};
-ghost use Rattle.shfl_rwlock.specs.Lenders.{AreFrom};
 ghost use Rattle.shfl_rwlock.specs.RwSeats.{MayLock, Refuses};
 
 use crate::guard::{ReadGuard, RwHold, WriteGuard};
-use crate::lender::Lender;
 use crate::refusals::LockError;
 use shfl_arena::{Arena, ArenaSeat, free, wait_for};
 use shfl_line::{Attr, Chooser, Mode};
 use std::alloc::Global;
 use std::marker::Model;
-use std::sync::Wait;
+use std::sync::{RwLock, Wait};
 
 /// A thread's right to lock values, some at the same time, each to read or to write it.
 #[derive(Drop)]
 pub struct RwSeat<'a, T: Drop> {
     arena: &'a Arena<()>,
-    values: &'a [Lender<T>],
+    values: &'a [RwLock<T>],
     seat: ArenaSeat<()>,
     attr: Attr,
     locks: u32,
@@ -33,7 +31,6 @@ pub struct RwSeat<'a, T: Drop> {
 
 impl<'a, T: Drop> Model for RwSeat<'a, T> {
     ghost use Rattle.std.specs.Prelude.{◌≡◌, ◌≤◌, length, vec_capacity, reverse};
-    ghost use Rattle.shfl_rwlock.specs.Lenders.{AreFrom};
     ghost use Rattle.shfl_rwlock.specs.RwSeats.{RwSeatModel, HoldsJust};
 
     ghost Value = { RwSeatModel };
@@ -46,7 +43,6 @@ impl<'a, T: Drop> Model for RwSeat<'a, T> {
 
     ghost invariant = { λ s. HoldsJust s.arena.now.id (reverse s.held.items) s.seat
         × (s.locks ≡ s.arena.now.id.shape.locks) × (length s.values.now ≡ s.locks)
-        × AreFrom 0 s.values.now
         × (s.most ≤ vec_capacity s.held) };
 }
 
@@ -66,7 +62,7 @@ impl<'a, T: Drop> RwSeat<'a, T> {
     pub(crate) fn new(
         alloc: Global,
         arena: &'a Arena<()>,
-        values: &'a [Lender<T>],
+        values: &'a [RwLock<T>],
         locks: u32,
         seat: ArenaSeat<()>,
         attr: Attr,
@@ -77,7 +73,6 @@ impl<'a, T: Drop> RwSeat<'a, T> {
         requires form { shares arena.now.id.rules.form ≡ true }
         requires locks { locks ≡ arena.now.id.shape.locks }
         requires values { length values.now ≡ locks }
-        requires in_order { AreFrom 0 values.now }
         ensures ok { IfOk result (λ s. (s.locks ≡ locks) × (s.held ≡ [])
             × (s.most ≡ most)) }
         ensures err { IfErr result (λ s. s ≡ seat) }
@@ -122,9 +117,8 @@ impl<'a, T: Drop> RwSeat<'a, T> {
     }
 
     // What lends the value of this lock.
-    pub(crate) fn lender(&self, lock: u32) -> &'a Lender<T>
+    pub(crate) fn lender(&self, lock: u32) -> &'a RwLock<T>
         requires { lock < self.now.locks }
-        ensures { result.now.lock.value ≡ lock }
     {
         let values = self.values;
         &values[lock as usize]
@@ -191,7 +185,7 @@ impl<'a, T: Drop> RwSeat<'a, T> {
         }
         let lender = self.lender(lock);
         self.take(rt, lock, Mode::Read, chooser);
-        let value = lender.value.read(rt);
+        let value = lender.read(rt);
         let hold = RwHold::new(self, lock);
         Ok(ReadGuard { value, hold })
     }
@@ -219,7 +213,7 @@ impl<'a, T: Drop> RwSeat<'a, T> {
         }
         let lender = self.lender(lock);
         self.take(rt, lock, Mode::Write, chooser);
-        let value = lender.value.write(rt);
+        let value = lender.write(rt);
         let hold = RwHold::new(self, lock);
         Ok(WriteGuard { value, hold })
     }
