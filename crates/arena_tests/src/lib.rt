@@ -4,7 +4,13 @@
 #[cfg(test)]
 mod draws;
 #[cfg(test)]
+mod driven;
+#[cfg(test)]
+mod head;
+#[cfg(test)]
 mod shared;
+#[cfg(test)]
+mod signs;
 #[cfg(test)]
 mod sizes;
 #[cfg(test)]

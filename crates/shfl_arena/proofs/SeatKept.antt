@@ -108,18 +108,21 @@ module _ {X : Type 0} (shape : Shape) (rules : Rules) (own : PassState) (lock : 
         (kept-after {X = X} shape rules own id me me' lock threads (plan rules own.reg.me own) own q0 (step_decisions rules own choice) n k.number k.node (k.moves g).below sized (take-number rules own.reg.me own n choice) go gives-then id' there)
 
     pub step-told : (id' : TableId) → id' ≡ id
-        → TakesStep {X = X} (record { arena = record { table = id; rules = rules; shape = shape }; lock = lock; own = own; holds = me.0.thread.holds; steps_taken = me.0.steps_taken; decisions = me.0.decisions; values = me.1 }) choice
-        (record { arena = record { table = id'; rules = rules; shape = shape }; lock = lock; own = q; holds = me'.0.thread.holds; steps_taken = me'.0.steps_taken; decisions = me'.0.decisions; values = me'.1 })
-    step-told id' there = record {
-      found = n;
-      form = go.form;
-      row = λ j. record { arena = record { table = there j; rules = rules; shape = shape }; lock = lock; own = e j; holds = (ap (λ (z : SeatView). z.thread.holds) go.seat ∙ after-holds lock q0 me.0.thread) j; steps_taken = (go.seat j).steps_taken; decisions = (go.seat j).decisions; values = me'.1 };
-      number = ap (λ (z : PassState). z.reg.me) e ∙ take-number rules own.reg.me own n choice;
-      waits = λ g. ap (λ (z : SeatView). z.thread.holds) go.seat ∙ (after-holds lock q0 me.0.thread ∙ ap (λ b. cond b me.0.thread.holds (holds_after lock q0 me.0.thread.holds)) (ap moving (sym e) ∙ g));
-      here = λ g. ap (mode_held lock) (ap (λ (z : SeatView). z.thread.holds) go.seat ∙ after-holds lock q0 me.0.thread) ∙ (holds-here lock q0 me.0.thread.holds (ap moving (sym e) ∙ g) ∙ ap hold_of (sym e));
-      elsewhere = λ l d. ap (mode_held l) (ap (λ (z : SeatView). z.thread.holds) go.seat ∙ after-holds lock q0 me.0.thread) ∙ holds-else l lock q0 me.0.thread.holds d;
-      value = subst (λ (z : PassState). MovesValue {V = X} id.slots lock (writes own) (writes z) me.1 me'.1) (sym e) go.value;
-    }
+        → (s : TakesStep {X = X} (record { arena = record { table = id; rules = rules; shape = shape }; lock = lock; own = own; holds = me.0.thread.holds; steps_taken = me.0.steps_taken; decisions = me.0.decisions; values = me.1 }) choice
+        (record { arena = record { table = id'; rules = rules; shape = shape }; lock = lock; own = q; holds = me'.0.thread.holds; steps_taken = me'.0.steps_taken; decisions = me'.0.decisions; values = me'.1 })) × (s.found ≡ n)
+    step-told id' there = (
+      record {
+        found = n;
+        form = go.form;
+        row = λ j. record { arena = record { table = there j; rules = rules; shape = shape }; lock = lock; own = e j; holds = (ap (λ (z : SeatView). z.thread.holds) go.seat ∙ after-holds lock q0 me.0.thread) j; steps_taken = (go.seat j).steps_taken; decisions = (go.seat j).decisions; values = me'.1 };
+        number = ap (λ (z : PassState). z.reg.me) e ∙ take-number rules own.reg.me own n choice;
+        waits = λ g. ap (λ (z : SeatView). z.thread.holds) go.seat ∙ (after-holds lock q0 me.0.thread ∙ ap (λ b. cond b me.0.thread.holds (holds_after lock q0 me.0.thread.holds)) (ap moving (sym e) ∙ g));
+        here = λ g. ap (mode_held lock) (ap (λ (z : SeatView). z.thread.holds) go.seat ∙ after-holds lock q0 me.0.thread) ∙ (holds-here lock q0 me.0.thread.holds (ap moving (sym e) ∙ g) ∙ ap hold_of (sym e));
+        elsewhere = λ l d. ap (mode_held l) (ap (λ (z : SeatView). z.thread.holds) go.seat ∙ after-holds lock q0 me.0.thread) ∙ holds-else l lock q0 me.0.thread.holds d;
+        value = subst (λ (z : PassState). MovesValue {V = X} id.slots lock (writes own) (writes z) me.1 me'.1) (sym e) go.value;
+      },
+      refl,
+    )
 
   -- an attempt
   module _ (g : moving own ≡ false) (l : ℕ) (below : l < shape.locks) (threads : ℕ) (mode : Mode) (n : ℕ) (me' : Me (Option X) SeatView) (q : PassState) (e : q ≡ attempted mode (blank own.reg.me) n)

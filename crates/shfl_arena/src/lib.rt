@@ -7,6 +7,8 @@ mod leaving;
 mod mutex;
 mod opening;
 mod operation;
+mod outcomes;
+mod pausing;
 mod performing;
 mod plays;
 mod seats;

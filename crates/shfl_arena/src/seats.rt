@@ -140,18 +140,13 @@ impl<V: Drop> ArenaSeat<V> {
         true
     }
 
-    /// Makes one step, which is one atomic operation on one word. `choice` answers what it asks. False, and nothing changes, where
-    /// the seat has no step to make. It waits for nobody, and takes no memory.
+    // Makes one step, and tells the word that it found.
     #[inline(always)]
-    pub fn step(&mut self, arena: &Arena<V>, choice: bool) -> bool
+    pub(crate) fn step_found(&mut self, arena: &Arena<V>, choice: bool) -> u64
         requires arena { self.old.arena ≡ arena.now.id }
-        ensures moving { result ≡ plan.moving self.old.own }
-        ensures still { result ≡ false → self.new ≡ self.old }
-        ensures row { result ≡ true → TakesStep self.old choice self.new }
+        requires moving { plan.moving self.old.own ≡ true }
+        ensures { (s : TakesStep self.old choice self.new) × (s.found ≡ result) }
     {
-        if !is_moving(self.own) {
-            return false;
-        }
         let own = self.own;
         let shared = &arena.table.shared;
         let found = operate::<V, Brand>(
@@ -164,6 +159,22 @@ impl<V: Drop> ArenaSeat<V> {
             choice,
         );
         take_row_in_place(self.rules, own.reg.me, &mut self.own, found, choice);
+        found
+    }
+
+    /// Makes one step, which is one atomic operation on one word. `choice` answers what it asks. False, and nothing changes, where
+    /// the seat has no step to make. It waits for nobody, and takes no memory.
+    #[inline(always)]
+    pub fn step(&mut self, arena: &Arena<V>, choice: bool) -> bool
+        requires arena { self.old.arena ≡ arena.now.id }
+        ensures moving { result ≡ plan.moving self.old.own }
+        ensures still { result ≡ false → self.new ≡ self.old }
+        ensures row { result ≡ true → TakesStep self.old choice self.new }
+    {
+        if !is_moving(self.own) {
+            return false;
+        }
+        let _ = self.step_found(arena, choice);
         true
     }
 

@@ -5,9 +5,12 @@ ghost use Rattle.shfl_core.specs.Waiting as waiting;
 ghost use Rattle.shfl_laws.specs.Holds.{hold_of};
 ghost use Rattle.shfl_arena.specs.Threads.{mode_held};
 
+use crate::arena::Arena;
 use crate::seats::ArenaSeat;
+use crate::shape::place;
 use shfl_core::asks::{ask_row, is_moving, watch_row};
-use shfl_core::{Ask, Nap, Phase, Watch};
+use shfl_core::words::Word;
+use shfl_core::{Ask, Nap, PassState, Phase, Watch};
 use shfl_line::{Form, Mode};
 
 impl<V: Drop> ArenaSeat<V> {
@@ -27,7 +30,15 @@ impl<V: Drop> ArenaSeat<V> {
         self.lock
     }
 
-    /// Where its pass stands at that lock.
+    // Where its pass stands at that lock: phase, registers and park state.
+    #[inline(always)]
+    pub(crate) fn standing(&self) -> PassState
+        ensures { result ≡ self.now.own }
+    {
+        self.own
+    }
+
+    /// The phase of its pass there.
     #[inline(always)]
     pub fn phase(&self) -> Phase
         ensures { result ≡ self.now.own.phase }
@@ -95,5 +106,14 @@ impl<V: Drop> ArenaSeat<V> {
         ensures { result ≡ waiting.watch_at self.now.own.reg self.now.own.phase }
     {
         watch_row(self.own)
+    }
+
+    // What its own state word says, beside the steps.
+    #[inline(always)]
+    pub(crate) fn state_word(&self, arena: &Arena<V>) -> u64
+        requires arena { self.now.arena ≡ arena.now.id }
+    {
+        let word = place(self.shape, self.lock, Word::State(self.own.reg.me));
+        arena.table.shared.peek(word)
     }
 }

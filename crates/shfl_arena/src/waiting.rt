@@ -11,41 +11,12 @@ ghost use Rattle.shfl_arena.specs.ValueMoves.{HasInFront};
 ghost use Rattle.shfl_arena.specs.Waits.{AsksInRounds, Frees, WaitsFor};
 
 use crate::arena::Arena;
+use crate::outcomes::{Outcome, outcome_of};
+use crate::pausing::Pauses;
 use crate::seats::ArenaSeat;
 use shfl_core::{Ask, Nap, Phase};
-use shfl_line::{Attr, Chooser, Form, Mode};
+use shfl_line::{Attr, Chooser, Mode};
 use std::sync::Wait;
-use std::sync::atomic::AtomicU64;
-use std::time::Duration;
-use std::{hint, thread};
-
-// How often a seat looks before it gives its processor to others, and how often it has looked when, in a form whose waiters sleep, it
-// naps instead.
-const LOOKS: u32 = 50;
-
-const NAPS: u32 = 250;
-
-// Each nap is longer than the one before by so many microseconds, up to a millisecond.
-const LONGER: u32 = 16;
-
-const LONGEST: u32 = 1000;
-
-// Lets others go on where the seat looks again, and counts how often it did.
-fn pause<Rt: Wait>(rt: &Rt, form: Form, looks: u32, again: bool) -> u32 {
-    if !again {
-        return 0;
-    }
-    if looks < LOOKS {
-        hint::spin_loop();
-    } else if looks < NAPS || matches!(form, Form::Spin | Form::Rw) {
-        thread::yield_now();
-    } else {
-        let longer = (looks - NAPS).saturating_mul(LONGER).saturating_add(LONGER);
-        let micros = u64::from(longer.min(LONGEST));
-        AtomicU64::new(0).park_timeout(rt, 0, Duration::from_micros(micros));
-    }
-    looks.saturating_add(1)
-}
 
 // The policy's answer to what the next step asks. The first question of a round opens it.
 fn answer<C: Chooser, Rt: Wait>(rt: &Rt, chooser: &mut C, anchor: &Attr, ask: Ask) -> bool
@@ -80,28 +51,14 @@ fn ends_round(phase: Phase, nap: Nap) -> bool
     matches!(nap, Nap::Awake) && matches!(phase, Phase::Give)
 }
 
-// Whether the seat looks at the same word again.
-fn looks_again(before: Phase, after: Phase, nap: Nap) -> bool {
-    if matches!(nap, Nap::Hear) {
-        return true;
-    }
-    match before {
-        Phase::Look => matches!(after, Phase::Look),
-        Phase::Peek => matches!(after, Phase::Peek),
-        Phase::Late => matches!(after, Phase::Late),
-        Phase::HeadLook => matches!(after, Phase::HeadLook),
-        _ => false,
-    }
-}
-
-// One step, with what goes round it. Whether it looked at a word that is looked at again.
+// One step, with what goes round it, and what came of it.
 fn step_on<V: Drop, C: Chooser, Rt: Wait>(
     rt: &Rt,
     arena: &Arena<V>,
     seat: &mut ArenaSeat<V>,
     anchor: &Attr,
     chooser: &mut C,
-) -> bool
+) -> Outcome
     requires arena { seat.old.arena ≡ arena.now.id }
     requires moving { plan.moving seat.old.own ≡ true }
     ensures home { C.home chooser.new ≡ C.home chooser.old }
@@ -109,18 +66,29 @@ fn step_on<V: Drop, C: Chooser, Rt: Wait>(
         × Adds (C.told chooser.old) (C.told chooser.new)
         (step_told anchor.now seat.old.arena.rules seat.old.own choice) }
 {
-    let before = seat.phase();
-    let nap = seat.nap();
+    let before = seat.standing();
     let ask = seat.ask();
     let choice = answer(rt, chooser, anchor, ask);
-    let _ = seat.step(arena, choice);
-    close_round(chooser, ends_round(before, nap));
-    looks_again(before, seat.phase(), nap)
+    let found = seat.step_found(arena, choice);
+    close_round(chooser, ends_round(before.phase, before.nap));
+    outcome_of(before, found, seat.standing())
+}
+
+// Disables stealing again where the queue's head found it enabled.
+fn keep_disabled<V: Drop>(arena: &Arena<V>, seat: &mut ArenaSeat<V>, lock: u32, outcome: Outcome)
+    requires arena { seat.old.arena ≡ arena.now.id }
+    requires lock { lock < seat.old.arena.shape.locks }
+    ensures { seat.new ≡ seat.old }
+{
+    if matches!(outcome, Outcome::InVainOpen) {
+        seat.disable_stealing(arena, lock);
+    }
 }
 
 /// Takes a lock that the seat doesn't hold, in a mode, and waits until it holds the lock and owes no step. It tries once without
 /// queueing, and then queues. The chooser answers what the steps ask: it is opened before a round's first question, and closed after the
-/// round's last step. `anchor` has the attributes of the thread.
+/// round's last step. `anchor` has the attributes of the thread. A step that looked in vain is followed by a pause, and no other but the
+/// last of a round that moved nobody; at the queue's head a look in vain that finds stealing enabled disables it.
 pub fn wait_for<V: Drop, C: Chooser, Rt: Wait>(
     rt: &Rt,
     arena: &Arena<V>,
@@ -145,14 +113,14 @@ pub fn wait_for<V: Drop, C: Chooser, Rt: Wait>(
         return;
     }
     let _ = seat.acquire(lock, mode);
-    let form = seat.form();
-    let mut looks = 0;
+    let mut pauses = Pauses::new(seat.form());
     for _ in rt.forever() {
         if !seat.moving() {
             return;
         }
-        let again = step_on(rt, arena, seat, anchor, chooser);
-        looks = pause(rt, form, looks, again);
+        let outcome = step_on(rt, arena, seat, anchor, chooser);
+        keep_disabled(arena, seat, lock, outcome);
+        pauses.after(rt, arena, seat, outcome);
     }
     unreachable!()
 }

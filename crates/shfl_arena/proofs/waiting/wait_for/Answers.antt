@@ -1,6 +1,8 @@
-use Rattle.std.proofs.Common.{◌∙◌, refl, sym}
+use Rattle.std.proofs.Common.{◌∙◌, refl, subst, sym}
+use Rattle.shfl_arena.specs.SeatModels.{SeatModel}
+use Rattle.shfl_arena.specs.Waits.{WaitsFor}
 use Rattle.shfl_arena.proofs.WaitSteps.{waits-more}
-use Rattle.shfl_arena.proofs.Asked.{asks-done, asks-step, asks-won, begins-to-wait}
+use Rattle.shfl_arena.proofs.Asked.{AsksMeanwhile, asks-done, asks-step, asks-won, begins-to-wait}
 use Rattle.shfl_arena.proofs.waiting.wait_for.Goals as goal
 
 pub returns-then-is_ok-clause-asked : goal.returns-then-is_ok-clause-asked
@@ -14,10 +16,12 @@ loop-init g c = let b = begins-to-wait c.args.anchor.now c.args.lock c.args.mode
     (sym c.is_ok.ensures.value ∙ c.if-is_ok.false) c.attempt.ensures.err c.acquire.ensures.answer c.acquire.ensures.after in (tt, tt, b.0, refl, b.1)
 
 pub loop-preserved : goal.loop-preserved
-loop-preserved g c = let i = c.loop.invariant in let s = c.step_on-again.ensures in (
+loop-preserved g c = let i = c.loop.invariant in let s = c.step_on-outcome.ensures in let told = g.C.Chooser.told in let now = c.step_on-outcome.new.seat in (
   tt,
   tt,
-  waits-more c.args.lock c.args.mode c.args.seat.now c.loop.seat c.step_on-again.new.seat s.row.0 i.2 s.row.1,
+  subst (λ (z : SeatModel _). WaitsFor c.args.lock c.args.mode c.args.seat.now z) (sym c.keep_disabled.ensures)
+      (waits-more c.args.lock c.args.mode c.args.seat.now c.loop.seat now s.row.0 i.2 s.row.1),
   s.home ∙ i.3,
-  asks-step c.args.anchor.now c.args.seat.now c.loop.seat c.step_on-again.new.seat s.row.0 _ _ _ i.4 s.row.1 s.row.2,
+  subst (λ (z : SeatModel _). AsksMeanwhile c.args.anchor.now c.args.seat.now z (told c.args.chooser.now) (told c.step_on-outcome.new.chooser)) (sym c.keep_disabled.ensures)
+      (asks-step c.args.anchor.now c.args.seat.now c.loop.seat now s.row.0 _ _ _ i.4 s.row.1 s.row.2),
 )
