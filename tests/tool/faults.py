@@ -87,8 +87,8 @@ def each_fault(target):
 
 def lines_of_c(target):
     """The line that is refused is told by attach and compare; not where nobody knows it."""
-    if not shutil.which("clang") or not shutil.which("llvm-objcopy"):
-        return print("tests/tool.sh: there is no clang or no llvm-objcopy, so no policy in C was tried")
+    if not shutil.which("clang") or not all(map(shutil.which, ("llvm-objcopy", "llvm-objdump"))):
+        return print("tests/tool.sh: there is no clang, llvm-objcopy or llvm-objdump, so no policy in C was tried")
     pid, usual = str(target.pid), os.environ["PATH"]
     with tempfile.TemporaryDirectory() as room:
         file = f"{room}/policy.c"
@@ -102,7 +102,11 @@ def lines_of_c(target):
             must(told[0] == 6 and re.fullmatch(wanted, told[1]), f"fault {fault} in C: {told}")
         told = shfl("compare", pid, "0", file, "--seconds", "0.01")
         must(told[0] == 6 and re.fullmatch(wanted, told[1]), f"compared: {told}")
-        for it in ("clang", "llvm-objcopy"):
+        with open(f"{room}/two.c", "w", encoding="ascii") as at:
+            at.write("unsigned long other(const void *c) { return 1; }\nunsigned long policy(const void *c) { return 0; }\n")
+        told = shfl("attach", pid, "0", f"{room}/two.c")
+        must(told[0] == 1 and "more than one function" in told[1], f"two functions: {told}")
+        for it in ("clang", "llvm-objcopy", "llvm-objdump"):
             os.symlink(shutil.which(it), f"{room}/{it}")
         os.environ["PATH"] = room
         told = shfl("attach", pid, "0", file)

@@ -24,7 +24,7 @@ def the_tool(target):
 def files(target):
     """A policy as digits, in assembly and in C comes to be the same bytes, as far as those are there that make them; a text that is none changes nothing."""
     pid, its = str(target.pid), f"{TOP}/examples/policies/socket"
-    has = {"hex": True, "asm": os.access(f"{TOP}/crates/syncord/out/syncord", os.X_OK), "c": shutil.which("clang") and shutil.which("llvm-objcopy")}
+    has = {"hex": True, "asm": os.access(f"{TOP}/crates/syncord/out/syncord", os.X_OK), "c": all(map(shutil.which, ("clang", "llvm-objcopy", "llvm-objdump")))}
     with open(f"{its}.hex", encoding="ascii") as at:
         digits = "".join(at.read().split())
     for form, there in has.items():
