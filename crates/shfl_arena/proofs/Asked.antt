@@ -1,5 +1,5 @@
 -- What a seat that waits has asked, and its chooser was told.
-use Rattle.std.proofs.Common.{◌≡◌, ℕ, Bool, true, false, List, [], ◌∷◌, ◌++◌, flat_map, refl, sym, ap, ◌∙◌, subst, ⊎_elim, Result, Ok, Err, is_ok, not, IfOk, IfErr}
+use Rattle.std.proofs.Common.{◌≡◌, ℕ, Bool, true, false, List, ◌++◌, flat_map, refl, sym, ap, ◌∙◌, subst, ⊎_elim, Result, Ok, Err, is_ok, not, IfOk, IfErr}
 use Rattle.std.specs.Prelude.{Option}
 use Rattle.shfl_line.specs.declared.words.Attr.{Attr}
 use Rattle.shfl_line.specs.declared.choosers.Told.{Told}
@@ -16,7 +16,6 @@ use Rattle.shfl_core.specs.Plan.{moving}
 use Rattle.shfl_core.specs.Waiting.{ask}
 use Rattle.shfl_core.proofs.Rounds.{told-step}
 use Rattle.shfl_laws.proofs.laws.MoveLaws.{resting-is}
-use Rattle.shfl_arena.specs.declared.view.Decision.{Decision}
 use Rattle.shfl_arena.specs.SeatModels.{SeatModel, entering}
 use Rattle.shfl_arena.specs.SeatSteps.{TakesStep, WinsAttempt, LosesAttempt}
 use Rattle.shfl_arena.specs.SeatViews.{decision_on, step_decisions}

@@ -37,9 +37,10 @@ module _ (shape : Shape) (rules : Rules) (attrs : List Attr) (locks : 0 < shape.
     arena = subst (λ (z : ArenaTerms). ArenaRule z (arena_words shape attrs) (new_thread ∷ []))
         (sym (told-then shape rules (length attrs) (opening_terms shape (λ _. rules) attrs) (arena_words shape attrs) (new_thread ∷ []) refl refl (length-map attrs attr_word) locks opened)) opened;
     seated = only;
+    counted = refl;
     home = λ l h _. home-at values l h;
   })
     where
       only : (seat : ℕ) (v : SeatView) → get_elem? (new_seat 0 ∷ []) seat ≡ some v → SeatFacts 1 seat v
-      only zero v e = subst (SeatFacts 1 0) (some-injective (new_seat 0) v e) (record { number = refl; last = λ _. refl })
+      only zero v e = subst (SeatFacts 1 0) (some-injective (new_seat 0) v e) (record { number = λ _. refl; last = λ _. refl; spent = λ none. absurd (let e : 1 ≡ 0 = none in omega arith) })
       only (suc seat) v e = absurd (some-ne-none v (sym e))

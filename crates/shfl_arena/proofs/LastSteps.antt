@@ -65,6 +65,7 @@ module _ {X : Type 0} (shape : Shape) (rules : Rules) (own : PassState) (lock : 
   pub left-kept : (id' : TableId) → id' ≡ id → SeatInvariant {X = X} shape rules gone l id' me'
   left-kept id' there = subst (λ (z : TableId). SeatInvariant {X = X} shape rules gone l z me') (sym there) (record {
     number = ap (λ (z : SeatView). z.number) after ∙ k.number;
+    one = ap (λ (z : SeatView). z.seats) after ∙ k.one;
     node = k.node;
     moves = λ g. absurd (cc);
     rests = λ _. ap (λ (z : SeatView). z.thread.at) after;

@@ -25,6 +25,7 @@ pub mod LastSteps
 pub mod SeatKept
 pub mod Attempts
 pub mod Splits
+pub mod Returns
 pub mod FirstState
 pub mod WaitSteps
 pub mod Asked

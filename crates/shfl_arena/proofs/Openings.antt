@@ -112,7 +112,7 @@ passes-more : (l i : ℕ) (vs : List ThreadView) → passes_from l i (vs ++ new_
 passes-more l i [] = ap (λ (z : PassState). z ∷ []) (off-at l i new_thread (at-none l new_thread refl) ∙ ap idle (let e : i ≡ i + 0 = omega arith in e))
 passes-more l i (x ∷ xs) = ap (λ z. pass_at l i x ∷ z) (passes-more l (suc i) xs ∙ ap (λ n. passes_from l (suc i) xs ++ idle n ∷ []) (let e : suc i + length xs ≡ i + suc (length xs) = omega arith in e))
 
-passes-long : (l i : ℕ) (vs : List ThreadView) → length (passes_from l i vs) ≡ length vs
+pub passes-long : (l i : ℕ) (vs : List ThreadView) → length (passes_from l i vs) ≡ length vs
 passes-long l i [] = refl
 passes-long l i (x ∷ xs) = ap suc (passes-long l (suc i) xs)
 

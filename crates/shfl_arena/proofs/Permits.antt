@@ -22,22 +22,26 @@ use Rattle.shfl_arena.specs.declared.view.ThreadView.{ThreadView}
 use Rattle.shfl_arena.specs.Threads.{MayStepAt, pass_at, thread_after}
 use Rattle.shfl_arena.specs.ArenaWords.{place, word_at, word_count, written_at}
 use Rattle.shfl_arena.specs.ArenaRule.{ArenaTerms, ArenaRule, KeepsArena}
-use Rattle.shfl_arena.specs.SeatViews.{threads_of, seat_after}
+use Rattle.shfl_arena.specs.SeatViews.{seats_of, threads_of, seat_after}
 use Rattle.shfl_arena.specs.ValueMoves.{writes, AreHome, MovesValue, MayGive}
 use Rattle.shfl_arena.specs.ArenaTable.{told_arena, SeatFacts, LawfulTable}
 use Rattle.shfl_arena.specs.Operations.{Permits, LockTerms, PlansThere, Operates}
 use Rattle.shfl_arena.proofs.StepLaws.{arena-range-law, goes-on-law}
 use Rattle.shfl_arena.proofs.ToldTerms.{told-long, told-then}
-use Rattle.shfl_arena.proofs.SeatViews.{threads-set, threads-at}
+use Rattle.shfl_arena.proofs.SeatViews.{seats-set, threads-set, threads-at}
 use Rattle.shfl_arena.proofs.ValueMoves.{value-moves}
 
--- the facts of seats, where one seat changes and stays in its place
-pub seated-set : (vs : List SeatView) (id : ℕ) (v w : SeatView) → get_elem? vs id ≡ some v → w.number ≡ v.number → w.last ≡ v.last
+-- the facts of seats, where one seat that wasn't given back changes and stays in its place
+pub seated-set : (vs : List SeatView) (id : ℕ) (v w : SeatView) → get_elem? vs id ≡ some v → w.number ≡ v.number → w.last ≡ v.last → w.seats ≡ v.seats → v.seats ≡ 1
     → ((seat : ℕ) (u : SeatView) → get_elem? vs seat ≡ some u → SeatFacts (length vs) seat u) → (seat : ℕ) (u : SeatView) → get_elem? (set vs id w) seat ≡ some u → SeatFacts (length (set vs id w)) seat u
-seated-set vs id v w at number last facts seat u e = subst (λ n. SeatFacts n seat u) (sym (length-set vs id w)) (⊎_elim
-    (λ p. (let f = facts id v at in subst (λ (z : ℕ × SeatView). SeatFacts (length vs) z.0 z.1) (λ j. (sym p.0 j, p.1 j)) (record { number = number ∙ f.number; last = λ h. f.last (sym last ∙ h) })))
+seated-set vs id v w at number last seats one facts seat u e = subst (λ n. SeatFacts n seat u) (sym (length-set vs id w)) (⊎_elim
+    (λ p. (let f = facts id v at in subst (λ (z : ℕ × SeatView). SeatFacts (length vs) z.0 z.1) (λ j. (sym p.0 j, p.1 j)) (record { number = λ _. number ∙ f.number (omega arith); last = λ h. f.last (sym last ∙ h); spent = λ none. absurd (omega arith) })))
     (λ p. facts seat u p.1)
     (at_set vs id seat w u e))
+
+-- they stand for as many as before
+pub counted-set : (vs : List SeatView) (id : ℕ) (v w : SeatView) → get_elem? vs id ≡ some v → w.seats ≡ v.seats → seats_of vs ≡ length vs → seats_of (set vs id w) ≡ length (set vs id w)
+counted-set vs id v w at seats counted = let a = seats-set vs id v w at in let b = length-set vs id w in omega arith
 
 module _ (shape : Shape) (rules : Rules) (n l : ℕ) (below : l < shape.locks) where
   abbrev t : LockTerms
@@ -65,14 +69,14 @@ module _ (shape : Shape) (rules : Rules) (n l : ℕ) (below : l < shape.locks) w
       subst (λ z. place shape l (site (plan rules k q)) < z) (ok.room ∙ ap (word_count shape) (told-long shape rules n words)) r.in_arena
 
   module _ {V : Type 0} (slots : ℕ) (me : Me (Option V) SeatView) (x : Access) (before : PassState) (next : ℕ → PassState) (qs : List Decision)
-      (blind : (i : ℕ) → next (told x i) ≡ next i) (lead : MayStepAt l me.0.thread) (same : writes (pass_at l me.0.number me.0.thread) ≡ writes before)
+      (one : me.0.seats ≡ 1) (blind : (i : ℕ) → next (told x i) ≡ next i) (lead : MayStepAt l me.0.thread) (same : writes (pass_at l me.0.number me.0.thread) ≡ writes before)
       (ready : (i : ℕ) → MayGive {V = V} slots l (writes before) (writes (next i)) me.1) (keeps : Keeps me.0.number me.0.thread x next) where
     abbrev k : ℕ
     k = me.0.number
 
     pub operation-permits : (id : ℕ) → Permits {S = Option V} {V = SeatView} (LawfulTable {V = V} shape rules n) slots id me (λ st m i m'. Operates {V = V} t k x before (next i) qs st.slots m i m') shape l x
     operation-permits id s ok long at bound =
-        let is : k ≡ id = (ok.seated id me.0 at).number in
+        let is : k ≡ id = (ok.seated id me.0 at).number (omega arith) in
         let f : ℕ = word_at shape s.words l (site x) in let q : PassState = next f in let threads : List ThreadView = threads_of s.views in
         let there : get_elem? threads k ≡ some me.0.thread = subst (λ i. get_elem? threads i ≡ some me.0.thread) (sym is) (threads-at s.views id me.0 at) in
         let K = keeps s.words threads ok.arena there in let words' : List ℕ = written_at shape s.words l x in
@@ -84,7 +88,8 @@ module _ (shape : Shape) (rules : Rules) (n l : ℕ) (below : l < shape.locks) w
           r.1.0,
           record {
             arena = subst (λ (z : ArenaTerms × List ThreadView). ArenaRule z.0 words' z.1) (λ j. (sym (terms-stay s.words words' (set threads k (thread_after l q me.0.thread)) K.1.rule) j, sym seats j)) K.1.rule;
-            seated = seated-set s.views id me.0 (seat_after qs l q me.0) at refl refl ok.seated;
+            seated = seated-set s.views id me.0 (seat_after qs l q me.0) at refl refl refl one ok.seated;
+            counted = counted-set s.views id me.0 (seat_after qs l q me.0) at refl ok.counted;
             home = subst (λ (z : List ThreadView). AreHome {V = V} z (homes_after s.homes me.1 r.0)) (sym seats) r.1.1;
           },
           record {

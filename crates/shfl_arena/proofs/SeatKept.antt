@@ -63,7 +63,7 @@ holds-else m l q h d = by (moving q)
 
 -- the seat after an operation that led its pass to q
 module _ {X : Type 0} (shape : Shape) (rules : Rules) (own : PassState) (id : TableId) (me me' : Me (Option X) SeatView) (lock threads : ℕ) (x : Access) (before q : PassState) (qs : List Decision) (n : ℕ)
-    (number : me.0.number ≡ own.reg.me) (node : first_node shape + 10 * own.reg.me + 3 < id.words) (below : lock < shape.locks) (sized : id.words ≡ word_count shape threads) (same : q.reg.me ≡ own.reg.me)
+    (number : me.0.number ≡ own.reg.me) (one : me.0.seats ≡ 1) (node : first_node shape + 10 * own.reg.me + 3 < id.words) (below : lock < shape.locks) (sized : id.words ≡ word_count shape threads) (same : q.reg.me ≡ own.reg.me)
     (go : Operates {V = X} (record { shape = shape; rules = rules; threads = threads; lock = lock }) own.reg.me x before q qs id.slots me n me')
     (gives : is_releasing q.phase ≡ true → q.reg.mode ≡ Write → lock < id.slots → HasInFront {V = X} lock me'.1) where
   thread-is : me'.0.thread ≡ thread_after lock q me.0.thread
@@ -72,6 +72,7 @@ module _ {X : Type 0} (shape : Shape) (rules : Rules) (own : PassState) (id : Ta
   pub kept-after : (id' : TableId) → id' ≡ id → SeatInvariant {X = X} shape rules q lock id' me'
   kept-after id' there = subst (λ (z : TableId). SeatInvariant {X = X} shape rules q lock z me') (sym there) (record {
     number = ap (λ (z : SeatView). z.number) go.seat ∙ (number ∙ sym same);
+    one = ap (λ (z : SeatView). z.seats) go.seat ∙ one;
     node = (let a = node in let b = same in omega arith);
     moves = λ g. (let w = (goes-on-law lock q.reg.me q me.0.thread).moves g in record {
       below = below;
@@ -105,7 +106,7 @@ module _ {X : Type 0} (shape : Shape) (rules : Rules) (own : PassState) (lock : 
 
     pub step-kept : (id' : TableId) → id' ≡ id → id.words ≡ word_count shape threads → SeatInvariant {X = X} shape rules q lock id' me'
     step-kept id' there sized = subst (λ z. SeatInvariant {X = X} shape rules z lock id' me') (sym e)
-        (kept-after {X = X} shape rules own id me me' lock threads (plan rules own.reg.me own) own q0 (step_decisions rules own choice) n k.number k.node (k.moves g).below sized (take-number rules own.reg.me own n choice) go gives-then id' there)
+        (kept-after {X = X} shape rules own id me me' lock threads (plan rules own.reg.me own) own q0 (step_decisions rules own choice) n k.number k.one k.node (k.moves g).below sized (take-number rules own.reg.me own n choice) go gives-then id' there)
 
     pub step-told : (id' : TableId) → id' ≡ id
         → (s : TakesStep {X = X} (record { arena = record { table = id; rules = rules; shape = shape }; lock = lock; own = own; holds = me.0.thread.holds; steps_taken = me.0.steps_taken; decisions = me.0.decisions; values = me.1 }) choice
@@ -135,7 +136,7 @@ module _ {X : Type 0} (shape : Shape) (rules : Rules) (own : PassState) (lock : 
 
     pub attempt-kept : (id' : TableId) → id' ≡ id → id.words ≡ word_count shape threads → SeatInvariant {X = X} shape rules q l id' me'
     attempt-kept id' there sized = subst (λ z. SeatInvariant {X = X} shape rules z l id' me') (sym e)
-        (kept-after {X = X} shape rules own id me me' l threads (attempt_plan mode) (idle own.reg.me) q1 [] n k.number k.node below sized (attempt-number mode (blank own.reg.me) n) go-own
+        (kept-after {X = X} shape rules own id me me' l threads (attempt_plan mode) (idle own.reg.me) q1 [] n k.number k.one k.node below sized (attempt-number mode (blank own.reg.me) n) go-own
         (λ r m h. absurd (let z = none-leads-to-release.attempts mode (blank own.reg.me) n in cc)) id' there)
 
     pub attempt-told : (id' : TableId) → id' ≡ id
@@ -174,6 +175,7 @@ module _ {X : Type 0} (shape : Shape) (rules : Rules) (own : PassState) (lock : 
     pub acquire-kept : MayUse rules.form mode → mode_held l me.0.thread.holds ≡ None → SeatInvariant {X = X} shape rules (entering own.reg.me mode) l id me
     acquire-kept may free = record {
       number = k.number;
+      one = k.one;
       node = k.node;
       moves = λ _. entering-stands mode may free;
       rests = λ r. absurd (let z = moves-in mode in cc);
@@ -196,6 +198,7 @@ module _ {X : Type 0} (shape : Shape) (rules : Rules) (own : PassState) (lock : 
     pub release-kept : mode_held l me.0.thread.holds ≡ Some mode → (mode ≡ Write → l < id.slots → HasInFront {V = X} l me.1) → SeatInvariant {X = X} shape rules (leaving own.reg.me mode) l id me
     release-kept held value = record {
       number = k.number;
+      one = k.one;
       node = k.node;
       moves = λ _. leaving-stands mode held value;
       rests = λ r. absurd (let z = moves-out mode in cc);

@@ -28,7 +28,7 @@ use Rattle.shfl_arena.specs.ArenaWords.{place, word_at, written_at}
 use Rattle.shfl_arena.specs.ArenaRule.{ArenaTerms, ArenaRule}
 use Rattle.shfl_arena.specs.ArenaSteps.{with_attribute}
 use Rattle.shfl_arena.specs.SeatViews.{threads_of, step_decisions}
-use Rattle.shfl_arena.specs.ValueMoves.{writes, MayGive, AreHome}
+use Rattle.shfl_arena.specs.ValueMoves.{writes, MayGive}
 use Rattle.shfl_arena.specs.ArenaTable.{told_arena, LawfulTable}
 use Rattle.shfl_arena.specs.Operations.{Permits, LockTerms, step_play, attempt_play, still_play}
 use Rattle.shfl_arena.proofs.StepLaws.{arena-step-law, step-form}
@@ -39,7 +39,7 @@ use Rattle.shfl_arena.proofs.Threads.{at-none, off-at}
 use Rattle.shfl_arena.proofs.ToldTerms.{told-long, told-then}
 use Rattle.shfl_arena.proofs.SeatViews.{threads-at}
 use Rattle.shfl_arena.proofs.ValueMoves.{writes-seen}
-use Rattle.shfl_arena.proofs.Permits.{Keeps, operation-permits, terms-stay, seated-set}
+use Rattle.shfl_arena.proofs.Permits.{Keeps, operation-permits, terms-stay}
 
 told-attempt : (mode : Mode) (n : ℕ) → told (attempt_plan mode) n ≡ n
 told-attempt Write n = refl
@@ -60,12 +60,12 @@ module _ {V : Type 0} (shape : Shape) (rules : Rules) (n l : ℕ) (below : l < s
   v = me.0.thread
 
   -- a step
-  pub step-permits : (own : PassState) (choice : Bool) → me.0.number ≡ own.reg.me → SeenAs rules.form own (pass_at l own.reg.me v) → MayStepAt l v
+  pub step-permits : me.0.seats ≡ 1 → (own : PassState) (choice : Bool) → me.0.number ≡ own.reg.me → SeenAs rules.form own (pass_at l own.reg.me v) → MayStepAt l v
       → ((i : ℕ) → MayGive {V = V} slots l (writes own) (writes (take rules own.reg.me own i choice)) me.1)
       → Permits {S = Option V} {V = SeatView} (LawfulTable {V = V} shape rules n) slots id me (step_play {V = V} t own choice) shape l (plan rules own.reg.me own)
-  step-permits own choice number seen may ready = subst (λ k. Permits {S = Option V} {V = SeatView} (LawfulTable {V = V} shape rules n) slots id me (λ st m i m'. Rattle.shfl_arena.specs.Operations.Operates {V = V} t k (plan rules own.reg.me own) own (take rules own.reg.me own i choice) (step_decisions rules own choice) st.slots m i m') shape l (plan rules own.reg.me own)) number
+  step-permits one own choice number seen may ready = subst (λ k. Permits {S = Option V} {V = SeatView} (LawfulTable {V = V} shape rules n) slots id me (λ st m i m'. Rattle.shfl_arena.specs.Operations.Operates {V = V} t k (plan rules own.reg.me own) own (take rules own.reg.me own i choice) (step_decisions rules own choice) st.slots m i m') shape l (plan rules own.reg.me own)) number
       (operation-permits shape rules n l below {V = V} slots me (plan rules own.reg.me own) own (λ i. take rules own.reg.me own i choice) (step_decisions rules own choice)
-      (λ i. store-blind rules own.reg.me own i choice) may (writes-seen rules.form own (pass_at l me.0.number v) seen') ready keeps-step id)
+      one (λ i. store-blind rules own.reg.me own i choice) may (writes-seen rules.form own (pass_at l me.0.number v) seen') ready keeps-step id)
     where
       seen' : SeenAs rules.form own (pass_at l me.0.number v)
       seen' = subst (λ k. SeenAs rules.form own (pass_at l k v)) (sym number) seen
@@ -75,10 +75,10 @@ module _ {V : Type 0} (shape : Shape) (rules : Rules) (n l : ℕ) (below : l < s
           (λ words threads ok at. (event rules own.reg.me own (word_at shape words l (site (plan rules own.reg.me own))), arena-step-law (A words) words threads ok l below own.reg.me v own choice at seen may, step-form (A words) words threads ok l below own.reg.me v at own seen choice may))
 
   -- the one operation of an attempt
-  pub attempt-permits : (mode : Mode) → v.at ≡ None → mode_held l v.holds ≡ None → MayUse rules.form mode
+  pub attempt-permits : me.0.seats ≡ 1 → (mode : Mode) → v.at ≡ None → mode_held l v.holds ≡ None → MayUse rules.form mode
       → Permits {S = Option V} {V = SeatView} (LawfulTable {V = V} shape rules n) slots id me (attempt_play {V = V} t me.0.number mode) shape l (attempt_plan mode)
-  attempt-permits mode none free may = operation-permits shape rules n l below {V = V} slots me (attempt_plan mode) (idle me.0.number) (attempted mode (blank me.0.number)) []
-      (λ i. ap (attempted mode (blank me.0.number)) (told-attempt mode i)) (inl none) (ap writes off) (λ i h w. absurd (let z : false ≡ true = w in cc)) keeps-attempt id
+  attempt-permits one mode none free may = operation-permits shape rules n l below {V = V} slots me (attempt_plan mode) (idle me.0.number) (attempted mode (blank me.0.number)) []
+      one (λ i. ap (attempted mode (blank me.0.number)) (told-attempt mode i)) (inl none) (ap writes off) (λ i h w. absurd (let z : false ≡ true = w in cc)) keeps-attempt id
     where
       off : pass_at l me.0.number v ≡ idle me.0.number
       off = off-at l me.0.number v (at-none l v none) ∙ ap (pass_at_rest me.0.number) free
@@ -92,35 +92,36 @@ module _ {V : Type 0} (shape : Shape) (rules : Rules) (n l : ℕ) (below : l < s
 
   -- stealing is disabled
   pub disable-permits : Permits {S = Option V} {V = SeatView} (LawfulTable {V = V} shape rules n) slots id me (still_play {V = V}) shape l disable_plan
-  disable-permits s ok long at bound = let K = arena-disable-law (A s.words) s.words (threads_of s.views) ok.arena l below in let words' : List ℕ = written_at shape s.words l disable_plan in
-      let same : set s.views id me.0 ≡ s.views = set-again s.views id me.0 at in (
-        me.0,
-        keeps,
-        tt,
-        record {
-          arena = subst (λ (z : ArenaTerms × List SeatView). ArenaRule z.0 words' (threads_of z.1)) (λ j. (sym (terms-stay shape rules n l below s.words words' (threads_of s.views) K.rule) j, sym same j)) K.rule;
-          seated = seated-set s.views id me.0 me.0 at refl refl ok.seated;
-          home = subst (λ (z : List SeatView). AreHome {V = V} (threads_of z) s.homes) (sym same) ok.home;
-        },
-        refl,
-      )
+  disable-permits s ok long at bound = let K = arena-disable-law (A s.words) s.words (threads_of s.views) ok.arena l below in let words' : List ℕ = written_at shape s.words l disable_plan in (
+    me.0,
+    keeps,
+    tt,
+    subst (λ (z : List SeatView). LawfulTable {V = V} shape rules n (record { words = words'; homes = s.homes; views = z })) (sym (set-again s.views id me.0 at)) (record {
+      arena = subst (λ (z : ArenaTerms). ArenaRule z words' (threads_of s.views)) (sym (terms-stay shape rules n l below s.words words' (threads_of s.views) K.rule)) K.rule;
+      seated = ok.seated;
+      counted = ok.counted;
+      home = ok.home;
+    }),
+    refl,
+  )
 
 -- another attribute word
-pub attribute-permits : {V : Type 0} (shape : Shape) (rules : Rules) (n : ℕ) → 0 < shape.locks → (slots id : ℕ) (me : Me (Option V) SeatView) (k word : ℕ) → me.0.number ≡ k → k < n → me.0.thread.at ≡ None
+pub attribute-permits : {V : Type 0} (shape : Shape) (rules : Rules) (n : ℕ) → 0 < shape.locks → (slots id : ℕ) (me : Me (Option V) SeatView) (k word : ℕ) → me.0.seats ≡ 1 → me.0.number ≡ k → k < n → me.0.thread.at ≡ None
     → Permits {S = Option V} {V = SeatView} (LawfulTable {V = V} shape rules n) slots id me (still_play {V = V}) shape 0 (Store (Attr k) word)
-attribute-permits {V} shape rules n any slots id me k word number small none s ok long at bound =
+attribute-permits {V} shape rules n any slots id me k word one number small none s ok long at bound =
     let a : ArenaTerms = told_arena shape rules n s.words in let words' : List ℕ = set s.words (place shape 0 (Attr k)) word in
-    let is : k ≡ id = sym number ∙ (ok.seated id me.0 at).number in let same : set s.views id me.0 ≡ s.views = set-again s.views id me.0 at in
+    let is : k ≡ id = sym number ∙ (ok.seated id me.0 at).number (omega arith) in
     let counts : length a.attrs ≡ n = told-long shape rules n s.words in
     let K = arena-attribute-law a s.words (threads_of s.views) ok.arena k me.0.thread word (subst (λ i. get_elem? (threads_of s.views) i ≡ some me.0.thread) (sym is) (threads-at s.views id me.0 at)) none (omega arith) in
     let terms : told_arena shape rules n words' ≡ with_attribute a k word = told-then shape rules n (with_attribute a k word) words' (threads_of s.views) refl refl (length-set a.attrs k word ∙ counts) any K.rule in (
       me.0,
       keeps,
       tt,
-      record {
-        arena = subst (λ (z : ArenaTerms × List SeatView). ArenaRule z.0 words' (threads_of z.1)) (λ j. (sym terms j, sym same j)) K.rule;
-        seated = seated-set s.views id me.0 me.0 at refl refl ok.seated;
-        home = subst (λ (z : List SeatView). AreHome {V = V} (threads_of z) s.homes) (sym same) ok.home;
-      },
+      subst (λ (z : List SeatView). LawfulTable {V = V} shape rules n (record { words = words'; homes = s.homes; views = z })) (sym (set-again s.views id me.0 at)) (record {
+        arena = subst (λ (z : ArenaTerms). ArenaRule z words' (threads_of s.views)) (sym terms) K.rule;
+        seated = ok.seated;
+        counted = ok.counted;
+        home = ok.home;
+      }),
       refl,
     )

@@ -12,12 +12,12 @@ use Rattle.shfl_arena.specs.declared.view.SeatView.{SeatView}
 use Rattle.shfl_arena.specs.declared.view.ThreadView.{ThreadView}
 use Rattle.shfl_arena.specs.Threads.{new_thread, thread_at, pass_at}
 use Rattle.shfl_arena.specs.ArenaRule.{ArenaRule}
-use Rattle.shfl_arena.specs.SeatViews.{threads_of, not_last, next_seat}
+use Rattle.shfl_arena.specs.SeatViews.{seats_of, threads_of, not_last, next_seat}
 use Rattle.shfl_arena.specs.ValueMoves.{writes}
 use Rattle.shfl_arena.specs.ArenaTable.{told_arena, SeatFacts, LawfulTable}
 use Rattle.shfl_arena.proofs.Openings.{arena-thread-law, seat-more}
 use Rattle.shfl_arena.proofs.ToldTerms.{told-long}
-use Rattle.shfl_arena.proofs.SeatViews.{threads-set, threads-at, threads-long, threads-more}
+use Rattle.shfl_arena.proofs.SeatViews.{seats-more, seats-set, threads-set, threads-at, threads-long, threads-more}
 
 at_end : {A : Type 0} (l : List A) (a b : A) (j : ℕ) → get_elem? (l ++ a ∷ []) j ≡ some b → ((j < length l) × (get_elem? l j ≡ some b)) ⊎ ((j ≡ length l) × (a ≡ b))
 at_end [] a b zero e = inr (refl, some-injective a b e)
@@ -25,9 +25,9 @@ at_end [] a b (suc j) e = absurd (some-ne-none b (sym e))
 at_end (x ∷ xs) a b zero e = inl (omega arith, e)
 at_end (x ∷ xs) a b (suc j) e = ⊎_elim (λ p. inl (let h = p.0 in omega arith, p.1)) (λ p. inr (ap suc p.0, p.1)) (at_end xs a b j e)
 
-pub splits : {V : Type 0} (shape : Shape) (rules : Rules) (n id : ℕ) (v : SeatView) → v.last ≡ true → v.number + 1 < n → Splits (LawfulTable {V = V} shape rules n) id v (not_last v) (next_seat v)
-splits {V} shape rules n id v last room s ok at = let vs : List SeatView = set s.views id (not_last v) in let w : SeatView = next_seat v in let threads : List ThreadView = threads_of s.views in
-    let f = ok.seated id v at in let long : id + 1 ≡ length s.views = f.last last in let num : v.number ≡ id = f.number in
+pub splits : {V : Type 0} (shape : Shape) (rules : Rules) (n id : ℕ) (v : SeatView) → v.seats ≡ 1 → v.last ≡ true → v.number + 1 < n → Splits (LawfulTable {V = V} shape rules n) id v (not_last v) (next_seat v)
+splits {V} shape rules n id v one last room s ok at = let vs : List SeatView = set s.views id (not_last v) in let w : SeatView = next_seat v in let threads : List ThreadView = threads_of s.views in
+    let f = ok.seated id v at in let long : id + 1 ≡ length s.views = f.last last in let num : v.number ≡ id = f.number (omega arith) in
     let wide : length vs ≡ v.number + 1 = (let a = length-set s.views id (not_last v) in omega arith) in
     let longer : length (vs ++ w ∷ []) ≡ length s.views + 1 = (let a = length-set s.views id (not_last v) in omega (arith, length-append vs (w ∷ []))) in
     let same : threads_of vs ≡ threads = threads-set s.views id (not_last v) ∙ set-again threads id v.thread (threads-at s.views id v at) in
@@ -36,11 +36,12 @@ splits {V} shape rules n id v last room s ok at = let vs : List SeatView = set s
           (arena-thread-law (told_arena shape rules n s.words) s.words threads ok.arena (let a = threads-long s.views in let b = told-long shape rules n s.words in omega arith));
       seated = λ seat u e. ⊎_elim
           (λ p. ⊎_elim
-          (λ q. subst (λ (z : ℕ × SeatView). SeatFacts (length (vs ++ w ∷ [])) z.0 z.1) (λ i. (sym q.0 i, q.1 i)) (record { number = num; last = λ no. absurd (cc) }))
-          (λ q. (let u' = ok.seated seat u q.1 in record { number = u'.number; last = λ h. absurd (q.0 (let a = u'.last h in let g : seat ≡ id = omega arith in g)) }))
+          (λ q. subst (λ (z : ℕ × SeatView). SeatFacts (length (vs ++ w ∷ [])) z.0 z.1) (λ i. (sym q.0 i, q.1 i)) (record { number = λ _. num; last = λ no. absurd (cc); spent = λ none. absurd (let e : v.seats ≡ 0 = none in omega arith) }))
+          (λ q. (let u' = ok.seated seat u q.1 in record { number = u'.number; last = λ h. absurd (q.0 (let a = u'.last h in let g : seat ≡ id = omega arith in g)); spent = u'.spent }))
           (at_set s.views id seat (not_last v) u p.1))
-          (λ p. subst (λ (z : ℕ × SeatView). SeatFacts (length (vs ++ w ∷ [])) z.0 z.1) (λ i. (sym p.0 i, p.1 i)) (record { number = sym wide; last = λ _. omega (arith, length-append vs (w ∷ [])) }))
+          (λ p. subst (λ (z : ℕ × SeatView). SeatFacts (length (vs ++ w ∷ [])) z.0 z.1) (λ i. (sym p.0 i, p.1 i)) (record { number = λ _. sym wide; last = λ _. omega (arith, length-append vs (w ∷ [])); spent = λ none. absurd (let e : 1 ≡ 0 = none in omega arith) }))
           (at_end vs w u seat e);
+      counted = (let a : seats_of vs + v.seats ≡ seats_of s.views + v.seats = seats-set s.views id v (not_last v) at in let b : seats_of (vs ++ w ∷ []) ≡ seats_of vs + 1 = seats-more vs w in let c = ok.counted in omega arith);
       home = λ l h nobody. ok.home l h (λ r. ap (λ (z : ThreadView). writes (pass_at l r z)) (sym (seat-more threads r)) ∙ subst (λ (z : List ThreadView). writes (pass_at l r (thread_at z r)) ≡ false) (sym more) (nobody r));
     }
 

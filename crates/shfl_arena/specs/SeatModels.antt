@@ -46,7 +46,7 @@ pub record SeatModel (X : Type 0) : Type 0 where
 abbrev pub fresh_seat : {X : Type 0} → ArenaId → ℕ → SeatModel X
 fresh_seat id k = record { arena = id; lock = 0; own = idle k; holds = []; steps_taken = 0; decisions = []; values = [] }
 
--- a seat of this arena that did nothing
+-- a seat of this arena that has no step to make and holds nothing, as one that did nothing
 abbrev pub IsNewAt : {X : Type 0} → ArenaId → SeatModel X → Type 0
 IsNewAt id s = (s.arena ≡ id) × (moving s.own ≡ false) × (s.holds ≡ []) × (s.values ≡ [])
 
@@ -71,9 +71,15 @@ pub record StandsAt {X : Type 0} (shape : Shape) (rules : Rules) (own : PassStat
 -- what a seat's type keeps beside its seat at the table
 pub record SeatInvariant {X : Type 0} (shape : Shape) (rules : Rules) (own : PassState) (lock : ℕ) (id : TableId) (me : Me (Option X) SeatView) : Type 0 where
   pub number : me.0.number ≡ own.reg.me
+  -- it stands for itself alone
+  pub one : me.0.seats ≡ 1
   -- the words of its node are there
   pub node : first_node shape + 10 * own.reg.me + 3 < id.words
   pub moves : moving own ≡ true → StandsAt shape rules own lock id me
   pub rests : moving own ≡ false → me.0.thread.at ≡ None
   -- and then its pass tells how it holds the lock of its last call
   pub here : moving own ≡ false → mode_held lock me.0.thread.holds ≡ hold_of own
+
+-- a seat at the table that stands for so many, waits nowhere and holds nothing
+abbrev pub StandsFor : {X : Type 0} → ℕ → Me (Option X) SeatView → Type 0
+StandsFor count me = (me.0.seats ≡ count) × (me.0.thread.at ≡ None) × (me.0.thread.holds ≡ []) × (me.1 ≡ [])

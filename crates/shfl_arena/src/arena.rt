@@ -28,5 +28,6 @@ impl<V: Drop> Model for Arena<V> {
 
     ghost invariant = { λ a. (a.table.shared.table_id.words
         ≡ word_count a.table.shared.key.shape a.table.shared.key.threads)
-        × (0 < a.table.shared.key.shape.locks) };
+        × (0 < a.table.shared.key.shape.locks)
+        × (0 < a.table.shared.key.threads) };
 }

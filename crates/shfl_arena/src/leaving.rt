@@ -57,6 +57,7 @@ pub fn leave_once<V, M: StepTerms>(
         × (shared.now.key.shape ≡ shape) }
     requires lock { lock < shape.locks }
     requires place { words.first_node shape < shared.now.table_id.words }
+    requires one { seat.old.me.0.seats ≡ 1 }
     requires rests { seat.old.me.0.thread.at ≡ None }
     requires holds { mode_held lock seat.old.me.0.thread.holds ≡ Some mode }
     requires value { mode ≡ Write → lock < seat.old.table_id.slots

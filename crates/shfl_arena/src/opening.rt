@@ -41,7 +41,8 @@ fn seated<V: Drop>(
     seat: Seat<Option<V>, SeatView>,
 ) -> ArenaSeat<V>
     requires words { words.first_node shape + 10 * number + 3 < seat.table_id.words }
-    requires view { (seat.me.0.number ≡ number) × (seat.me.0.thread ≡ new_thread)
+    requires view { (seat.me.0.number ≡ number) × (seat.me.0.seats ≡ 1)
+        × (seat.me.0.thread ≡ new_thread)
         × (seat.me.0.steps_taken ≡ 0) × (seat.me.0.decisions ≡ []) × (seat.me.1 ≡ []) }
     ensures { result ≡ fresh_seat (record {
       table = seat.table_id;

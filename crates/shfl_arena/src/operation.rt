@@ -45,6 +45,7 @@ pub fn operate<V, M: StepTerms>(
     requires lock { lock < shape.locks }
     requires place { words.place shape lock (site (plan rules own.reg.me own))
         < shared.now.table_id.words }
+    requires one { seat.old.me.0.seats ≡ 1 }
     requires seat { (seat.old.me.0.number ≡ own.reg.me)
         × SeenAs rules.form own (pass_at lock own.reg.me seat.old.me.0.thread)
         × MayStepAt lock seat.old.me.0.thread }
@@ -86,6 +87,7 @@ pub fn attempt_once<V, M: AttemptTerms>(
         × (shared.now.key.shape ≡ shape) }
     requires lock { lock < shape.locks }
     requires place { words.first_node shape < shared.now.table_id.words }
+    requires one { seat.old.me.0.seats ≡ 1 }
     requires rests { seat.old.me.0.thread.at ≡ None }
     requires free { mode_held lock seat.old.me.0.thread.holds ≡ None }
     requires mode { MayUse rules.form mode }
@@ -141,6 +143,7 @@ pub fn store_attribute<V>(
     requires table { (seat.old.table_id ≡ shared.now.table_id)
         × (shared.now.key.shape ≡ shape) }
     requires some { 0 < shape.locks }
+    requires one { seat.old.me.0.seats ≡ 1 }
     requires number { seat.old.me.0.number ≡ number }
     requires small { number < shared.now.key.threads }
     requires rests { seat.old.me.0.thread.at ≡ None }

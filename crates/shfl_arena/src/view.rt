@@ -1,6 +1,6 @@
 //! What is known of the threads of an arena and of their seats, and the rule of the table.
 use crate::shape::Shape;
-use atomic_table::{Split, TableRule};
+use atomic_table::{Join, Split, TableRule};
 use shfl_core::{Ask, PassState, Rules};
 use shfl_line::Mode;
 use std::collections::LinkedList;
@@ -27,6 +27,8 @@ pub struct SeatView {
     pub number: u64,
     /// It is the last one, who may split off the next.
     pub last: bool,
+    /// How many seats it stands for: itself, and those that it took back; none once it was given back itself.
+    pub seats: u64,
     pub thread: ThreadView,
     pub steps_taken: u64,
     pub decisions: LinkedList<Decision>,
@@ -61,4 +63,15 @@ impl Split<SeatView> for NextSeat {
     ghost left = { not_last };
 
     ghost right = { next_seat };
+}
+
+/// A seat that holds nothing is given back to another.
+pub struct ReturnSeat;
+
+impl Join<SeatView> for ReturnSeat {
+    ghost use Rattle.shfl_arena.specs.SeatViews.{spent_seat, with_seats_of};
+
+    ghost both = { with_seats_of };
+
+    ghost spent = { spent_seat };
 }

@@ -1,12 +1,13 @@
 -- One more lock that is held, and one less.
-use Rattle.std.proofs.Common.{◌≡◌, ◌≢◌, ℕ, ◌==◌, ◌||◌, ◌<◌, Bool, true, false, cond, List, [], ◌∷◌, ◌++◌, refl, sym, ap, ◌∙◌, subst, arith, reverse}
+use Rattle.std.proofs.Common.{◌≡◌, ◌≢◌, ℕ, ◌==◌, ◌||◌, ◌<◌, Bool, true, false, cond, List, [], ◌∷◌, ◌++◌, length, refl, sym, ap, ◌∙◌, subst, arith, reverse}
 use Rattle.std.specs.Prelude.{Option, Some, None}
-use Rattle.std.proofs.lemmas.List.{reverse-append}
+use Rattle.std.proofs.lemmas.List.{length-reverse, reverse-append}
 use Rattle.std.proofs.lemmas.List.Folds.{list_any-append}
 use Rattle.std.proofs.lemmas.Bool.Decides.{nat_tests}
 use mathlib.Core.Logic.{dite}
 use native.Mathlib.Decide.{ℕ_discrete}
 use Rattle.atomic_table.specs.Table.{rest}
+use Rattle.shfl_line.specs.declared.events.Mode.{Mode}
 use Rattle.shfl_line.specs.declared.events.Mode.TheVariants.{Write}
 use Rattle.shfl_core.specs.Plan.{moving}
 use Rattle.shfl_arena.specs.SeatModels.{ArenaId, SeatModel, IsNewAt}
@@ -38,6 +39,14 @@ among-reverse l (k ∷ ks) = ap (λ z. is_among l z) (reverse-append (k ∷ []) 
 pub reverse-more : (ks : List ℕ) (k : ℕ) → reverse (ks ++ k ∷ []) ≡ k ∷ reverse ks
 reverse-more ks k = reverse-append ks (k ∷ [])
 
+-- it has none, or some, from either end
+pub none-reversed : (ks : List ℕ) → length ks ≡ 0 → reverse ks ≡ []
+none-reversed [] h = refl
+none-reversed (k ∷ ks) h = absurd (omega arith)
+
+pub some-reversed : (ks : List ℕ) → reverse ks ≡ [] → length ks ≡ 0
+some-reversed ks e = sym (length-reverse ks) ∙ ap length e
+
 here : (l : ℕ) → (l == l) ≡ true
 here l = grind (arith, nat_tests)
 
@@ -53,7 +62,16 @@ past-head k l ks n = ap (λ b. cond (b || is_among l ks) (Some Write) None) (els
 absent : (l : ℕ) (ks : List ℕ) → is_among l ks ≡ false → hold_in l ks ≡ None
 absent l ks e = ap (λ b. cond b (Some Write) None) e
 
+-- who holds no lock has none in its list
+none-held : (hs : List (ℕ × Mode)) → ((l : ℕ) → mode_held l hs ≡ None) → hs ≡ []
+none-held [] h = refl
+none-held (x ∷ xs) h = absurd (let e : Some x.1 ≡ None = ap (λ b. cond b (Some x.1) (mode_held x.0 xs)) (sym (here x.0)) ∙ h x.0 in cc)
+
 module _ {X : Type 0} (id : ArenaId) where
+  -- a seat that has unlocked all is as one that did nothing
+  pub new-again : (s : SeatModel X) → HoldsJust {X = X} id [] s → IsNewAt {X = X} id s
+  new-again s h = (h.arena, h.rests, none-held s.holds h.holds, h.values)
+
   -- a seat that did nothing holds nothing
   pub holds-nothing : (s : SeatModel X) → IsNewAt {X = X} id s → id.table.slots ≡ id.shape.locks → HoldsJust {X = X} id [] s
   holds-nothing s n e = record {

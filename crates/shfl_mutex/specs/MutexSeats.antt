@@ -8,6 +8,8 @@ use Rattle.shfl_mutex.specs.declared.seat.LockError.{LockError}
 use Rattle.shfl_mutex.specs.declared.seat.LockError.TheVariants.{NoSuchLock, Held, Full, Busy}
 
 pub record MutexSeatModel : Type 0 where
+  -- the arena of the mutexes
+  pub arena : ArenaId
   -- how many mutexes there are, and how many of them it may lock at the same time
   pub locks : ℕ
   pub most : ℕ

@@ -1,54 +1,28 @@
 //! The closing of mutexes gives their values back.
-ghost use Rattle.std.specs.Prelude.{◌≡◌, ◌≢◌, ◌<◌, ◌∷◌, ℕ, false, None, IfOk, IfErr, vec_len};
-ghost use Rattle.atomic_table.specs.Table.{rest};
+ghost use Rattle.std.specs.Prelude.{◌≡◌, All, IfOk, IfErr, vec_len};
 ghost use Rattle.shfl_arena.specs.SeatModels.{IsNewAt};
-ghost use Rattle.shfl_arena.specs.Threads.{mode_held};
-ghost use Rattle.shfl_core.specs.Plan as plan;
 
 use crate::mutexes::Mutexes;
-use shfl_arena::{Arena, ArenaSeat};
-use shfl_line::Mode;
+use shfl_arena::ArenaSeat;
 use std::alloc::Global;
 
-// The value of a lock that no seat has. The lock stays locked.
-fn taken<T: Drop>(arena: &Arena<T>, seat: &mut ArenaSeat<T>, lock: u32) -> Option<T>
-    requires arena { seat.old.arena ≡ arena.now.id }
-    requires rests { plan.moving seat.old.own ≡ false }
-    requires inside { lock < seat.old.arena.shape.locks }
-    requires slot { lock < seat.old.arena.table.slots }
-    requires free { mode_held lock seat.old.holds ≡ None }
-    ensures arena { seat.new.arena ≡ seat.old.arena }
-    ensures rests { plan.moving seat.new.own ≡ false }
-    ensures others { (l : ℕ) → l ≢ lock
-        → mode_held l seat.new.holds ≡ mode_held l seat.old.holds }
-{
-    if seat.attempt(arena, lock, Mode::Write).is_err() {
-        return None;
-    }
-    Some(seat.take_value(arena, lock))
-}
-
 impl<T: Drop> Mutexes<T> {
-    /// The values, in the order of their locks, by a seat that did nothing. `None` stands for one that a forgotten guard has taken along. Without
-    /// memory for them the mutexes and the seat are given back.
+    /// A value for each mutex, in their order, for all seats: as many as there are threads, each as it was opened or as `MutexSeat::leave`
+    /// gave it back. Without memory for the values the mutexes and the seats are given back.
     pub fn close(
         self,
         alloc: Global,
-        seat: ArenaSeat<T>,
-    ) -> Result<Vec<Option<T>>, (Mutexes<T>, ArenaSeat<T>)>
-        requires { IsNewAt self.id seat }
+        seats: Vec<ArenaSeat<T>>,
+    ) -> Result<Vec<T>, (Mutexes<T>, Vec<ArenaSeat<T>>)>
+        requires seats { All (IsNewAt self.id) seats.items }
+        requires all { vec_len seats ≡ self.threads }
         ensures len { IfOk result (λ v. vec_len v ≡ self.id.shape.locks) }
-        ensures err { IfErr result (λ r. (r.0 ≡ self) × (r.1 ≡ seat)) }
+        ensures err { IfErr result (λ r. (r.0 ≡ self) × (r.1 ≡ seats)) }
     {
-        let locks = self.len();
-        let Ok(mut values) = Vec::with_capacity(alloc, locks as usize) else {
-            return Err((self, seat));
+        let Ok(room) = Vec::with_capacity(alloc, self.locks as usize) else {
+            return Err((self, seats));
         };
-        let mut closing = seat;
-        for lock in 0..locks {
-            let value = taken(&self.arena, &mut closing, lock);
-            values.push_reserved(value);
-        }
-        Ok(values)
+        let Mutexes { arena, locks: _ } = self;
+        Ok(arena.close(seats, room))
     }
 }

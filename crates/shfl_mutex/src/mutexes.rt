@@ -13,7 +13,7 @@ use std::marker::Model;
 #[derive(Drop)]
 pub struct Mutexes<T: Drop> {
     pub(crate) arena: Arena<T>,
-    locks: u32,
+    pub(crate) locks: u32,
 }
 
 impl<T: Drop> Model for Mutexes<T> {
@@ -44,6 +44,7 @@ impl<T: Drop> Mutexes<T> {
         requires locks { (0 < vec_len values) × (vec_len values ≤ 16777216) }
         requires threads { (0 < length attrs.now) × (length attrs.now ≤ most_passes) }
         ensures locks { IfOk result (λ r. r.0.id.shape.locks ≡ vec_len values) }
+        ensures threads { IfOk result (λ r. r.0.threads ≡ length attrs.now) }
         ensures count { IfOk result (λ r. vec_len r.1 ≡ length attrs.now) }
         ensures fresh { IfOk result (λ r. All (IsNewAt r.0.id) r.1.items) }
     {
@@ -70,8 +71,8 @@ impl<T: Drop> Mutexes<T> {
         most: usize,
     ) -> Result<MutexSeat<'_, T>, ArenaSeat<T>>
         requires { IsNewAt self.now.id seat }
-        ensures ok { IfOk result (λ s. (s.locks ≡ self.now.id.shape.locks) × (s.held ≡ [])
-            × (s.most ≡ most)) }
+        ensures ok { IfOk result (λ s. (s.arena ≡ self.now.id)
+            × (s.locks ≡ self.now.id.shape.locks) × (s.held ≡ []) × (s.most ≡ most)) }
         ensures err { IfErr result (λ s. s ≡ seat) }
     {
         MutexSeat::new(alloc, &self.arena, self.locks, seat, attr, most)

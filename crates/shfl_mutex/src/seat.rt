@@ -1,5 +1,5 @@
 //! A thread's right to lock mutexes.
-ghost use Rattle.std.specs.Prelude.{◌≡◌, ◌<◌, ◌≤◌, ◌∷◌, [], IfOk, IfErr, IfSome, IsNone, true, false, Some, Err, length};
+ghost use Rattle.std.specs.Prelude.{◌≡◌, ◌↔◌, ◌<◌, ◌≤◌, ◌∷◌, [], IfOk, IfErr, IsOk, IfSome, IsNone, true, false, Some, Err, length};
 ghost use Rattle.shfl_arena.specs.SeatModels.{IsNewAt};
 ghost use Rattle.shfl_mutex.specs.Held.{is_among};
 ghost use Rattle.shfl_mutex.specs.MutexSeats.{Refuses};
@@ -43,6 +43,7 @@ impl<'a, T: Drop> Model for MutexSeat<'a, T> {
     ghost Value = { MutexSeatModel };
 
     ghost view = { λ s. record {
+      arena = s.arena.now.id;
       locks = s.locks;
       most = s.most;
       held = reverse s.held.items;
@@ -64,8 +65,8 @@ impl<'a, T: Drop> MutexSeat<'a, T> {
         requires seat { IsNewAt arena.now.id seat }
         requires slots { arena.now.id.table.slots ≡ arena.now.id.shape.locks }
         requires locks { locks ≡ arena.now.id.shape.locks }
-        ensures ok { IfOk result (λ s. (s.locks ≡ locks) × (s.held ≡ [])
-            × (s.most ≡ most)) }
+        ensures ok { IfOk result (λ s. (s.arena ≡ arena.now.id) × (s.locks ≡ locks)
+            × (s.held ≡ []) × (s.most ≡ most)) }
         ensures err { IfErr result (λ s. s ≡ seat) }
     {
         let Ok(held) = Vec::with_capacity(alloc, most) else {
@@ -86,6 +87,20 @@ impl<'a, T: Drop> MutexSeat<'a, T> {
         ensures { result ≡ is_among lock self.now.held }
     {
         self.held.contains(&lock)
+    }
+
+    /// Gives back the seat with which it was entered, if it has locked nothing: that one may enter again, and the closing takes it. Else it
+    /// stays as it is.
+    pub fn leave(self) -> Result<ArenaSeat<T>, MutexSeat<'a, T>>
+        ensures ok { IfOk result (IsNewAt self.entry.arena) }
+        ensures exact { IsOk result ↔ (self.entry.held ≡ []) }
+        ensures err { IfErr result (λ s. s ≡ self.entry) }
+    {
+        if !self.held.is_empty() {
+            return Err(self);
+        }
+        let MutexSeat { seat, .. } = self;
+        Ok(seat)
     }
 
     // Why it may not lock this mutex, if it may not.

@@ -23,7 +23,7 @@ pub perform-requires-clause-permits : goal.perform-requires-clause-permits
 perform-requires-clause-permits g c = let a = c.args in let key = a.shared.now.key in let m = c.requires.made in let me = a.seat.now.me in let k = me.0.number in
     subst (λ (z : Shape × Rules × LockTerms × PassState × Bool × Access). Permits (LawfulTable z.0 z.1 key.threads) a.shared.now.table_id.slots a.seat.now.id me (step_play z.2 z.3 z.4) a.shape a.lock z.5)
     (λ j. (sym c.requires.table.2 j, sym c.requires.table.1 j, sym m.0 j, sym m.1 j, sym m.2 j, sym (c.leave_access-access.ensures a.rules k) j))
-    (step-permits a.shape a.rules key.threads a.lock c.requires.lock a.shared.now.table_id.slots a.seat.now.id me (leaving k a.mode) false refl
+    (step-permits a.shape a.rules key.threads a.lock c.requires.lock a.shared.now.table_id.slots a.seat.now.id me c.requires.one (leaving k a.mode) false refl
     (leaving-seen a.rules.form a.lock k me.0.thread c.requires.rests a.mode c.requires.holds) (inl c.requires.rests)
     (subst (λ n. (i : ℕ) → MayGive n a.lock (writes (leaving k a.mode)) (writes (take a.rules k (leaving k a.mode) i false)) me.1) (ap (λ (z : TableId). z.slots) c.requires.table.0)
     (λ i. leaving-gives a.seat.now.table_id.slots a.lock k (writes (take a.rules k (leaving k a.mode) i false)) me.1 a.mode c.requires.value)))

@@ -10,7 +10,7 @@ split_seat-next-requires g c = let i = c.loop-k.invariant in let is = ap (λ m. 
     let h : vec_len c.loop-k.seats + 1 < c.args.threads = (let a = i.0 in let b = c.loop-k-test.true in omega arith) in (
       i.2,
       (let w = c.requires.words in let t = c.requires.threads.0 in omega arith),
-      splits k.shape k.rules k.threads _ _ (ap (λ (z : SeatView). z.last) is) (subst (λ n. n + 1 < k.threads) (sym (ap (λ (z : SeatView). z.number) is)) (subst (λ n. vec_len c.loop-k.seats + 1 < n) c.requires.threads.1 h)),
+      splits k.shape k.rules k.threads _ _ (ap (λ (z : SeatView). z.seats) is) (ap (λ (z : SeatView). z.last) is) (subst (λ n. n + 1 < k.threads) (sym (ap (λ (z : SeatView). z.number) is)) (subst (λ n. vec_len c.loop-k.seats + 1 < n) c.requires.threads.1 h)),
     )
 
 pub loop-k-preserved : goal.loop-k-preserved

@@ -12,4 +12,4 @@ pub perform-requires-clause-permits : goal.perform-requires-clause-permits
 perform-requires-clause-permits g c = let a = c.args in let k = a.shared.now.key in let m = c.requires.made in
     subst (λ (z : Shape × Rules × LockTerms × ℕ × Mode × Access). Permits (LawfulTable z.0 z.1 k.threads) a.shared.now.table_id.slots a.seat.now.id a.seat.now.me (attempt_play z.2 z.3 z.4) a.shape a.lock z.5)
     (λ j. (sym c.requires.table.2 j, sym c.requires.table.1 j, sym m.0 j, sym m.1 j, sym m.2 j, sym c.attempt_access-access.ensures j))
-    (attempt-permits a.shape a.rules k.threads a.lock c.requires.lock a.shared.now.table_id.slots a.seat.now.id a.seat.now.me a.mode c.requires.rests c.requires.free c.requires.mode)
+    (attempt-permits a.shape a.rules k.threads a.lock c.requires.lock a.shared.now.table_id.slots a.seat.now.id a.seat.now.me c.requires.one a.mode c.requires.rests c.requires.free c.requires.mode)

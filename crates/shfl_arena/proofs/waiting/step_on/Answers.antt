@@ -1,4 +1,4 @@
-use Rattle.std.proofs.Common.{◌≡◌, ◌++◌, ◌∙◌, ap, subst, List}
+use Rattle.std.proofs.Common.{◌++◌, ◌∙◌, ap, subst, List}
 use Rattle.shfl_core.specs.declared.phase.PassState.{PassState}
 use Rattle.shfl_line.specs.declared.choosers.Told.{Told}
 use Rattle.shfl_line.specs.Policies.{Adds}

@@ -23,4 +23,5 @@ invariant_of-result g c = let r : Rules = record { limit = c.args.limit; form = 
     let k = c.in-Ok.ensures.ok.5 in (
       c.in-Ok.ensures.ok.0 ∙ (ap length (c.as_slice.ensures.value ∙ c.in_ok-words.ensures) ∙ (words-are c.args.shape r c.args.attrs.now c.requires.locks.0 may ∙ ap (λ (z : Opening). word_count z.shape z.threads) (sym k))),
       subst (λ (z : Opening). 0 < z.shape.locks) (sym k) c.requires.locks.0,
+      subst (λ (z : Opening). 0 < z.threads) (sym k) c.requires.some,
     )
