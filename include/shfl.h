@@ -53,7 +53,7 @@ enum shfl_outcome {
     SHFL_GROUPED_NOBODY /* a round ended that moved nobody */
 };
 
-/* count is 1 to 64 and the same twice, form below 4, limit 1 to 1024, each handle zero. False: it isn't so (errno is EINVAL), or there is no memory
+/* count is 1 to 65535 and the same twice, form below 4, limit 1 to 1024, each handle zero. False: it isn't so (errno is EINVAL), or there is no memory
  * (ENOMEM), and each handle is as it was. These three are calls of the library that the headers stand before: shfl_parking.h. */
 bool shfl_open(const uint64_t *attrs, size_t count, uint8_t form, uint16_t limit, struct shfl_pass *passes, size_t same_count);
 void shfl_close(struct shfl_pass *pass); /* the last one of a lock frees it; one that isn't idle leaves the others waiting for good */

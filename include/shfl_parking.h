@@ -48,7 +48,7 @@ static inline struct shfl_place *shfl_place_of(struct shfl_parking *parking, uin
 /* Whether what the library's proof takes for granted of an opening holds: the numbers are in their ranges, and no pass is open. */
 static inline bool shfl_may_open(const uint64_t *attrs, size_t count, uint8_t form, uint16_t limit, const struct shfl_pass *passes,
                                  size_t same_count) {
-    if (!attrs || !passes || count < 1 || count > 64 || same_count != count || form > SHFL_RW_PARK || limit < 1 || limit > 1024) return false;
+    if (!attrs || !passes || count < 1 || count > 65535 || same_count != count || form > SHFL_RW_PARK || limit < 1 || limit > 1024) return false;
     for (size_t k = 0; k < count; k++)
         if (passes[k].at) return false;
     return true;

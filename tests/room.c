@@ -46,7 +46,7 @@ static bool refuses(const uint64_t *attrs, struct shfl_pass *passes) {
     bool well = is_refused(attrs, PASSES, 4, 1024, passes, PASSES) && is_refused(attrs, PASSES, 255, 1024, passes, PASSES) &&
                 is_refused(attrs, PASSES, SHFL_RW, 0, passes, PASSES) && is_refused(attrs, PASSES, SHFL_RW, 1025, passes, PASSES) &&
                 is_refused(attrs, PASSES, SHFL_RW, 65535, passes, PASSES) && is_refused(attrs, 0, SHFL_RW, 1024, passes, 0) &&
-                is_refused(attrs, 65, SHFL_RW, 1024, passes, 65) && is_refused(attrs, 2, SHFL_RW, 1024, passes, 3) &&
+                is_refused(attrs, 65536, SHFL_RW, 1024, passes, 65536) && is_refused(attrs, 2, SHFL_RW, 1024, passes, 3) &&
                 is_refused(NULL, 2, SHFL_RW, 1024, passes, 2) && is_refused(attrs, 2, SHFL_RW, 1024, NULL, 2);
     if (!well || !shfl_open(attrs, 1, SHFL_RW, 1, passes, 1) || shfl_open(attrs, 2, SHFL_RW, 1, passes, 2)) return false;
     static const uint8_t no[16] = {0xb7, 0, 0, 0, 0, 0, 0, 0, 0x95};

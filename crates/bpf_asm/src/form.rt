@@ -6,7 +6,7 @@ use bpf_isa::{AluOp, Cond, Order, Profile, Size, Width};
 use doc_text::is_same;
 
 /// An instruction without its operands.
-#[derive(Clone, Copy, Debug, PartialEq, Eq)]
+#[derive(Clone, Copy)]
 pub enum Form {
     Alu { width: Width, op: AluOp },
     Neg { width: Width },

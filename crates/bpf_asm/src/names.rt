@@ -5,7 +5,7 @@ ghost use Rattle.bpf_asm.specs.Names.{key_of, is_before, repeats, lower, mark_in
 use std::cmp::Ordering;
 
 /// Where a name stands: the line that declares it, counted from 1, and the slot behind it.
-#[derive(Clone, Copy, Debug, PartialEq, Eq)]
+#[derive(Clone, Copy)]
 pub struct Mark {
     pub line: u32,
     pub slot: u32,

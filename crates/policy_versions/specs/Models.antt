@@ -35,6 +35,10 @@ AreFresh registry users passes = (i : ℕ) → i < users → slice_get passes i 
 abbrev pub IsOf : RegistryId → Instance → Type 0
 IsOf registry x = slice_get registry.declared x.which ≡ Some x.policy
 
+-- so many users a registry may have, as many as a lock has passes
+abbrev pub most_users : ℕ
+most_users = 65535
+
 -- one publication more
 abbrev pub with_row : PublisherModel → ℕ → ℕ → PublisherModel
 with_row publisher version which = record publisher { rows = publisher.rows ++ (version, which) ∷ [] }

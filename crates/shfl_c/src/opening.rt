@@ -1,5 +1,6 @@
 //! A lock is opened, and its passes are closed.
 ghost use Rattle.std.specs.Prelude.{◌≡◌, [], ◌∷◌, true, false, ◌<◌, ◌≤◌, length, map, IfOk};
+ghost use Rattle.shfl_core.specs.Words.{most_passes};
 ghost use Rattle.shfl_ticket.specs.Tickets.{TicketModel};
 ghost use Rattle.shfl_ticket.specs.Told.{form_numbered};
 ghost use Rattle.shfl_c.specs.Opened.{HoldPasses, tickets_of};
@@ -24,7 +25,7 @@ fn handles_of(alloc: Global, tickets: Vec<Box<Ticket, Global>>) -> Result<Vec<Sh
 // The handles of a lock that is opened.
 fn opened(alloc: Global, attrs: &[u64], form: u8, limit: u16) -> Result<Vec<ShflPass>, NoMemory>
     requires some { 0 < length attrs.now }
-    requires few { length attrs.now ≤ 64 }
+    requires few { length attrs.now ≤ most_passes }
     requires form { form < 4 }
     requires limited { (0 < limit) × (limit ≤ 1024) }
     ensures { IfOk result (λ v.
@@ -45,7 +46,7 @@ pub extern "C" fn shfl_open(
     passes: &mut [ShflPass],
 ) -> bool
     requires some { 0 < length attrs.now }
-    requires few { length attrs.now ≤ 64 }
+    requires few { length attrs.now ≤ most_passes }
     requires form { form < 4 }
     requires limited { (0 < limit) × (limit ≤ 1024) }
     requires room { length passes.old ≡ length attrs.now }

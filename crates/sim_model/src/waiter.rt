@@ -1,7 +1,6 @@
 //! A waiter of any form.
 ghost use Rattle.std.specs.Prelude.{◌≡◌};
 ghost use Rattle.shfl_core.specs.Waiting.{fresh};
-ghost use Rattle.shfl_line.specs.declared.events.Form.TheVariants.{Spin, Rw, Park, RwPark};
 
 use shfl_core::asks::{
     acquire_row_in_place, ask_row, idle_pass, is_moving, release_row_in_place, watch_row,
@@ -9,7 +8,7 @@ use shfl_core::asks::{
 use shfl_core::plans::plan_row;
 use shfl_core::rows::take_row_in_place;
 use shfl_core::{Access, Ask, Nap, PassState, Phase, Registers, Rules, Waiter, Watch};
-use shfl_line::{Attr, Form, Mode};
+use shfl_line::{Attr, Mode};
 use std::marker::Model;
 
 /// A waiter that goes by any rules.
@@ -38,38 +37,6 @@ impl AnyWaiter {
             rules,
             pass: idle_pass(me),
         }
-    }
-
-    /// The pass `me` of a lock that only writers use, idle.
-    pub fn spin(me: u32, attr: Attr, limit: u16) -> AnyWaiter
-        ensures { result ≡ fresh me attr (record { limit = limit; form = Spin }) }
-    {
-        let form = Form::Spin;
-        AnyWaiter::new(me, attr, Rules { limit, form })
-    }
-
-    /// The pass `me` of a lock that readers may share, idle.
-    pub fn rw(me: u32, attr: Attr, limit: u16) -> AnyWaiter
-        ensures { result ≡ fresh me attr (record { limit = limit; form = Rw }) }
-    {
-        let form = Form::Rw;
-        AnyWaiter::new(me, attr, Rules { limit, form })
-    }
-
-    /// The pass `me` of a lock at which writers park, idle.
-    pub fn park(me: u32, attr: Attr, limit: u16) -> AnyWaiter
-        ensures { result ≡ fresh me attr (record { limit = limit; form = Park }) }
-    {
-        let form = Form::Park;
-        AnyWaiter::new(me, attr, Rules { limit, form })
-    }
-
-    /// The pass `me` of a lock that readers may share and at which waiters park, idle.
-    pub fn rw_park(me: u32, attr: Attr, limit: u16) -> AnyWaiter
-        ensures { result ≡ fresh me attr (record { limit = limit; form = RwPark }) }
-    {
-        let form = Form::RwPark;
-        AnyWaiter::new(me, attr, Rules { limit, form })
     }
 }
 

@@ -2,7 +2,7 @@
 ghost use Rattle.std.specs.Prelude.{◌≡◌, ℕ, ◌<◌, ◌≤◌, [], length, vec_len, slice_get, Some, IfOk};
 ghost use Rattle.policy_versions.specs.Rule.{first_view};
 ghost use Rattle.policy_versions.specs.Places.{registry_at};
-ghost use Rattle.policy_versions.specs.Models.{AreFresh, ArePlaces, IsOf};
+ghost use Rattle.policy_versions.specs.Models.{AreFresh, ArePlaces, IsOf, most_users};
 
 use super::{PLACES, Publisher, ROWS, Registry, VersionPass};
 use crate::instance::Instance;
@@ -82,7 +82,7 @@ impl Registry {
         }
     }
 
-    /// A registry of 1 to 64 declared policies, the one publisher, and a pass for each of 1 to 64 users. Version 0 is a copy of the
+    /// A registry of 1 to 64 declared policies, the one publisher, and a pass for each of 1 to 65,535 users. Version 0 is a copy of the
     /// first policy. The room for 4,096 publications is taken here.
     pub fn open(
         alloc: Global,
@@ -90,7 +90,7 @@ impl Registry {
         users: u32,
     ) -> Result<(Registry, Publisher, Vec<VersionPass>), NoMemory>
         requires policies { (0 < vec_len declared) × (vec_len declared ≤ 64) }
-        requires users { (0 < users) × (users ≤ 64) }
+        requires users { (0 < users) × (users ≤ most_users) }
         ensures declared { IfOk result (λ r. r.0.declared ≡ declared.items) }
         ensures publisher { IfOk result (λ r. r.1 ≡ record { registry = r.0; rows = [] }) }
         ensures users { IfOk result (λ r. vec_len r.2 ≡ users) }
