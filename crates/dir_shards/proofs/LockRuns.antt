@@ -4,10 +4,14 @@ use Rattle.std.specs.Option.{option_map}
 use Rattle.std.proofs.lemmas.Option.{same_Some, slice_get_within, slice_get-map}
 use Rattle.std.proofs.lemmas.List.{length-map}
 use native.Mathlib.Decide.{dec_le}
+use Rattle.shfl_table.specs.declared.kept.Action.{Action}
 use Rattle.shfl_table.specs.declared.view.Decision.{Decision}
 use Rattle.shfl_table.specs.declared.view.Part.{Part}
 use Rattle.shfl_table.specs.PassModel.{BoardModel, BoardId}
+use Rattle.shfl_table.specs.Histories.{IsCurrent}
+use Rattle.shfl_table.specs.Places.{Every}
 use Rattle.shfl_table.specs.ThreadRuns.{RanUntilClosed}
+use Rattle.dir_shards.specs.KeptShards.{KeptShardModel, state_of}
 use Rattle.dir_shards.specs.Locks.{LockPass}
 use Rattle.dir_shards.specs.ShardPasses.{ShardPassModel, asked_at, without_last}
 use Rattle.dir_shards.specs.Closings.{part_at, HasPart, HasRunAt}
@@ -49,9 +53,14 @@ told_more place before parts old x told was asked is = record {
   ];
 }
 
+-- behind a lock is no history
+pub no_history : (state : List ℕ) (total : List Action) (kept : List KeptShardModel) → 0 < length kept → Every (IsCurrent state_of (λ _. []) state total) kept → [] ≡ total
+no_history state total [] some each = absurd (omega arith)
+no_history state total (x ∷ xs) some each = each.0.1
+
 -- once all have told it, the lock has its run
 pub told_all : (place dir count : ℕ) (lock : BoardId) (before : List ShardPassModel) (parts : List Part) → length before ≤ place → HaveTold place before parts
-    → All (λ p. length p.locks ≡ dir + 1) before → RanUntilClosed lock.rules lock.attrs count parts → HasRunAt dir count lock before
+    → All (λ p. length p.locks ≡ dir + 1) before → RanUntilClosed lock.rules lock.attrs count parts [] → HasRunAt dir count lock before
 told_all place dir count lock before parts end told long ran = record {
   parts = parts;
   told = all_got (HasPart dir parts) before (λ k p at.

@@ -47,11 +47,12 @@ part_at dir steps_taken attempts p = record { number = p.number; steps_taken = s
 abbrev pub HasPart : ℕ → List Part → ShardPassModel → Type 0
 HasPart dir parts p = (x : Part) × IsAmong x parts × (x ≡ part_at dir x.steps_taken x.attempts p)
 
--- all that was done to the lock of this directory, for so many passes, is a run of the model, in which each of these asked what it tells
+-- all that was done to the lock of this directory, for so many passes, is a run of the model, in which each of these asked what it tells;
+-- no history is kept behind the lock
 pub record HasRunAt (dir count : ℕ) (lock : BoardId) (passes : List ShardPassModel) : Type 0 where
   pub parts : List Part
   pub told : All (HasPart dir parts) passes
-  pub run : RanUntilClosed lock.rules lock.attrs count parts
+  pub run : RanUntilClosed lock.rules lock.attrs count parts []
 
 -- so it is at each lock
 abbrev pub HasRunOfEach : ShardedDirModel → List ShardPassModel → Type 0

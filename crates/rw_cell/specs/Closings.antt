@@ -3,6 +3,7 @@ use Rattle.std.specs.Prelude.{◌≡◌, ℕ, ◌<◌, ◌≤◌, List, [], ◌�
 use Rattle.hist_log.specs.declared.entry.Entry.{Entry}
 use Rattle.hist_log.specs.History.{IsLegal, operations}
 use Rattle.hist_log.specs.Merge.{merged, AreInOrder, AreWithin, ReadsFit}
+use Rattle.shfl_table.specs.declared.kept.Action.{Action}
 use Rattle.shfl_table.specs.declared.view.Part.{Part}
 use Rattle.shfl_table.specs.ThreadRuns.{RanUntilClosed}
 use Rattle.shfl_table.specs.Histories.{HasSeen, actions_by}
@@ -39,8 +40,8 @@ ArePartsOf [] [] = Unit {0}
 ArePartsOf (p ∷ ps) (x ∷ xs) = (x ≡ part x.attempts p) × ArePartsOf ps xs
 ArePartsOf _ _ = ⊥
 
--- all that was done to the lock is a run of the model, in which these passes did what they tell
-pub record HasRunOf {E : Type 0} (cell : RwCellModel) (passes : List (RwPassModel E)) : Type 0 where
+-- all that was done to the lock is a run of the model, in which these passes did what they tell, and whose holds have made the writes
+pub record HasRunOf {E : Type 0} (cell : RwCellModel) (passes : List (RwPassModel E)) (writes : List Action) : Type 0 where
   pub parts : List Part
   pub told : ArePartsOf passes parts
-  pub run : RanUntilClosed cell.id.rules cell.id.attrs cell.count parts
+  pub run : RanUntilClosed cell.id.rules cell.id.attrs cell.count parts writes

@@ -85,7 +85,10 @@ impl<O: Object + Drop> RwCellOf<Book<O>, Entry<O>, O> {
             self passes.items result.1.items (map (λ v. v.items) result.2.items) }
 
         // All that was done to the lock is one list of changes, in which each pass did what it tells, and nobody else did anything.
-        ensures run { HasRunOf self passes.items }
+        // The writes are what the holds in it have made, in the order in which they ended: each by its worker, while that one held the
+        // lock as a writer.
+        ensures run { HasRunOf self passes.items
+            (actions O.call_numbers O.reply_numbers result.1.items) }
     {
         let RwCellOf {
             board,

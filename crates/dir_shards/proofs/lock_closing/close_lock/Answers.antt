@@ -1,13 +1,13 @@
-use Rattle.std.proofs.Common.{◌≡◌, ◌<◌, ◌≤◌, ℕ, ◌+◌, ◌-◌, ◌∷◌, ◌++◌, [], length, slice_index_or, sym, refl, ap, ◌∙◌, subst, arith, length-append}
+use Rattle.std.proofs.Common.{◌≡◌, ◌<◌, ◌≤◌, ℕ, List, ◌+◌, ◌-◌, ◌∷◌, ◌++◌, [], length, slice_index_or, sym, refl, ap, ◌∙◌, subst, arith, length-append}
 use Rattle.std.proofs.lemmas.Option.{slice_get-get_or, slice_get_within}
-use Rattle.shfl_table.specs.declared.view.Part.{Part}
+use Rattle.shfl_table.specs.declared.kept.Action.{Action}
 use Rattle.shfl_table.specs.PassModel.{BoardModel, ClosingModel}
 use Rattle.shfl_table.specs.ThreadRuns.{RanUntilClosed}
 use Rattle.dir_shards.specs.ShardPasses.{ShardPassModel, without_last}
 use Rattle.dir_shards.specs.Closings.{EndsOn, part_at}
 use Rattle.dir_shards.proofs.Places.{snoc_same, all_got}
 use Rattle.dir_shards.proofs.LockEnds.{AreShorter, AreBack, none_shorter, shorter_more, all_shorter, none_back, back_more, all_back, now_is}
-use Rattle.dir_shards.proofs.LockRuns.{HaveTold, none_told, told_more, told_all}
+use Rattle.dir_shards.proofs.LockRuns.{HaveTold, none_told, told_more, no_history, told_all}
 use Rattle.dir_shards.proofs.lock_closing.close_lock.Goals as goal
 
 pub loop-k-init : goal.loop-k-init
@@ -71,5 +71,8 @@ returns-clause-asked c = let v = c.loop-k.invariant in let test = c.loop-k-test.
 
 pub returns-clause-run : goal.returns-clause-run
 returns-clause-run c dir locks = let v = c.loop-k.invariant in let test = c.loop-k-test.false in let long = v.passes.long in
+    let values = c.finish-values.result in let r = c.finish-values.ensures.run in
+    let slots = ap (λ (b : BoardModel). b.id.table.slots) v.board in let one = c.requires.one in let len = c.finish-values.ensures.len in let ok = values.ok.0 in
+    let none = no_history c.loop-k.closing.board.initial_state r.0 values.items (omega arith) r.1 in
     told_all c.loop-k.k dir c.args.board.count c.args.board.id c.args.passes.now c.loop-k.closing.parts (omega arith) v.told locks
-    (subst (λ (b : BoardModel). RanUntilClosed b.id.rules b.id.attrs b.count c.loop-k.closing.parts) v.board c.finish-values.ensures.run)
+    (subst (λ (z : BoardModel × List Action). RanUntilClosed z.0.id.rules z.0.id.attrs z.0.count c.loop-k.closing.parts z.1) (λ i. (v.board i, sym none i)) r.2)

@@ -200,8 +200,9 @@ returns-clause-reads g c = let d = (goal.at.returns-clause-reads g c).After-part
 
 pub returns-clause-run : goal.returns-clause-run
 returns-clause-run g c = let d = (goal.at.returns-clause-run g c).After-parts_of-copies in let b = all-back g (goal.at.returns-clause-run g c).In_default-pop in
-    let i = c.loop-next.invariant in record {
+    let i = c.loop-next.invariant in let r = c.finish.ensures.run in
+    let made = (c.parts_of-copies.ensures.parts c.loop-next.closing.board.initial_state r.0 r.1).0 in record {
       parts = c.loop-next.closing.parts;
       told = all-told c.args.passes.items c.loop-next.passes.items c.loop-next.closing.parts (taken g d b) i.6;
-      run = subst (λ (z : RwCellModel). RanUntilClosed z.id.rules z.id.attrs z.count c.loop-next.closing.parts) i.0 c.finish.ensures.run;
+      run = subst (λ (z : RwCellModel × List Action). RanUntilClosed z.0.id.rules z.0.id.attrs z.0.count c.loop-next.closing.parts z.1) (λ j. (i.0 j, sym made j)) r.2;
     }
