@@ -29,7 +29,7 @@ impl<'s, 'a, T: Drop> Drop for MutexGuard<'s, 'a, T> {
             → self.exit.0.now ≡ record self.entry.seat.now { held = rest } }
     {
         let MutexGuard { seat, lock, value } = self;
-        seat.put_back(lock, value);
+        let _ = seat.put_back(lock, value);
     }
 }
 

@@ -122,47 +122,64 @@ impl<'a, T: Drop> MutexSeat<'a, T> {
         None
     }
 
-    // Waits for the lock, and has its value out.
-    fn take<C: Chooser, Rt: Wait>(&mut self, rt: &Rt, lock: u32, chooser: &mut C) -> T
-        requires inside { lock < self.old.locks }
-        requires free { is_among lock self.old.held ≡ false }
-        requires room { length self.old.held < self.old.most }
+    /// Locks a mutex, and waits for it as `wait_for` of `shfl_arena` does; the value comes out, and no other seat has it before `put_back`.
+    pub fn take<C: Chooser, Rt: Wait>(
+        &mut self,
+        rt: &Rt,
+        lock: u32,
+        chooser: &mut C,
+    ) -> Result<T, LockError>
         ensures home { C.home chooser.new ≡ C.home chooser.old }
-        ensures held { self.new ≡ record self.old { held = lock ∷ self.old.held } }
+        ensures held { IfOk result (λ _. self.new ≡ record self.old {
+          held = lock ∷ self.old.held;
+        }) }
+        ensures refused { IfErr result (λ e. Refuses self.old lock e) }
+        ensures unchanged { IfErr result (λ _. self.new ≡ self.old) }
     {
+        if let Some(refusal) = self.refusal(lock) {
+            return Err(refusal);
+        }
         let attr = self.attr;
         let value = self.seat.lock_value(rt, self.arena, lock, &attr, chooser);
         self.held.push_reserved(lock);
-        value
+        Ok(value)
     }
 
-    // Has the value out, where the lock is free.
-    fn try_take(&mut self, lock: u32) -> Option<T>
-        requires inside { lock < self.old.locks }
-        requires free { is_among lock self.old.held ≡ false }
-        requires room { length self.old.held < self.old.most }
-        ensures some { IfSome result (λ _. self.new ≡ record self.old {
+    /// Locks a mutex by one operation, where it is free, and the value comes out likewise.
+    pub fn try_take(&mut self, lock: u32) -> Result<T, LockError>
+        ensures held { IfOk result (λ _. self.new ≡ record self.old {
           held = lock ∷ self.old.held;
         }) }
-        ensures none { IsNone result → self.new ≡ self.old }
+        ensures refused { IfErr result (λ e. Refuses self.old lock e) }
+        ensures unchanged { IfErr result (λ _. self.new ≡ self.old) }
     {
+        if let Some(refusal) = self.refusal(lock) {
+            return Err(refusal);
+        }
         if self.seat.attempt(self.arena, lock, Mode::Write).is_err() {
-            return None;
+            return Err(LockError::Busy);
         }
         let value = self.seat.take_value(self.arena, lock);
         self.held.push_reserved(lock);
-        Some(value)
+        Ok(value)
     }
 
-    // Puts the value back and unlocks, where this is the lock taken last; else the value is dropped, and the lock stays locked.
-    pub(crate) fn put_back(&mut self, lock: u32, value: T)
+    /// Puts the value of the mutex that it has locked last back and unlocks it. Of another mutex the value is given back, and nothing changes.
+    pub fn put_back(&mut self, lock: u32, value: T) -> Result<(), T>
         ensures last { (rest : _) → self.old.held ≡ lock ∷ rest
-            → self.new ≡ record self.old { held = rest } }
+            → IsOk result × (self.new ≡ record self.old { held = rest }) }
+        ensures unchanged { IfErr result (λ back. (back ≡ value) × (self.new ≡ self.old)) }
     {
         match self.held.pop() {
-            Some(last) if last == lock => self.seat.unlock_value(self.arena, lock, value),
-            Some(other) => self.held.push_reserved(other),
-            None => {}
+            Some(last) if last == lock => {
+                self.seat.unlock_value(self.arena, lock, value);
+                Ok(())
+            }
+            Some(other) => {
+                self.held.push_reserved(other);
+                Err(value)
+            }
+            None => Err(value),
         }
     }
 
@@ -182,10 +199,7 @@ impl<'a, T: Drop> MutexSeat<'a, T> {
         ensures same_reference { IfOk result (λ g. g.seat.ghost_name ≡ self.entry.ghost_name) }
         ensures refused { IfErr result (λ e. Refuses self.old lock e) }
     {
-        if let Some(refusal) = self.refusal(lock) {
-            return Err(refusal);
-        }
-        let value = self.take(rt, lock, chooser);
+        let value = self.take(rt, lock, chooser)?;
         Ok(MutexGuard::new(self, lock, value))
     }
 
@@ -198,12 +212,7 @@ impl<'a, T: Drop> MutexSeat<'a, T> {
         ensures same_reference { IfOk result (λ g. g.seat.ghost_name ≡ self.entry.ghost_name) }
         ensures refused { IfErr result (λ e. Refuses self.old lock e) }
     {
-        if let Some(refusal) = self.refusal(lock) {
-            return Err(refusal);
-        }
-        match self.try_take(lock) {
-            Some(value) => Ok(MutexGuard::new(self, lock, value)),
-            None => Err(LockError::Busy),
-        }
+        let value = self.try_take(lock)?;
+        Ok(MutexGuard::new(self, lock, value))
     }
 }
