@@ -1,9 +1,10 @@
-/* What the files of the library share: the process's arenas, its threads, and where they sleep. */
+/* What the files of the library share: the process's arenas, its threads, and where they sleep. Nothing of it is proved: what is, seats.h declares. */
 #ifndef SHFL_INSIDE_H
 #define SHFL_INSIDE_H
 #include <errno.h>
 #include "futex.h"
 #include "include/libshfl.h"
+#pragma GCC visibility push(hidden) /* found without a table of addresses */
 #include "seats.h"
 
 #define SHFL_LOCKS_USUAL 65536
@@ -32,8 +33,10 @@ void shfl_guard_unlock(shfl_guard *guard);
 /* Where the threads of a lock sleep. It decides nothing about who holds the lock: a word of it that is wrong costs time. It is all
  * zero while nobody waits, but for what was counted. What each unlock reads stands first. */
 struct shfl_parking {
-    uint32_t head_asleep; /* 1 while the queue's head sleeps or is about to */
-    uint32_t outside; /* how many sleep outside the queue, or are about to */
+    union { /* 1 while the queue's head sleeps or is about to; how many sleep outside the queue, or are about to; both */
+        struct { uint32_t head_asleep, outside; };
+        uint64_t sleepers;
+    };
     uint32_t inside; /* how many wait otherwise, while somebody sleeps outside; those who queue always count */
     uint32_t queued; /* how many queue */
     uint32_t wakeups; /* changes with each wakeup outside */
@@ -78,22 +81,19 @@ struct shfl_total {
 /* A read lock that a thread took again. */
 struct shfl_again { uint32_t lock, times; };
 
-/* In the child of a fork, of the thread that forked and had locks; and of all threads, while a lock is recorded. */
-enum { SHFL_IS_STALE = 1, SHFL_IS_WATCHED = 2 };
+/* In the child of a fork, of the thread that forked and had locks; of all threads, while a lock is recorded; of one that took a lock again. */
+enum { SHFL_IS_STALE = 1, SHFL_IS_WATCHED = 2, SHFL_HAS_AGAIN = 4 };
 
-/* A thread, or a place for one. The first line is written by those who wake it, too; what each lock and unlock reads stands first in the next. */
+/* A thread, or a place for one. What each lock and unlock reads stands first; the last line is written by those who wake it, too. */
 struct shfl_thread {
-    uint32_t asleep; /* 1 while it sleeps in the queue, or is about to */
-    uint32_t unused[31];
     struct shfl_seat seat;
     struct shfl_counted *known; /* where it looks first when it took a lock: its counts, or none while a lock is recorded */
     uint32_t mark; /* its number plus one, and in the low half its socket */
     uint32_t holding; /* how many locks it has */
-    uint32_t again_count;
-    uint32_t unusual; /* bits: why it looks twice when it gives a lock back */
+    uint32_t unusual, number; /* bits: why it looks twice when it gives a lock back; its number */
     struct shfl_counted *counts;
     struct shfl_again *again;
-    uint32_t again_room, number;
+    uint32_t again_room, again_count;
     uint32_t follows, version; /* the class whose policy a seat of it follows, plus one; and which version of it */
     struct shfl_seat *follower; /* that seat */
     uint32_t in_round; /* the class whose policy answers its round, plus one */
@@ -104,7 +104,8 @@ struct shfl_thread {
     uint64_t attr; /* its attributes, as its seat in the first arena has them */
     uint32_t tid; /* the system's number, once it was recorded */
     uint8_t aside; /* it lets others go first, once */
-} __attribute__((aligned(128)));
+    uint32_t asleep __attribute__((aligned(128))); /* 1 while it sleeps in the queue, or is about to */
+};
 
 /* A thread's seat in an arena behind the first one, on a line of its own. */
 struct shfl_desk { struct shfl_seat seat; } __attribute__((aligned(64)));
@@ -245,7 +246,7 @@ static inline uint64_t shfl_tag(uint32_t lock) {
     return (uint64_t)__atomic_load_n(&shfl_parking_of(lock)->generation, __ATOMIC_RELAXED) << 32 | (lock + 1);
 }
 
-static inline uint32_t shfl_counted_at(uint32_t lock) { return lock * 2654435761u >> (32 - SHFL_COUNTED_BITS); }
+static inline uint32_t shfl_counted_at(uint32_t lock) { return (lock + 1) * 2654435761u >> (32 - SHFL_COUNTED_BITS); }
 
 /* Where this thread counts what it does at a lock. */
 static inline struct shfl_stat *shfl_counts_of(struct shfl_thread *me, uint32_t lock) {
@@ -295,4 +296,5 @@ static inline void shfl_given(struct shfl_thread *me, const void *lock) {
 #endif
     (void)lock;
 }
+#pragma GCC visibility pop
 #endif

@@ -6,7 +6,9 @@
  * it here. The words are all changed before the record begins, and back after its end.
  *
  * The ring is mapped by the first record. Its memory goes back to the system at the end of each, and the addresses stay, so a thread that
- * is late writes into nothing else; its event has the old record's number and isn't read. */
+ * is late writes into nothing else; its event has the old record's number and isn't read.
+ *
+ * Nothing of this is proved, and who holds a lock doesn't depend on it. */
 #include <string.h>
 #include <sys/mman.h>
 #include "arenas.h"
