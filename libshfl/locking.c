@@ -52,10 +52,8 @@ static SHFL_COLD int other_answer(struct shfl_thread *me, uint32_t *word, uint32
 
 void shfl_count_taken_anew(struct shfl_thread *me, uint32_t number, bool shared) {
     uint32_t lock = number - 1;
-    struct shfl_parking *parking = shfl_parking_of(lock);
-    struct shfl_stat *counts = shfl_counts_of(me, lock);
-    shfl_more(&counts->taken, 1);
-    if (!shared && __atomic_load_n(&parking->last, __ATOMIC_RELAXED) != me->mark) shfl_count_hand_over(parking, counts, me->mark);
+    shfl_more(shared ? &shfl_counts_of(me, lock)->taken : &shfl_parking_of(lock)->taken, 1);
+    if (!shared) shfl_count_hand_over(lock, shfl_mark_of(me));
     shfl_happens(me, lock, shared ? SHFL_TAKES_SHARED : SHFL_TAKES_ALONE);
 }
 
@@ -138,7 +136,7 @@ int shfl_take_until(uint32_t *word, bool shared, clockid_t clock, const struct t
 /* In the child of a fork a lock is given back, in whose words threads may stand that aren't there: the seat keeps that number, and the lock's
  * next use gives it another. */
 static SHFL_COLD bool leave_number(struct shfl_thread *me, uint32_t *word, uint32_t lock) {
-    if (!shfl_parking_of(lock)->stale || shfl_hold(me, lock) == 0) return false;
+    if (!shfl_process.totals[lock].stale || shfl_hold(me, lock) == 0) return false;
     shfl_given(me, word);
     shfl_leave_number(lock);
     __atomic_store_n(word, 0, __ATOMIC_SEQ_CST);

@@ -25,12 +25,13 @@ SHFL_IN_LINE struct shfl_counted *shfl_known_at(struct shfl_thread *me, uint32_t
 /* The parking of the lock of this number, which isn't 0. */
 SHFL_IN_LINE struct shfl_parking *shfl_parking_by(uint32_t number) { return &shfl_process.parkings[(size_t)number - 1]; }
 
-/* Whoever took the lock alone last counts there already, unless another lock has come to that place since, or one is recorded. */
+/* Who has the lock alone counts at the lock, and in line if it was the last one, too, and none is recorded; a reader in its own table. */
 SHFL_IN_LINE void shfl_count_taken(struct shfl_thread *me, uint32_t number, bool shared) {
-    struct shfl_counted *at = shfl_known_at(me, number - 1);
+    struct shfl_parking *parking = shfl_parking_by(number);
+    struct shfl_counted *at = shared ? shfl_known_at(me, number - 1) : NULL;
     bool counts = shared ? at->tag == shfl_tag(number - 1)
-                         : (uint32_t)at->tag == number && __atomic_load_n(&shfl_parking_by(number)->last, __ATOMIC_RELAXED) == me->mark;
-    if (SHFL_LIKELY(counts)) shfl_more(&at->counts.taken, 1);
+                         : __atomic_load_n(&parking->last, __ATOMIC_RELAXED) == __atomic_load_n(&me->mark, __ATOMIC_RELAXED);
+    if (SHFL_LIKELY(counts)) shfl_more(shared ? &at->counts.taken : &parking->taken, 1);
     else shfl_count_taken_anew(me, number, shared);
 }
 
