@@ -2,7 +2,8 @@
 # libshfl's locks beside pthread's, in turn (bench/libshfl.c): a free lock's lock and unlock, the best and the median of short runs; and holds a
 # second by 4, 16 and 256 threads, holds of 0, 0.1, 1 and 10 microseconds and as long between two, with the longest wait, Jain's index and the
 # processors used. And a million locks drawn at random by one thread and by four, with what a lock takes of memory (bench/many.c). The median and
-# the worst of the rounds. Words: libshfl.sh [ROUNDS [PART ..]]; a part is free, 4 (threads), 16, and these three where none is given; 256, many; or
+# the worst of the rounds. Words: libshfl.sh [ROUNDS [PART ..]]; a part is free, 4 (threads), 16, and these three where none is given; 256, many; park,
+# 256 threads in the form rw-park, 20 times as many rounds, of which each has half a minute, and how many didn't end or lost a count; or
 # instructions, how many valgrind counts in a free lock's lock and unlock, with the loop around them. 5 rounds where none are said. With
 # LIBSHFL_PREFIX set what libshfl/install put there is timed; else it is built first.
 set -u
@@ -52,6 +53,17 @@ crowd() {
     done
 }
 
+park() {
+    local lock amiss=0 ours runs=$((20 * rounds))
+    for ((k = 0; k < runs; k++)); do
+        for lock in shfl mutex; do SHFL_FORM=rw-park timeout -k 1 30 "$room/libshfl" crowd "$lock" 256 100 100 200 >>"$room/park.$lock" || { [ "$lock" = mutex ] || amiss=$((amiss + 1)); }; done
+    done
+    for lock in shfl mutex; do awk '{ print $1 }' "$room/park.$lock" >"$room/park.$lock.1"; done
+    ours=($(told "$room/park.shfl.1" less) $(told "$room/park.mutex.1" less))
+    printf '%-26s %12s %12s %12s %12s %6s   %s\n' 'rw-park, 256 threads' shfl worst mutex worst ratio 'runs that hung or lost a count'
+    printf '%-26s %12s %12s %12s %12s %6s   %s\n' 'hold and think 100 ns' "${ours[@]}" "$(awk -v a="${ours[0]}" -v b="${ours[2]}" 'BEGIN { printf "%.2f", a / b }')" "$amiss of $runs"
+}
+
 # 10,000 pairs more are so many instructions more
 all_of() { valgrind --tool=callgrind --callgrind-out-file=/dev/null "$room/libshfl" pairs "$1" "$2" 2>&1 | awk '/Collected/ { print $NF }'; }
 instructions() {
@@ -83,6 +95,7 @@ for part in "${parts[@]}"; do
     free) alone ;;
     4 | 16 | 256) crowd "$part" ;;
     many) many ;;
+    park) park ;;
     instructions) instructions ;;
     *) echo "libshfl.sh: no part is called $part" >&2; exit 2 ;;
     esac

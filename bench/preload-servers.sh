@@ -2,12 +2,12 @@
 # Servers as Debian has them, unmodified, under libshfl_preload.so beside themselves without it, in turn: memcached, redis with four threads for its connections, MariaDB under
 # sysbench; and a driver over libleveldb. Each is given work by many clients at once whose outcome is the same whatever came first (preload/keys.py, preload/rows.sh,
 # preload/leveldb.c), and what it has at the end must be the same; then a load of so many seconds, of which the calls a second are told, and the processor time that the server
-# used for each, which other work on the machine changes less: median; worst. As far as they are installed (memcached, redis-server, redis-tools, mariadb-server, sysbench,
-# libleveldb-dev). Words: preload-servers.sh [SECONDS [TIMES [PROGRAM ..]]]; 5 seconds, three times, memcached redis mariadb leveldb. PRELOAD names a library that is there
-# already, PORT a port of the loopback (21411).
+# used for each, which other work on the machine changes less: median; worst, and by how much the medians differ, as a table at the end. As far as they are installed (memcached,
+# redis-server, redis-tools, mariadb-server, sysbench, libleveldb-dev). Words: preload-servers.sh [SECONDS [TIMES [PROGRAM ..]]]; 4 seconds, five times, memcached redis mariadb
+# leveldb. PRELOAD names a library that is there already, PORT a port of the loopback (21411).
 set -u
 top="$(cd "$(dirname "$(readlink -f "${BASH_SOURCE[0]}")")/.." && pwd)"
-seconds="${1:-5}" times="${2:-3}" port="${PORT:-21411}"
+seconds="${1:-4}" times="${2:-5}" port="${PORT:-21411}"
 programs=("${@:3}")
 [ "${#programs[@]}" -gt 0 ] || programs=(memcached redis mariadb leveldb)
 room="$(mktemp -d)"
@@ -72,12 +72,16 @@ redis_once() {
     serve "$1" "redis-cli -p $port ping | grep -q PONG" redis-server --bind 127.0.0.1 --port "$port" --save '' --appendonly no --io-threads 4 --io-threads-do-reads yes \
         --enable-debug-command yes --dir "$room"
     { timeout 120 python3 "$top/bench/preload/keys.py" redis "$port" && redis-cli -p "$port" debug digest; } >"$room/$1" || complain "$1: the clients of redis, status $?"
-    local before calls=$((seconds * 20000)) began=$EPOCHREALTIME
+    local before calls=0 began=$EPOCHREALTIME
     before="$(ticks)"
-    timeout 240 redis-benchmark -h 127.0.0.1 -p "$port" -t set,get,incr -n "$calls" -c 50 -P 8 -q >"$room/load" 2>&1 || complain "$1: redis-benchmark, status $?"
-    local took
+    while [ "${EPOCHREALTIME%.*}" -lt $((${began%.*} + seconds)) ]; do
+        timeout 60 redis-benchmark -h 127.0.0.1 -p "$port" -t set,get,incr -n 3000 -c 50 -P 8 -q >"$room/load" 2>&1 || complain "$1: redis-benchmark, status $?"
+        calls=$((calls + 3000))
+    done
+    local took counted
     took="$(awk -v from="$began" -v to="$EPOCHREALTIME" 'BEGIN { print to - from }')"
-    redis-cli -p "$port" get counter:__rand_int__ >>"$room/$1" # as many as were asked for
+    counted="$(redis-cli -p "$port" get counter:__rand_int__)"
+    [ "$counted" = "$calls" ] || complain "$1: redis counted $counted of $calls"
     rate "$1" "$(awk -v calls="$calls" -v took="$took" 'BEGIN { printf "%.0f", 3 * calls / took }')" "$(($(ticks) - before))" "$took"
     end "$1"
 }
@@ -86,8 +90,9 @@ mariadb_once() {
     local at="$room/mariadb.socket" words
     words=(--db-driver=mysql --mysql-socket="$at" --mysql-user=root --mysql-db=test --threads=8 --tables=4 --table-size=2000)
     rm -rf "$room/data"
-    mariadb-install-db --no-defaults --user=root --datadir="$room/data" --auth-root-authentication-method=normal --skip-test-db >"$room/load" 2>&1 ||
+    [ -d "$room/empty" ] || mariadb-install-db --no-defaults --user=root --datadir="$room/empty" --auth-root-authentication-method=normal --skip-test-db >"$room/load" 2>&1 ||
         complain "mariadb-install-db: $(tail -n 3 "$room/load")"
+    cp -r "$room/empty" "$room/data"
     serve "$1" "mariadb-admin --no-defaults -S $at ping" mariadbd --no-defaults --user=root --datadir="$room/data" --skip-networking --socket="$at" \
         --innodb-flush-log-at-trx-commit=0 --innodb-buffer-pool-size=64M --pid-file="$room/mariadb.pid"
     timeout 240 bash "$top/bench/preload/rows.sh" "$at" >"$room/$1" 2>&1 || complain "$1: the clients of MariaDB: $(tail -n 3 "$room/$1")"
@@ -108,16 +113,24 @@ leveldb_once() {
     rate "$1" "$(tail -n 1 "$room/load")" $(awk -v calls="$((8 * seconds * 2000 * 85 / 10))" -v rate="$(tail -n 1 "$room/load")" '{ print ($1 + $2) * 100, calls / rate }' "$room/time")
 }
 
-# the median and the worst of some numbers
+# the median and the worst of some numbers, and by how many hundredths one median is above another
 told() { sort "-g$2" "$1" | awk '{ at[NR] = $1 } END { printf "%s; %s", at[int((NR + 1) / 2)], at[1] }'; }
+above() { awk -v a="${1%;*}" -v b="${2%;*}" 'BEGIN { printf "%+.1f %%", (b / (a + 1e-9) - 1) * 100 }'; }
+# a line of the table, of what stands in the files NAME.plain and NAME.preloaded
+line() {
+    local plain preloaded
+    plain="$(told "$room/$2.plain" "$3")" preloaded="$(told "$room/$2.preloaded" "$3")"
+    echo "| $1 | $plain | $preloaded | $(above "$plain" "$preloaded") |" >>"$room/table"
+}
 compare() {
     rm -f "$room"/rate.* "$room"/cost.*
     for _ in $(seq "$times"); do
         for how in plain preloaded; do "$1_once" "$how"; done
         cmp -s "$room/plain" "$room/preloaded" || { complain "$1: another output"; diff "$room/plain" "$room/preloaded" | head -n 5 >&2; }
     done
-    echo "$1: calls a second $(told "$room/rate.plain" ""), preloaded $(told "$room/rate.preloaded" ""); microseconds of processors a call" \
-        "$(told "$room/cost.plain" r), preloaded $(told "$room/cost.preloaded" r); load of the machine $(cut -d ' ' -f 1 /proc/loadavg)"
+    line "$1: calls a second" rate ""
+    line "$1: microseconds of processors a call" cost r
+    echo "$1: done, load of the machine $(cut -d ' ' -f 1 /proc/loadavg)" >&2
 }
 
 "${CC:-cc}" -std=gnu11 -O2 -Wall -Wextra "$top/tests/walk/load.c" -pthread -o "$room/walk" || exit 1
@@ -131,4 +144,6 @@ for program in "${programs[@]}"; do
     esac
     compare "$program"
 done
+printf '%s\n' "| Program, $times runs of $seconds s each in turn | By itself: median; worst | Preloaded | Medians apart |" '|---|---|---|---|'
+cat "$room/table"
 exit "$failed"

@@ -1,6 +1,7 @@
 /* The arenas of the process. The first one opens with it; where no number is left for a lock, one more does, of as many locks, and the numbers go on
  * there. In each arena a thread has the seat of its own number. A call first tries the first arena's, which refuses the lock of another one as a lock
- * that isn't there, and only then comes here: so locks of the first arena pay nothing for the others. */
+ * that isn't there, and only then comes here: so locks of the first arena pay nothing for the others. Proved is what a seat does in its arena; which
+ * arena it is isn't. */
 #ifndef SHFL_ARENAS_H
 #define SHFL_ARENAS_H
 #include "inside.h"

@@ -1,4 +1,5 @@
-/* In the checked build (SHFL_CHECKED) a call that no right program makes ends the process, with the lock's address; else it is answered. */
+/* In the checked build (SHFL_CHECKED) a call that no right program makes ends the process, with the lock's address; else it is answered.
+ * That the seat refuses it is proved; the message, and the list of what a thread has, is this file's. */
 #include <stdio.h>
 #include <stdlib.h>
 #include "inside.h"

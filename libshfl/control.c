@@ -1,6 +1,6 @@
 /* The control socket: where the environment asks for it, one thread answers requests of the same user at a Unix socket. It takes no lock of
  * the program's, and the threads of the program don't wait for it: a client that hangs is dropped after a second, or sooner where others may
- * wait, one that asks without end waits for its turn, and what a request is answered stands in requests.c.
+ * wait, one that asks without end waits for its turn, and what a request is answered stands in requests.c. Nothing of this is proved.
  *
  * SHFL_CONTROL names the directory of the socket, which is the user's own and open to nobody else; 1 stands for XDG_RUNTIME_DIR/shfl. */
 #define _GNU_SOURCE

@@ -1,23 +1,29 @@
-/* What threads count at locks. Each has a small table of its own, by the lock's number; where two locks meet in a place, what stands
- * there is added to the first one's totals. So a thread has 24 KB and a lock 96 bytes (and what waits.c has), however long they count, and the sum of a lock's
- * totals and of its entries in all tables is exact. */
+/* What threads count at locks. How often a lock was taken alone, and handed over so, stands at the lock, where who has it writes. For the rest each
+ * thread has a small table of its own, by the lock's number; where two locks meet in a place, what stands there is added to the first one's totals. So a thread has 24 KB and a lock 96 bytes (and what waits.c has), however long they count, and the sum of a lock's
+ * totals and of its entries in all tables is exact. Nothing of this is proved, and who holds a lock doesn't depend on it. */
 #include <string.h>
 #include "inside.h"
 
 static uint64_t read_of(const uint64_t *count) { return __atomic_load_n(count, __ATOMIC_RELAXED); }
 
+/* Where nothing was counted nothing is written, which another thread may do. */
+static void add_one(uint64_t *to, const uint64_t *from) {
+    uint64_t more = read_of(from);
+    if (more > 0) shfl_more(to, more);
+}
+
 /* Adds what was counted, of which another thread may be writing. */
 static void add(struct shfl_stat *to, const struct shfl_stat *from) {
-    shfl_more(&to->taken, read_of(&from->taken));
-    shfl_more(&to->contended, read_of(&from->contended));
-    shfl_more(&to->queued, read_of(&from->queued));
-    shfl_more(&to->waited_ns, read_of(&from->waited_ns));
+    add_one(&to->taken, &from->taken);
+    add_one(&to->contended, &from->contended);
+    add_one(&to->queued, &from->queued);
+    add_one(&to->waited_ns, &from->waited_ns);
     if (read_of(&from->longest_ns) > read_of(&to->longest_ns)) __atomic_store_n(&to->longest_ns, read_of(&from->longest_ns), __ATOMIC_RELAXED);
-    shfl_more(&to->within, read_of(&from->within));
-    shfl_more(&to->across, read_of(&from->across));
-    shfl_more(&to->questions, read_of(&from->questions));
-    shfl_more(&to->yes, read_of(&from->yes));
-    shfl_more(&to->skipped, read_of(&from->skipped));
+    add_one(&to->within, &from->within);
+    add_one(&to->across, &from->across);
+    add_one(&to->questions, &from->questions);
+    add_one(&to->yes, &from->yes);
+    add_one(&to->skipped, &from->skipped);
 }
 
 static void clear(struct shfl_stat *counts) {
@@ -71,9 +77,10 @@ SHFL_COLD struct shfl_stat *shfl_count_anew(struct shfl_counted *at, uint32_t lo
 }
 
 /* The thread with this mark holds the lock alone. Who comes again after itself hands nothing over, whatever its socket is now. */
-SHFL_COLD void shfl_count_hand_over(struct shfl_parking *parking, struct shfl_stat *counts, uint32_t mark) {
-    uint32_t last = __atomic_load_n(&parking->last, __ATOMIC_RELAXED);
-    __atomic_store_n(&parking->last, mark, __ATOMIC_RELAXED);
+SHFL_COLD void shfl_count_hand_over(uint32_t lock, uint32_t mark) {
+    struct shfl_stat *counts = &shfl_process.totals[lock].counts;
+    uint32_t *at = &shfl_parking_of(lock)->last, last = __atomic_load_n(at, __ATOMIC_RELAXED);
+    if (last != mark) __atomic_store_n(at, mark, __ATOMIC_RELAXED);
     if (last == 0 || last >> 16 == mark >> 16) return;
     shfl_more((uint16_t)last == (uint16_t)mark ? &counts->within : &counts->across, 1);
 }
@@ -91,6 +98,8 @@ void shfl_count_end(uint32_t lock) {
     struct shfl_parking *parking = shfl_parking_of(lock);
     struct shfl_total *total = &shfl_process.totals[lock];
     begin_move(lock);
+    add_one(&total->counts.taken, &parking->taken);
+    __atomic_store_n(&parking->taken, 0, __ATOMIC_RELAXED);
     add_ended(shfl_load(&parking->class_of), &total->counts, NULL, lock);
     clear(&total->counts);
     shfl_waits_end(lock);
@@ -110,6 +119,7 @@ void shfl_sum_lock(uint32_t lock, struct shfl_stat *out, struct shfl_waits *wait
         memset(waits, 0, sizeof *waits);
         shfl_waits_add(waits, &shfl_process.lock_waits[lock]);
         add(out, &total->counts);
+        add_one(&out->taken, &shfl_parking_of(lock)->taken);
         for (uint32_t k = 0; k < shfl_load(&shfl_process.threads_seen); k++) {
             struct shfl_counted *at = &shfl_process.threads[k].counts[shfl_counted_at(lock)];
             if (__atomic_load_n(&at->tag, __ATOMIC_SEQ_CST) != tag) continue;
@@ -133,7 +143,9 @@ void shfl_sum_class(uint32_t class_of, struct shfl_class_stat *out, struct shfl_
     for (uint32_t k = 0, given = shfl_numbers_given(); k < given; k++) {
         struct shfl_total *total = &all->totals[shfl_number_at(k)];
         if (!__atomic_load_n(&total->address, __ATOMIC_SEQ_CST)) continue;
-        if (shfl_load(&shfl_parking_of(shfl_number_at(k))->class_of) != class_of) continue;
+        struct shfl_parking *parking = shfl_parking_of(shfl_number_at(k));
+        if (shfl_load(&parking->class_of) != class_of) continue;
+        add_one(&out->counts.taken, &parking->taken);
         shfl_waits_add(waits, &all->lock_waits[shfl_number_at(k)]);
         add(&out->counts, &total->counts);
         out->locks++;

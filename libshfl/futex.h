@@ -1,4 +1,4 @@
-/* How a thread sleeps on a word, wakes others, reads the clock and pauses. */
+/* How a thread sleeps on a word, wakes others, reads the clock and pauses. Nothing of it is proved. */
 #ifndef SHFL_FUTEX_H
 #define SHFL_FUTEX_H
 #include <errno.h>

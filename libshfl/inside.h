@@ -1,9 +1,10 @@
-/* What the files of the library share: the process's arenas, its threads, and where they sleep. */
+/* What the files of the library share: the process's arenas, its threads, and where they sleep. Nothing of it is proved: what is, seats.h declares. */
 #ifndef SHFL_INSIDE_H
 #define SHFL_INSIDE_H
 #include <errno.h>
 #include "futex.h"
 #include "include/libshfl.h"
+#pragma GCC visibility push(hidden) /* found without a table of addresses */
 #include "seats.h"
 
 #define SHFL_LOCKS_USUAL 65536
@@ -32,19 +33,19 @@ void shfl_guard_unlock(shfl_guard *guard);
 /* Where the threads of a lock sleep. It decides nothing about who holds the lock: a word of it that is wrong costs time. It is all
  * zero while nobody waits, but for what was counted. What each unlock reads stands first. */
 struct shfl_parking {
-    uint32_t head_asleep; /* 1 while the queue's head sleeps or is about to */
-    uint32_t outside; /* how many sleep outside the queue, or are about to */
+    union { /* 1 while the queue's head sleeps or is about to; how many sleep outside the queue, or are about to; both */
+        struct { uint32_t head_asleep, outside; };
+        uint64_t sleepers;
+    };
     uint32_t inside; /* how many wait otherwise, while somebody sleeps outside; those who queue always count */
     uint32_t queued; /* how many queue */
     uint32_t wakeups; /* changes with each wakeup outside */
     uint32_t promoted; /* 1 from the wakeup of one that is to queue until that one knows */
-    uint32_t holds; /* that passed those outside */
-    uint32_t next_free; /* of a lock's number that is free */
-    uint64_t woken_at, promoted_at; /* when one outside was last woken, and to queue */
-    uint32_t generation; /* which lock has this number: changes where it comes back */
-    uint32_t class_of;
+    union { uint32_t holds, next_free; }; /* that passed those outside; of a lock's number that is free */
     uint32_t last; /* the mark of the thread that took it last alone, or 0 */
-    uint32_t stale; /* 1 where the thread that forked has it, in the child */
+    uint64_t taken; /* how often it was taken alone; who has it so writes this */
+    uint64_t woken_at, promoted_at; /* when one outside was last woken, and to queue */
+    uint32_t generation, class_of; /* which lock has the number: changes where it comes back; its class */
 };
 
 _Static_assert(sizeof(struct shfl_parking) == 64, "a cache line");
@@ -57,8 +58,7 @@ struct shfl_counted {
 };
 
 /* How many locks a thread counts at a time. Where it comes to another one in a place, it adds what stands there to the lock's own. */
-#define SHFL_COUNTED_BITS 8
-#define SHFL_COUNTED (1u << SHFL_COUNTED_BITS)
+enum { SHFL_COUNTED_BITS = 8, SHFL_COUNTED = 1 << SHFL_COUNTED_BITS };
 
 /* How long calls waited, by powers of two: the k-th place has those of less than 2^(10 + k) nanoseconds, the last one all longer ones too.
  * Written by who has waited alone. */
@@ -68,32 +68,30 @@ struct shfl_waits {
     uint64_t of[SHFL_WAITS];
 };
 
-/* What threads have given over to a lock, and where that is. */
+/* What threads have given over to a lock, and where that is. Who has the lock alone writes how often it was handed over, and nobody else. */
 struct shfl_total {
     struct shfl_stat counts;
     const void *address; /* null where the number is free */
     uint32_t moves; /* odd while a thread gives over */
+    uint32_t stale; /* 1 where the thread that forked has it, in the child */
 };
 
 /* A read lock that a thread took again. */
 struct shfl_again { uint32_t lock, times; };
 
-/* In the child of a fork, of the thread that forked and had locks; and of all threads, while a lock is recorded. */
-enum { SHFL_IS_STALE = 1, SHFL_IS_WATCHED = 2 };
+/* In the child of a fork, of the thread that forked and had locks; of all threads, while a lock is recorded; of one that took a lock again. */
+enum { SHFL_IS_STALE = 1, SHFL_IS_WATCHED = 2, SHFL_HAS_AGAIN = 4, SHFL_MARK_WATCHED = 0x8000 };
 
-/* A thread, or a place for one. The first line is written by those who wake it, too; what each lock and unlock reads stands first in the next. */
+/* A thread, or a place for one. What each lock and unlock reads stands first; the last line is written by those who wake it, too. */
 struct shfl_thread {
-    uint32_t asleep; /* 1 while it sleeps in the queue, or is about to */
-    uint32_t unused[31];
     struct shfl_seat seat;
-    struct shfl_counted *known; /* where it looks first when it took a lock: its counts, or none while a lock is recorded */
-    uint32_t mark; /* its number plus one, and in the low half its socket */
+    struct shfl_counted *known; /* where it looks first when it took a lock as a reader: its counts, or none while a lock is recorded */
+    uint32_t mark; /* its number plus one, in the low half its socket, and while a lock is recorded SHFL_MARK_WATCHED, which no lock's last has */
     uint32_t holding; /* how many locks it has */
-    uint32_t again_count;
-    uint32_t unusual; /* bits: why it looks twice when it gives a lock back */
+    uint32_t unusual, number; /* bits: why it looks twice when it gives a lock back; its number */
     struct shfl_counted *counts;
     struct shfl_again *again;
-    uint32_t again_room, number;
+    uint32_t again_room, again_count;
     uint32_t follows, version; /* the class whose policy a seat of it follows, plus one; and which version of it */
     struct shfl_seat *follower; /* that seat */
     uint32_t in_round; /* the class whose policy answers its round, plus one */
@@ -104,7 +102,8 @@ struct shfl_thread {
     uint64_t attr; /* its attributes, as its seat in the first arena has them */
     uint32_t tid; /* the system's number, once it was recorded */
     uint8_t aside; /* it lets others go first, once */
-} __attribute__((aligned(128)));
+    uint32_t asleep __attribute__((aligned(128))); /* 1 while it sleeps in the queue, or is about to */
+};
 
 /* A thread's seat in an arena behind the first one, on a line of its own. */
 struct shfl_desk { struct shfl_seat seat; } __attribute__((aligned(64)));
@@ -186,6 +185,7 @@ static inline uint32_t shfl_class_behind(const uint32_t *word) {
 }
 
 static inline struct shfl_parking *shfl_parking_of(uint32_t lock) { return &shfl_process.parkings[lock]; }
+static inline uint32_t shfl_mark_of(struct shfl_thread *me) { return __atomic_load_n(&me->mark, __ATOMIC_RELAXED) & ~(uint32_t)SHFL_MARK_WATCHED; }
 static inline struct shfl_class *shfl_class_at(uint32_t class_of) { return &shfl_process.classes[class_of % SHFL_CLASSES]; }
 
 /* The k-th number that was given, and how many were. */
@@ -195,7 +195,7 @@ int shfl_put_into(uint32_t lock, const void *address, uint32_t class_of);
 
 /* counts.c */
 struct shfl_stat *shfl_count_anew(struct shfl_counted *at, uint32_t lock, uint64_t tag);
-void shfl_count_hand_over(struct shfl_parking *parking, struct shfl_stat *counts, uint32_t mark);
+void shfl_count_hand_over(uint32_t lock, uint32_t mark);
 void shfl_count_waited(struct shfl_thread *me, uint32_t lock, uint64_t since);
 void shfl_count_end(uint32_t lock);
 void shfl_sum_lock(uint32_t lock, struct shfl_stat *out, struct shfl_waits *waits);
@@ -245,7 +245,7 @@ static inline uint64_t shfl_tag(uint32_t lock) {
     return (uint64_t)__atomic_load_n(&shfl_parking_of(lock)->generation, __ATOMIC_RELAXED) << 32 | (lock + 1);
 }
 
-static inline uint32_t shfl_counted_at(uint32_t lock) { return lock * 2654435761u >> (32 - SHFL_COUNTED_BITS); }
+static inline uint32_t shfl_counted_at(uint32_t lock) { return (lock + 1) * 2654435761u >> (32 - SHFL_COUNTED_BITS); }
 
 /* Where this thread counts what it does at a lock. */
 static inline struct shfl_stat *shfl_counts_of(struct shfl_thread *me, uint32_t lock) {
@@ -295,4 +295,5 @@ static inline void shfl_given(struct shfl_thread *me, const void *lock) {
 #endif
     (void)lock;
 }
+#pragma GCC visibility pop
 #endif

@@ -1,5 +1,6 @@
 /* What mutexes and locks for readers and writers have in common: the errors, the locks that a thread took again, the counts. Proved is that
- * a seat takes no lock that it holds, gives none back that it doesn't, and that a writer holds alone (crates/shfl_seats). */
+ * a seat takes no lock that it holds, gives none back that it doesn't, and that a writer holds alone (crates/shfl_seats). Not proved is what stands
+ * here: how often a reader took its lock, which error is answered, and that a number names one lock. */
 #include <stdlib.h>
 #include "arenas.h"
 #include "locking.h"
@@ -28,6 +29,7 @@ static int take_again(struct shfl_thread *me, uint32_t lock) {
     struct shfl_again *place = room_for_again(me);
     if (!place) return ENOMEM;
     *place = (struct shfl_again){lock, 1};
+    __atomic_fetch_or(&me->unusual, SHFL_HAS_AGAIN, __ATOMIC_SEQ_CST);
     return 0;
 }
 
@@ -35,6 +37,7 @@ static bool give_again(struct shfl_thread *me, uint32_t lock) {
     for (uint32_t k = 0; k < me->again_count; k++) {
         if (me->again[k].lock != lock) continue;
         if (--me->again[k].times == 0) me->again[k] = me->again[--me->again_count];
+        if (me->again_count == 0) __atomic_fetch_and(&me->unusual, ~(uint32_t)SHFL_HAS_AGAIN, __ATOMIC_SEQ_CST);
         return true;
     }
     return false;
@@ -47,17 +50,16 @@ static SHFL_COLD int other_answer(struct shfl_thread *me, uint32_t *word, uint32
     return answer == SHFL_NO_MEMORY ? ENOMEM : EINVAL;
 }
 
-void shfl_count_taken_anew(struct shfl_thread *me, uint32_t lock, bool shared) {
-    struct shfl_parking *parking = shfl_parking_of(lock);
-    struct shfl_stat *counts = shfl_counts_of(me, lock);
-    shfl_more(&counts->taken, 1);
-    if (!shared && __atomic_load_n(&parking->last, __ATOMIC_RELAXED) != me->mark) shfl_count_hand_over(parking, counts, me->mark);
+void shfl_count_taken_anew(struct shfl_thread *me, uint32_t number, bool shared) {
+    uint32_t lock = number - 1;
+    shfl_more(shared ? &shfl_counts_of(me, lock)->taken : &shfl_parking_of(lock)->taken, 1);
+    if (!shared) shfl_count_hand_over(lock, shfl_mark_of(me));
     shfl_happens(me, lock, shared ? SHFL_TAKES_SHARED : SHFL_TAKES_ALONE);
 }
 
 /* The thread has the lock. */
 static int had(struct shfl_thread *me, uint32_t *word, uint32_t lock, bool shared) {
-    shfl_count_taken(me, lock, shared);
+    shfl_count_taken(me, lock + 1, shared);
     shfl_taken(me, word);
     return 0;
 }
@@ -71,9 +73,14 @@ SHFL_COLD int shfl_take_first(uint32_t *word, bool shared) {
     return error ? error : shfl_take(word, shared);
 }
 
-/* An attempt in the first arena was answered so, which knows no lock of another one. */
-int shfl_take_after(struct shfl_thread *me, uint32_t *word, uint32_t lock, bool shared, uint8_t answer, const void *caller) {
-    if (answer == SHFL_BAD) answer = shfl_attempt(me, lock, shared);
+/* An attempt in the first arena was answered so, which knows no lock of another one; and none is known before its first use. */
+int shfl_take_after(struct shfl_thread *me, uint32_t *word, uint32_t number, bool shared, uint8_t answer, const void *caller) {
+    uint32_t lock = number - 1;
+    if (answer == SHFL_BAD) {
+        int error = shfl_number(word, shfl_class_behind(word), &lock);
+        if (error) return error;
+        answer = shfl_attempt(me, lock, shared);
+    }
     if (answer == SHFL_DONE) return had(me, word, lock, shared);
     if (answer != SHFL_BUSY) return other_answer(me, word, lock, shared, answer, EDEADLK);
     if (shared) shfl_ring(&shfl_parking_of(lock)->head_asleep);
@@ -129,7 +136,7 @@ int shfl_take_until(uint32_t *word, bool shared, clockid_t clock, const struct t
 /* In the child of a fork a lock is given back, in whose words threads may stand that aren't there: the seat keeps that number, and the lock's
  * next use gives it another. */
 static SHFL_COLD bool leave_number(struct shfl_thread *me, uint32_t *word, uint32_t lock) {
-    if (!shfl_parking_of(lock)->stale || shfl_hold(me, lock) == 0) return false;
+    if (!shfl_process.totals[lock].stale || shfl_hold(me, lock) == 0) return false;
     shfl_given(me, word);
     shfl_leave_number(lock);
     __atomic_store_n(word, 0, __ATOMIC_SEQ_CST);
@@ -155,7 +162,7 @@ int shfl_not_given_back(uint32_t *word) {
 /* A lock that was taken again, or one that is stale or recorded; or another one of a thread that has such a lock, or while one is recorded. */
 int shfl_give_back_other(struct shfl_thread *me, uint32_t *word, uint32_t number) {
     uint32_t lock = number - 1;
-    if (me->again_count > 0 && give_again(me, lock)) return 0;
+    if (give_again(me, lock)) return 0;
     if ((shfl_load(&me->unusual) & SHFL_IS_STALE) && lock < shfl_load(&shfl_process.lock_count) && leave_number(me, word, lock)) return 0;
     shfl_happens(me, lock, SHFL_FREES);
     return give_back_in_place(me, word, lock);

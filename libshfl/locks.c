@@ -1,5 +1,5 @@
 /* Mutexes, and locks for readers and writers: the names of locking.c's calls. The calls that wait without a deadline, and those that give back,
- * don't look for null: that would cost each free lock. */
+ * don't look for null: that would cost each free lock. What is proved of them, and what isn't, locking.c says. */
 #include "locking.h"
 #include "races.h"
 

@@ -78,8 +78,9 @@ static void in_child(void) {
     for (uint32_t k = 0; k < fresh_locks && seated > 1; k++) {
         struct shfl_parking *parking = shfl_parking_of(shfl_number_at(k));
         parking->head_asleep = parking->outside = parking->inside = parking->queued = parking->promoted = 0;
-        parking->stale = me && shfl_hold(me, shfl_number_at(k)) != 0;
-        if (parking->stale) me->unusual |= SHFL_IS_STALE;
+        bool stale = me && shfl_hold(me, shfl_number_at(k)) != 0;
+        if (stale) me->unusual |= SHFL_IS_STALE;
+        if (stale) shfl_process.totals[shfl_number_at(k)].stale = 1;
     }
     for (uint32_t k = 0; k < shfl_process.threads_seen; k++)
         if (&shfl_process.threads[k] != me) shfl_process.threads[k].in_round = 0;
@@ -159,7 +160,8 @@ SHFL_COLD int shfl_open_process(void) {
 bool shfl_set_attr(struct shfl_thread *me, uint16_t prio, uint16_t class_of, uint16_t kind) {
     unsigned cpu = 0, node = 0;
     if (syscall(SYS_getcpu, &cpu, &node, NULL)) node = 0;
-    me->mark = (me->number + 1) << 16 | (uint16_t)node;
+    uint32_t before = __atomic_load_n(&me->mark, __ATOMIC_RELAXED), mark = (me->number + 1) << 16 | node % SHFL_MARK_WATCHED;
+    while (!__atomic_compare_exchange_n(&me->mark, &before, mark | (before & SHFL_MARK_WATCHED), false, __ATOMIC_SEQ_CST, __ATOMIC_RELAXED)) {}
     me->attr = (uint16_t)node | (uint64_t)prio << 16 | (uint64_t)class_of << 32 | (uint64_t)kind << 48;
     return shfl_seat_set_attr(&me->seat, me->attr);
 }

@@ -1,5 +1,5 @@
 /* races.h in the build for those who look for races. ThreadSanitizer's calls are weak, so the library serves programs without it too; helgrind's and
- * drd's requests are some instructions that do nothing outside valgrind, and are left out where its headers aren't there. */
+ * drd's requests are some instructions that do nothing outside valgrind, and are left out where its headers aren't there. Nothing of this is proved. */
 #ifdef SHFL_ANNOTATE
 #include "arenas.h"
 #include "races.h"

@@ -1,5 +1,6 @@
 /* What those who look for races are told in the build for them (SHFL_ANNOTATE): ThreadSanitizer, helgrind and drd. They don't know that taking a
- * lock comes after giving it back, and helgrind and drd look at the library's own words as at the program's. In other builds this is nothing. */
+ * lock comes after giving it back, and helgrind and drd look at the library's own words as at the program's. In other builds this is nothing. Nothing
+ * of it is proved. */
 #ifndef SHFL_RACES_H
 #define SHFL_RACES_H
 #include <stdbool.h>

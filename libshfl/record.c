@@ -2,11 +2,13 @@
  * comes to a place where another one is still writing drops its event, and a reader that is too slow misses some; both are counted. What a
  * holder does is written while it holds, so the order of holders is the ring's.
  *
- * Nobody asks whether a lock is recorded where a lock is free: for a record two words of each thread are changed that it looks at anyway, and lead
- * it here. The words are all changed before the record begins, and back after its end.
+ * Nobody asks whether a lock is recorded where a lock is free: for a record three words of each thread are changed, two of which it looks at anyway, and
+ * lead it here. The words are all changed before the record begins, and back after its end.
  *
  * The ring is mapped by the first record. Its memory goes back to the system at the end of each, and the addresses stay, so a thread that
- * is late writes into nothing else; its event has the old record's number and isn't read. */
+ * is late writes into nothing else; its event has the old record's number and isn't read.
+ *
+ * Nothing of this is proved, and who holds a lock doesn't depend on it. */
 #include <string.h>
 #include <sys/mman.h>
 #include "arenas.h"
@@ -38,6 +40,8 @@ static void watch_all(uint32_t id) {
         struct shfl_thread *thread = &shfl_process.threads[k];
         if (id) __atomic_fetch_or(&thread->unusual, SHFL_IS_WATCHED, __ATOMIC_SEQ_CST);
         else __atomic_fetch_and(&thread->unusual, ~(uint32_t)SHFL_IS_WATCHED, __ATOMIC_SEQ_CST);
+        if (id) __atomic_fetch_or(&thread->mark, SHFL_MARK_WATCHED, __ATOMIC_SEQ_CST);
+        else __atomic_fetch_and(&thread->mark, ~(uint32_t)SHFL_MARK_WATCHED, __ATOMIC_SEQ_CST);
         __atomic_store_n(&thread->known, id ? none : thread->counts, __ATOMIC_SEQ_CST);
     }
     shfl_control_go_on();
@@ -67,7 +71,7 @@ SHFL_COLD void shfl_record(struct shfl_thread *me, uint32_t lock, enum shfl_even
     uint64_t clock = shfl_clock();
     if (clock > __atomic_load_n(&until, __ATOMIC_RELAXED)) return;
     if (me->tid == 0) me->tid = (uint32_t)syscall(SYS_gettid);
-    struct event it = {0, clock, about, (uint32_t)(now >> 32), me->mark, me->tid, event};
+    struct event it = {0, clock, about, (uint32_t)(now >> 32), shfl_mark_of(me), me->tid, event};
     uint64_t k = __atomic_fetch_add(&next, 1, __ATOMIC_SEQ_CST);
     struct event *at = &ring[k % EVENTS];
     if (begin_at(at, k)) write_at(at, k, &it);

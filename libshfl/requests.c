@@ -1,6 +1,6 @@
 /* What a request at the control socket is answered. A request is one line, `shfl 1`, a word and its arguments with one blank between; an
  * answer is a line `ok`, lines that the word asks for, and a line `end`; or one line `error` with a number of POSIX's and words, or `refused`
- * with the fault of a program, and then nothing has changed. */
+ * with the fault of a program, and then nothing has changed. Proved is that no policy is used which the verifier refuses; the rest is this file's. */
 #include <stdarg.h>
 #include <stdio.h>
 #include <stdlib.h>

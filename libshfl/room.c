@@ -1,4 +1,5 @@
-/* What the environment asks of the process's arenas, and the memory of C beside them. */
+/* What the environment asks of the process's arenas, and the memory of C beside them. Proved is that an arena opens for numbers in their range alone
+ * (shfl_seats_open judges them again); that the memory beside it is large enough is this file's. */
 #include <stdlib.h>
 #include <string.h>
 #include <sys/mman.h>

@@ -1,4 +1,5 @@
-/* Whom a thread wakes that gives a lock back: the queue's head, or one that sleeps outside the queue. */
+/* Whom a thread wakes that gives a lock back: the queue's head, or one that sleeps outside the queue. Not proved is that it wakes the right one, or
+ * anybody; who holds the lock isn't decided here. */
 #include "inside.h"
 
 /* One is woken to queue after so many holds that passed it, and so many nanoseconds. */

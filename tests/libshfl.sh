@@ -1,11 +1,11 @@
 #!/usr/bin/env bash
 # libshfl as its document says: installed into an empty prefix, docs/LIBSHFL.md's program built by pkg-config's words alone, against the shared
 # library and the static one; each call and each error (tests/libshfl/posix.c), each argument that can't be (arguments.c), exact counts under 16 and 64 threads (storm.c), more locks than an arena has (growth.c), what
-# shfl_stat counts (counts.c), the C++ classes (locks.cpp), the checked build's messages, and no visible name but those that begin with shfl_.
+# shfl_stat counts (counts.c), what a record has of a lock in each arena (records.c), the C++ classes (locks.cpp), the checked build's messages, and no visible name but those that begin with shfl_.
 # The preload library under programs that know pthread alone (pthreads.c, conditions.c, standard.cpp), which are first run with libc's own
 # locks, in an arena that is too small, in one that can't be, and with a malloc that takes a mutex (heap.c). Under valgrind where it is there, and with
 # gcc's address and undefined-behaviour checks; programs with a race and without one under ThreadSanitizer, helgrind and drd, as far as they are
-# there (races.c). An argument is how many rounds each thread of a storm makes. Where there is no C compiler it says so, and passes.
+# there (races.c). First how long the library's functions are (functions.py). An argument is how many rounds each thread of a storm makes. Where there is no C compiler it says so, and passes.
 set -u
 top="$(cd "$(dirname "$(readlink -f "${BASH_SOURCE[0]}")")/.." && pwd)"
 rounds="${1:-2000}"
@@ -21,6 +21,7 @@ run() {
     if timeout 300 "$@" >"$room/got" 2>&1; then sed "s|^|tests/libshfl.sh: $what: |" "$room/got"; else complain "$what, status $?: $(tail -n 20 "$room/got")"; fi
 }
 
+run "functions" python3 -B "$top/tests/libshfl/functions.py" "$top"/libshfl/*.[ch] "$top"/libshfl/preload/*.[ch]
 for kind in "" checked; do
     CHECKED="$kind" "$top/libshfl/install" "$room/prefix$kind" >"$room/got" 2>&1 || { complain "install: $(tail -n 20 "$room/got")"; exit 1; }
 done
@@ -40,7 +41,7 @@ block 2 >"$room/policy.c"
 "$cc" -I "$room/prefix/include" "$room/program.c" "$room/prefix/lib/libshfl.a" -lpthread -o "$room/static" || exit 1
 [ "$("$room/static")" = 400000 ] || complain "the document's program, static"
 
-for name in posix arguments storm counts; do
+for name in posix arguments storm counts records; do
     "$cc" -std=gnu11 -O2 -g -Wall -Wextra -Werror "$top/tests/libshfl/$name.c" "${words[@]}" -o "$room/$name" || exit 1
 done
 run "calls" "$room/posix"
@@ -69,6 +70,7 @@ run "growth without memory" env SHFL_LOCKS=1024 "$room/growth" memory
 for form in rw rw-park; do run "growth, $form" env SHFL_FORM="$form" SHFL_LOCKS=1 SHFL_THREADS=16 "$room/growth" further; done
 run "growth, calls" env SHFL_LOCKS=1 SHFL_THREADS=16 SHFL_ARENAS=32 "$room/posix"
 run "growth, counts" env SHFL_LOCKS=7 SHFL_THREADS=16 SHFL_ARENAS=64 "$room/counts"
+for form in rw rw-park; do run "growth, records, $form" env SHFL_FORM="$form" SHFL_LOCKS=1 SHFL_THREADS=16 "$room/records"; done
 run "growth, storm" env SHFL_LOCKS=1 SHFL_THREADS=70 "$room/storm" 64 "$((rounds / 4))" 120
 
 # unmodified programs, by themselves and under the preload library

@@ -1,6 +1,6 @@
 /* What the files of the preload library share. A pthread object's bytes are used in two ways: libc's, where it is robust, shared by
  * processes or protects from priority inversion, and wherever its number here says so; else the library's, in words that libc leaves
- * zero there. Either for as long as it lives: a lock goes over from none. */
+ * zero there. Either for as long as it lives: a lock goes over from none. Not proved is which it is. */
 #ifndef SHFL_PRELOAD_INSIDE_H
 #define SHFL_PRELOAD_INSIDE_H
 #include <pthread.h>

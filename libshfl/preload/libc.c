@@ -1,4 +1,4 @@
-/* libc's own calls, which the library's stand before. */
+/* libc's own calls, which the library's stand before. Nothing of this is proved. */
 #include <dlfcn.h>
 #include "inside.h"
 

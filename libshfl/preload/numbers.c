@@ -1,5 +1,5 @@
 /* What an unmodified program can't be told: that there is no number for a lock, which then is libc's, or no seat for a thread, which then
- * waits for one. */
+ * waits for one. Nothing of this is proved: a lock that went to libc is libc's alone. */
 #include "inside.h"
 
 #define NAP_NS 1000000
