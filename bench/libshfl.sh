@@ -82,11 +82,11 @@ many() {
             for lock in shfl mutex; do "$room/many" "$lock" 1000000 "$threads" 1000 >>"$room/many.$lock.$threads" || echo "status $?" >&2; done
         done
         for lock in shfl mutex; do
-            for column in 1 2; do awk -v c="$column" '{ print $c }' "$room/many.$lock.$threads" >"$room/many.$lock.$column"; done
+            for column in 1 2; do awk -v c="$column" '{ print $c }' "$room/many.$lock.$threads" >"$room/many.$lock.column$column"; done
         done
-        ours=($(told "$room/many.shfl.1" less) $(told "$room/many.mutex.1" less))
+        ours=($(told "$room/many.shfl.column1" less) $(told "$room/many.mutex.column1" less))
         printf '%-26s %12s %12s %12s %12s %6s   %s; %s\n' "$threads threads" "${ours[@]}" "$(awk -v a="${ours[0]}" -v b="${ours[2]}" 'BEGIN { printf "%.2f", a / b }')" \
-            $(for lock in shfl mutex; do told "$room/many.$lock.2" more | cut -d ' ' -f 1; done)
+            $(for lock in shfl mutex; do told "$room/many.$lock.column2" more | cut -d ' ' -f 1; done)
     done
 }
 
