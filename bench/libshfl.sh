@@ -1,7 +1,8 @@
 #!/usr/bin/env bash
 # libshfl's locks beside pthread's, in turn (bench/libshfl.c): a free lock's lock and unlock, the best and the median of short runs; and holds a
 # second by 4, 16 and 256 threads, holds of 0, 0.1, 1 and 10 microseconds and as long between two, with the longest wait, Jain's index and the
-# processors used. And a million locks drawn at random by one thread and by four, with what a lock takes of memory (bench/many.c). The median and
+# processors used. And a million locks drawn at random by one thread and by four, with what a lock takes of memory, the proved part alone too
+# (bench/many.c). The median and
 # the worst of the rounds. Words: libshfl.sh [ROUNDS [PART ..]]; a part is free, 4 (threads), 16, and these three where none is given; 256, many; park,
 # 256 threads in the form rw-park, 20 times as many rounds, of which each has half a minute, and how many didn't end or lost a count; or
 # instructions, how many valgrind counts in a free lock's lock and unlock, with the loop around them. 5 rounds where none are said. With
@@ -17,9 +18,7 @@ prefix="${LIBSHFL_PREFIX:-$room/prefix}"
 if [ -z "${LIBSHFL_PREFIX:-}" ]; then
     "$top/libshfl/install" "$prefix" >"$room/built" 2>&1 || { tail -n 20 "$room/built" >&2; exit 1; }
 fi
-for name in libshfl many; do
-    "${CC:-cc}" -std=gnu11 -O2 -Wall -Wextra -I "$prefix/include" "$top/bench/$name.c" -L "$prefix/lib" -lshfl -pthread -o "$room/$name" || exit 1
-done
+"${CC:-cc}" -std=gnu11 -O2 -Wall -Wextra -I "$prefix/include" "$top/bench/libshfl.c" -L "$prefix/lib" -lshfl -pthread -o "$room/libshfl" || exit 1
 export LD_LIBRARY_PATH="$prefix/lib"
 
 # the median and the worst of a column of numbers: the least is worst where the word is less, else the greatest
@@ -74,19 +73,22 @@ instructions() {
     done
 }
 
+# the proved part alone too, which the library hides
 many() {
-    local threads lock column ours
-    printf '%-26s %12s %12s %12s %12s %6s   %s\n' '1,000,000 locks, pairs/s' shfl worst mutex worst ratio 'bytes a lock: shfl; mutex'
+    local threads lock column archive="${SHFL_ARCHIVE:-$top/crates/shfl_seats_c/out/libshfl_seats_c.a}" all=(arena shfl mutex)
+    [ -n "${SHFL_ARCHIVE:-}" ] || "$top/bin/build-program" shfl_seats_c || exit 1
+    "${CC:-cc}" -std=gnu11 -O2 -Wall -Wextra -I "$prefix/include" "$top/bench/many.c" "$top/include/shfl_heap.c" "$archive" -L "$prefix/lib" -lshfl \
+        -pthread -o "$room/many" || exit 1
+    printf '%-26s %12s %12s %12s %12s %12s %12s   %s\n' '1,000,000 locks, pairs/s' arena worst shfl worst mutex worst 'bytes a lock: arena; shfl; mutex'
     for threads in 1 4; do
         for ((k = 0; k < rounds; k++)); do
-            for lock in shfl mutex; do "$room/many" "$lock" 1000000 "$threads" 1000 >>"$room/many.$lock.$threads" || echo "status $?" >&2; done
+            for lock in "${all[@]}"; do "$room/many" "$lock" 1000000 "$threads" 1000 >>"$room/many.$lock.$threads" || echo "status $?" >&2; done
         done
-        for lock in shfl mutex; do
+        for lock in "${all[@]}"; do
             for column in 1 2; do awk -v c="$column" '{ print $c }' "$room/many.$lock.$threads" >"$room/many.$lock.column$column"; done
         done
-        ours=($(told "$room/many.shfl.column1" less) $(told "$room/many.mutex.column1" less))
-        printf '%-26s %12s %12s %12s %12s %6s   %s; %s\n' "$threads threads" "${ours[@]}" "$(awk -v a="${ours[0]}" -v b="${ours[2]}" 'BEGIN { printf "%.2f", a / b }')" \
-            $(for lock in shfl mutex; do told "$room/many.$lock.column2" more | cut -d ' ' -f 1; done)
+        printf '%-26s %12s %12s %12s %12s %12s %12s   %s; %s; %s\n' "$threads threads" $(for lock in "${all[@]}"; do told "$room/many.$lock.column1" less; done) \
+            $(for lock in "${all[@]}"; do told "$room/many.$lock.column2" more | cut -d ' ' -f 1; done)
     done
 }
 

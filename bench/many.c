@@ -1,18 +1,20 @@
 /* Many locks in one process: threads that lock and unlock one drawn at random, and each time add one to the number behind it.
- * Words: many LOCK LOCKS THREADS MS, where LOCK is shfl or mutex. It prints the pairs of a lock and an unlock a second, and the bytes that a lock
- * takes: by how much the process's resident memory grew, divided by the locks, when each had been locked once. The numbers behind the locks
- * are four bytes each, and not counted there. Status 1: they don't add up. */
+ * Words: many LOCK LOCKS THREADS MS, where LOCK is shfl, arena (the proved part of it alone, an attempt and a release by the thread's seat) or mutex. It
+ * prints the pairs of a lock and an unlock a second, and the bytes that a lock takes: by how much the process's resident memory grew, divided by
+ * the locks, when each had been locked once. The numbers behind the locks are four bytes each, and not counted there. Status 1: they don't add up. */
 #define _GNU_SOURCE
 #include <libshfl.h>
 #include <pthread.h>
+#include <sched.h>
 #include <stdbool.h>
 #include <stdio.h>
 #include <stdlib.h>
 #include <string.h>
 #include <unistd.h>
+#include "../libshfl/seats.h"
 
 enum { LINE = 128, MOST_THREADS = 64 };
-static bool ours;
+static enum { SHFL, ARENA, MUTEX } kind;
 static uint32_t locks;
 static shfl_mutex_t *shfl;
 static pthread_mutex_t *mutexes;
@@ -25,16 +27,27 @@ static uint64_t now(void) {
     return (uint64_t)t.tv_sec * 1000000000 + (uint64_t)t.tv_nsec;
 }
 
-static inline void add_at(uint32_t k) {
-    if (ours) shfl_mutex_lock(&shfl[k]);
-    else pthread_mutex_lock(&mutexes[k]);
+struct worker { pthread_t thread; uint64_t drawn, pairs; struct shfl_seat seat; char apart[LINE]; };
+
+static inline void add_at(struct worker *own, uint32_t k) {
+    if (kind == SHFL) shfl_mutex_lock(&shfl[k]);
+    else if (kind == MUTEX) pthread_mutex_lock(&mutexes[k]);
+    else while (shfl_seat_attempt(&own->seat, k, false) != SHFL_DONE) sched_yield();
     behind[k]++;
-    if (ours) shfl_mutex_unlock(&shfl[k]);
-    else pthread_mutex_unlock(&mutexes[k]);
+    if (kind == SHFL) shfl_mutex_unlock(&shfl[k]);
+    else if (kind == MUTEX) pthread_mutex_unlock(&mutexes[k]);
+    else shfl_seat_release(&own->seat, k);
 }
 
-struct worker { pthread_t thread; uint64_t drawn, pairs; char apart[LINE]; };
 static struct worker workers[MOST_THREADS];
+
+/* One arena of all locks, with a seat for each thread. */
+static bool open_arena(int count) {
+    struct shfl_seat seats[MOST_THREADS];
+    if (shfl_seats_open(locks, false, SHFL_SPIN, 1024, seats, (size_t)count) != SHFL_DONE) return false;
+    for (int k = 0; k < count; k++) workers[k].seat = seats[k];
+    return true;
+}
 
 static void *work(void *at) {
     struct worker *own = at;
@@ -42,7 +55,7 @@ static void *work(void *at) {
     while (__atomic_load_n(&going, __ATOMIC_ACQUIRE) == 0) {}
     for (; __atomic_load_n(&going, __ATOMIC_RELAXED) == 1; pairs++) {
         x ^= x << 13, x ^= x >> 7, x ^= x << 17;
-        add_at((uint32_t)((x >> 32) * locks >> 32));
+        add_at(own, (uint32_t)((x >> 32) * locks >> 32));
     }
     own->pairs = pairs;
     return NULL;
@@ -58,8 +71,9 @@ static long resident(void) {
 }
 
 int main(int n, char **word) {
-    if (n != 5 || (strcmp(word[1], "shfl") != 0 && strcmp(word[1], "mutex") != 0)) return 2;
-    ours = strcmp(word[1], "shfl") == 0;
+    if (n != 5) return 2;
+    if (strcmp(word[1], "shfl") != 0 && strcmp(word[1], "arena") != 0 && strcmp(word[1], "mutex") != 0) return 2;
+    kind = word[1][0] == 's' ? SHFL : word[1][0] == 'a' ? ARENA : MUTEX;
     locks = (uint32_t)strtoul(word[2], NULL, 10);
     int count = atoi(word[3]);
     uint64_t ms = strtoull(word[4], NULL, 10);
@@ -67,12 +81,14 @@ int main(int n, char **word) {
     char room[16];
     snprintf(room, sizeof room, "%u", locks + 64);
     setenv("SHFL_LOCKS", room, 1);
-    shfl = calloc(ours ? locks : 1, sizeof *shfl), mutexes = calloc(ours ? 1 : locks, sizeof *mutexes), behind = malloc(locks * sizeof *behind);
+    shfl = calloc(kind == SHFL ? locks : 1, sizeof *shfl), mutexes = calloc(kind == MUTEX ? locks : 1, sizeof *mutexes);
+    behind = malloc(locks * sizeof *behind);
     if (shfl == NULL || mutexes == NULL || behind == NULL) return 2;
     memset(behind, 0, locks * sizeof *behind);
 
     long before = resident();
-    for (uint32_t k = 0; k < locks; k++) add_at(k);
+    if (kind == ARENA && !open_arena(count)) return 2;
+    for (uint32_t k = 0; k < locks; k++) add_at(workers, k);
     double bytes = (double)(resident() - before) / locks;
 
     for (int k = 0; k < count; k++) {
