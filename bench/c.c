@@ -1,14 +1,15 @@
 /* The lock of include/shfl.h beside pthread's mutex, in one run: alone, four threads with holds of one microsecond, and the memory of
- * a lock of 64 passes. Each figure is the best of its repeats. */
+ * a lock of 64 passes. Each figure is the median of its repeats, and beside it the worst. */
 #define _GNU_SOURCE
 #include "shfl.h"
+#include <limits.h>
 #include <malloc.h>
 #include <pthread.h>
 #include <stdio.h>
 #include <stdlib.h>
 #include <time.h>
 
-enum { PAIRS = 20000, REPEATS = 300, THREADS = 4, RUNS = 5 };
+enum { PAIRS = 20000, REPEATS = 300, THREADS = 4, RUNS = 9 };
 
 static const char *const forms[] = {"spin", "rw", "park", "rw park"};
 static struct shfl_pass passes[64];
@@ -21,8 +22,13 @@ static double seconds(void) {
     return (double)t.tv_sec + (double)t.tv_nsec * 1e-9;
 }
 
-/* Nanoseconds a pair of calls, the best of the repeats. */
-#define BEST_OF(best, lock, unlock)                                                                                                        \
+static int by_size(const void *a, const void *b) {
+    double x = *(const double *)a, y = *(const double *)b;
+    return (x > y) - (x < y);
+}
+
+/* Nanoseconds a pair of calls, of each repeat. */
+#define EACH_OF(times, lock, unlock)                                                                                                       \
     for (int r = 0; r < REPEATS; r++) {                                                                                                    \
         double before = seconds();                                                                                                         \
         for (int k = 0; k < PAIRS; k++) {                                                                                                  \
@@ -30,21 +36,21 @@ static double seconds(void) {
             counter++;                                                                                                                     \
             unlock;                                                                                                                        \
         }                                                                                                                                  \
-        double took = (seconds() - before) * 1e9 / PAIRS;                                                                                  \
-        if (took < best) best = took;                                                                                                      \
-    }
+        times[r] = (seconds() - before) * 1e9 / PAIRS;                                                                                     \
+    }                                                                                                                                      \
+    qsort(times, REPEATS, sizeof times[0], by_size);
 
 /* In a process that never had a second thread glibc's mutex uses no atomic operation. */
 static void alone(const char *process) {
     static const uint64_t attr;
-    double mutex_best = 1e9;
+    static double ours[REPEATS], theirs[REPEATS];
     for (uint8_t form = SHFL_SPIN; form <= SHFL_RW_PARK; form++) {
-        double best = 1e9;
         if (!shfl_open(&attr, 1, form, 1024, passes, 1)) exit(2);
-        BEST_OF(best, shfl_lock(passes), shfl_unlock(passes))
-        BEST_OF(mutex_best, pthread_mutex_lock(&mutex), pthread_mutex_unlock(&mutex))
+        EACH_OF(ours, shfl_lock(passes), shfl_unlock(passes))
+        EACH_OF(theirs, pthread_mutex_lock(&mutex), pthread_mutex_unlock(&mutex))
         shfl_close(passes);
-        printf("alone, %s, %-8s %6.1f ns, mutex %6.1f ns, %.2f times\n", process, forms[form], best, mutex_best, best / mutex_best);
+        printf("alone, %s, %-8s %6.1f ns, worst %6.1f; mutex %6.1f, worst %6.1f; %.2f times\n", process, forms[form], ours[REPEATS / 2],
+               ours[REPEATS - 1], theirs[REPEATS / 2], theirs[REPEATS - 1], ours[REPEATS / 2] / theirs[REPEATS / 2]);
     }
 }
 
@@ -120,20 +126,19 @@ static void crowds(void) {
     calibrate();
     for (uint8_t form = SHFL_SPIN; form <= SHFL_RW_PARK; form++) {
         for (int kind = 0; kind < 3; kind++) {
-            double best = 0;
-            long least = 0, most = 0;
+            double rates[RUNS];
+            long least = LONG_MAX, most = 0;
             if (!shfl_open(attrs, THREADS, form, 1024, passes, THREADS)) exit(2);
             for (int r = 0; r < RUNS; r++) {
                 long low, high;
-                double rate = crowd(kind, &low, &high);
-                if (rate > best) {
-                    best = rate;
-                    least = low;
-                    most = high;
-                }
+                rates[r] = crowd(kind, &low, &high);
+                if (low < least) least = low;
+                if (high > most) most = high;
             }
             for (int k = 0; k < THREADS; k++) shfl_close(&passes[k]);
-            printf("four threads, holds of 1 us, %-8s %-8s %9.0f locks a second, of a thread %ld to %ld\n", forms[form], kinds[kind], best, least, most);
+            qsort(rates, RUNS, sizeof rates[0], by_size);
+            printf("four threads, holds of 1 us, %-8s %-8s %9.0f locks a second, worst %9.0f, of a thread %ld to %ld\n", forms[form],
+                   kinds[kind], rates[RUNS / 2], rates[0], least, most);
         }
     }
 }

@@ -32,7 +32,7 @@ policies=(socket priority urgent class)
 build() {
     local archive="${ARCHIVE:-$top/crates/shfl_c/out/libshfl_c.a}"
     if [ ! -e "$archive" ]; then
-        (cd "$top/crates/shfl_c" && rt lib </dev/null) >"$room/built" 2>&1 || { tail -n 20 "$room/built" >&2; exit 1; }
+        "$top/bin/build-program" shfl_c >"$room/built" 2>&1 || { tail -n 20 "$room/built" >&2; exit 1; }
     fi
     "${CC:-cc}" -std=gnu11 -O2 -Wall -Wextra -I "$top/include" "$top/bench/effect.c" "$top/include/shfl_heap.c" "$archive" \
         -o "$room/effect" -lpthread || exit 1

@@ -4,7 +4,7 @@
  *   peers LOCK THREADS WORK MILLIS      gains a second by so many threads; WORK is the number of multiplications in a hold, and as
  *                                       many stand between two holds; LOCK is mutex, mcs, rwlock (readers alone) or directory
  *                                       (readers alone, who each time look a name of 1,000 up in one sorted table)
- *   peers LOCK THREADS WORK gains N     nanoseconds a gain, of N gains by so many threads together, the best of twenty rounds, each with
+ *   peers LOCK THREADS WORK gains N     nanoseconds a gain, of N gains by so many threads together: twenty rounds, a line for each, with
  *                                       its threads' start and end
  *   peers has-mcs                       status 0 where the MCS lock was built in
  * Build: cc -O2 -pthread -o peers peers.c */
@@ -126,16 +126,13 @@ static void contended(int threads, int millis) {
 static void counted(int threads, uint64_t gains) {
     struct thread all[64];
     pthread_t ids[64];
-    double best = 1e18;
     enough = gains / (uint64_t)threads;
     for (int round = 0; round < 20; round++) {
         double start = now();
         for (int i = 0; i < threads; i++) pthread_create(&ids[i], 0, run, &all[i]);
         for (int i = 0; i < threads; i++) pthread_join(ids[i], 0);
-        double time = now() - start;
-        if (time < best) best = time;
+        printf("%.1f ns a gain\n", (now() - start) / (double)gains);
     }
-    printf("%.1f ns a gain\n", best / (double)gains);
 }
 
 /* the best of several rounds */

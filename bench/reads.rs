@@ -1,5 +1,5 @@
-// The peer of the reads of cells.sh: four threads look names of 1,000 up in a BTreeMap behind an RwLock, 16,384 times each. The best of
-// twenty rounds, each with its threads' start and end. Build: rustc -O -o reads reads.rs
+// The peer of the reads of cells.sh: four threads look names of 1,000 up in a BTreeMap behind an RwLock, 16,384 times each. Twenty
+// rounds, a line for each, with its threads' start and end. Build: rustc -O -o reads reads.rs
 use std::collections::BTreeMap;
 use std::hint::black_box;
 use std::sync::RwLock;
@@ -13,7 +13,6 @@ const READS: u32 = 16_384;
 fn main() {
     let directory: RwLock<BTreeMap<(u8, u32), u64>> =
         RwLock::new((0..NAMES).map(|name| ((0, name), u64::from(name) + 1)).collect());
-    let mut least = u128::MAX;
     for _ in 0..20 {
         let start = Instant::now();
         thread::scope(|scope| {
@@ -29,7 +28,6 @@ fn main() {
                 });
             }
         });
-        least = least.min(start.elapsed().as_nanos());
+        println!("{:.1} ns a call", start.elapsed().as_nanos() as f64 / f64::from(4 * READS));
     }
-    println!("{:.1} ns a call", least as f64 / f64::from(4 * READS));
 }

@@ -17,9 +17,7 @@ ours=(spin rw park rwpark)
 
 build() {
     local archive="$top/crates/shfl_c/out/libshfl_c.a" name
-    if [ ! -e "$archive" ]; then
-        (cd "$top/crates/shfl_c" && rt lib </dev/null) >"$room/built" 2>&1 || { tail -n 20 "$room/built" >&2; exit 1; }
-    fi
+    "$top/bin/build-program" shfl_c >"$room/built" 2>&1 || { tail -n 20 "$room/built" >&2; exit 1; }
     for name in waits handover; do
         "${CC:-cc}" -std=gnu11 -O2 -Wall -Wextra -I "$top/include" "$top/bench/$name.c" "$top/include/shfl_heap.c" "$archive" \
             -o "$room/$name" -lpthread || exit 1

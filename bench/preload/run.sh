@@ -5,7 +5,7 @@ set -u
 top="$(cd "$(dirname "$(readlink -f "${BASH_SOURCE[0]}")")/../.." && pwd)"
 room="$(mktemp -d)"
 trap 'rm -rf "$room"' EXIT
-(cd "$top/crates/shfl_c" && rt lib </dev/null) >"$room/built" 2>&1 || { tail -n 20 "$room/built" >&2; exit 1; }
+"$top/bin/build-program" shfl_c >"$room/built" 2>&1 || { tail -n 20 "$room/built" >&2; exit 1; }
 "${CC:-cc}" -std=gnu11 -O2 -Wall -Wextra -shared -fPIC -I "$top/include" "$top/bench/preload/shim.c" "$top/include/shfl_heap.c" \
     "$top/crates/shfl_c/out/libshfl_c.a" -o "$room/shim.so" -lpthread -ldl || exit 1
 shim=(env LD_PRELOAD="$room/shim.so" SHFL_TOLD=1)
