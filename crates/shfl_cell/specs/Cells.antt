@@ -76,11 +76,11 @@ ArePartsOf [] [] = Unit {0}
 ArePartsOf (p ∷ ps) (x ∷ xs) = (x ≡ part x.attempts p) × ArePartsOf ps xs
 ArePartsOf _ _ = ⊥
 
--- all that was done to the lock is a run of the model, in which these passes did what they tell
-pub record HasRunOf (cell : CellModel) (passes : List CellPassModel) : Type 0 where
+-- all that was done to the lock is a run of the model, in which these passes did what they tell, and whose holds have made the history
+pub record HasRunOf (cell : CellModel) (passes : List CellPassModel) (history : List Action) : Type 0 where
   pub parts : List Part
   pub told : ArePartsOf passes parts
-  pub run : RanUntilClosed cell.id.rules cell.id.attrs cell.count parts
+  pub run : RanUntilClosed cell.id.rules cell.id.attrs cell.count parts history
 
 -- these are all passes of a cell of so many
 abbrev pub AreAll : ℕ → List CellPassModel → Type 0

@@ -47,7 +47,10 @@ impl<O: Object + Drop> ShflCellOf<Book<O>> {
         ensures places { HavePlaces result.1.items }
 
         // All that was done to the lock is one list of changes, in which each pass did what it tells, and nobody else did anything.
-        ensures run { HasRunOf self passes.items }
+        // The history is what the holds in it have made, in the order in which they ended: each call by its worker, while that one
+        // held the lock.
+        ensures run { HasRunOf self passes.items
+            (actions O.call_numbers O.reply_numbers result.1.items) }
     {
         let ShflCellOf { board } = self;
         let Some(first) = passes.pop() else {

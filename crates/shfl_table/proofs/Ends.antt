@@ -69,7 +69,7 @@ module _ {V : Type 0} (initial_state : V → List ℕ) (history : V → List Act
       let longer : length (vs ++ n ∷ []) ≡ length s.views + 1 = omega (arith, length-append vs (n ∷ [])) in record {
         total = ok.total;
         lawful = subst (λ (z : List PassState). Lawful t (record { words = s.words; passes = z })) same (seat-law t (record { words = s.words; passes = passes }) ok.lawful (omega arith)).lawful;
-        run = run-splits t s.words s.views ok.run id v at live (omega arith) (let a = ok.lawful.room in omega arith) same;
+        run = run-splits t s.words s.views ok.total ok.run id v at live (omega arith) (let a = ok.lawful.room in omega arith) same;
         free = free-by r ok.total passes (passes_from 0 (vs ++ n ∷ [])) s.homes (λ q. ap hold_of (sym (ap (λ z. known z q) same) ∙ known-one passes q)) ok.free;
         unborn = λ k h. ok.unborn k (omega arith);
         seated = λ seat u e. ⊎_elim
@@ -117,7 +117,7 @@ module _ {V : Type 0} (initial_state : V → List ℕ) (history : V → List Act
       let now : IsSpent vs' (number w) = subst (IsSpent vs') (sym num) (spent_view, set_here vs other spent_view (there vs other w at'), refl) in record {
         total = ok.total;
         lawful = subst (λ (l : List PassState). Lawful t (record { words = s.words; passes = l })) (sym gone) f.lawful;
-        run = run-joins t s.words s.views ok.run id v other w at live at_other live' apart num here rests gone at' now;
+        run = run-joins t s.words s.views ok.total ok.run id v other w at live at_other live' apart num here rests gone at' now;
         free = free-by r ok.total passes (passes_from 0 vs') s.homes (λ q. ap (λ l. hold_of (known l q)) gone ∙ hold-same passes other w.pass (idle other) here out q) ok.free;
         unborn = λ k h. ok.unborn k (omega arith);
         seated = λ seat u g. ⊎_elim
@@ -165,7 +165,7 @@ pub record Ended {V : Type 0} (initial_state : V → List ℕ) (history : V → 
   pub home : (k : ℕ) → k < length xs → (x : V) × (get_elem? xs k ≡ some (Some x)) × (initial_state x ≡ r) × (history x ≡ total)
   pub knew : (g : Given) → IsAmong g given_all → HasSeen total g.number g.history
   pub only : (k : ℕ) → n ≤ k → actions_by k total ≡ []
-  pub run : RanUntilClosed rules attrs n parts
+  pub run : RanUntilClosed rules attrs n parts total
 
 module _ {V : Type 0} (initial_state : V → List ℕ) (history : V → List Action) (t : Terms) (n : ℕ) (wide : count t ≡ n) (r : List ℕ) where
   -- every pass is idle then
@@ -204,7 +204,7 @@ module _ {V : Type 0} (initial_state : V → List ℕ) (history : V → List Act
             (ok.free (λ q w. no q Write w) k (omega arith));
         knew = λ g h. ⊎_elim (λ b. (o.back g b).1) (λ is. subst (λ (z : Given). HasSeen ok.total z.number z.history) (sym is) (subst (λ z. HasSeen ok.total z v.history) (sym num) (o.knew live))) (has_end v.back (given_view v) g h);
         only = λ k h. ok.unborn k (omega arith);
-        run = run-closes t s.words s.views ok.run id v n at live num few at_rest;
+        run = run-closes t s.words s.views ok.total ok.run id v n at live num few at_rest;
       }
 
 some_is : {X : Type 0} (x y : X) → Some x ≡ Some y → x ≡ y

@@ -39,12 +39,12 @@ module _ (rules : Rules) (attrs : List Attr) (may : MayOpen rules attrs) where
         (subst (λ (k : ℕ). told_terms rules k (opening_words attrs) ≡ terms rules attrs) (length-map attrs attr_word) (terms-law (terms rules attrs) (first_seated attrs) first.lawful))
 
     -- nothing was done yet
-    starts : (r : List ℕ) → HasRun (told_terms rules (length attrs) words) words (first_view (told_terms rules (length attrs) words).attrs r ∷ [])
+    starts : (r : List ℕ) → HasRun (told_terms rules (length attrs) words) words (first_view (told_terms rules (length attrs) words).attrs r ∷ []) []
     starts r = record {
       attrs = attrs;
       opened = ap (λ (t : Terms). t.attrs) terms-are;
-      changes = [];
-      run = record { may = tt; made = λ j. record { words = sym a j; passes = idle 0 ∷ [] } };
+      events = [];
+      makes = record { run = record { may = tt; made = λ j. record { words = sym a j; passes = idle 0 ∷ [] } }; in_holds = tt; made = refl };
       parts = record { own = own; back = back; unborn = λ k h. refl };
     }
       where

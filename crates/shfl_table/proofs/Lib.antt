@@ -23,3 +23,4 @@ pub mod BookVisits
 pub mod HeadDisables
 pub mod ThreadRuns
 pub mod RunEnds
+pub mod MadeInHolds

@@ -20,7 +20,7 @@ module _ {V : Type 0} (initial_state : V → List ℕ) (history : V → List Act
   home-at (x ∷ xs) a zero h = (x, refl, a.0.0, a.0.1)
   home-at (x ∷ xs) a (suc k) h = home-at xs a.1 k (omega arith)
 
-  pub opens : (t : Terms) (words : List ℕ) (values : List V) → Lawful t (record { words = words; passes = idle 0 ∷ [] }) → HasRun t words (first_view t.attrs r ∷ []) → Every (IsCurrent initial_state history r []) values → BoardRule initial_state history t r (opening words (map Some values) (first_view t.attrs r))
+  pub opens : (t : Terms) (words : List ℕ) (values : List V) → Lawful t (record { words = words; passes = idle 0 ∷ [] }) → HasRun t words (first_view t.attrs r ∷ []) [] → Every (IsCurrent initial_state history r []) values → BoardRule initial_state history t r (opening words (map Some values) (first_view t.attrs r))
   opens t words values ok run alike = record {
     total = [];
     lawful = ok;

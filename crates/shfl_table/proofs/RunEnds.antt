@@ -11,43 +11,49 @@ use Rattle.shfl_core.specs.Worlds.{World, known}
 use Rattle.shfl_core.specs.Lawful.{Terms}
 use Rattle.shfl_laws.specs.Changes.{Change, Fills, Replaces, after_changes, EachMayChange}
 use Rattle.shfl_laws.specs.Moves.{first_seated}
-use Rattle.shfl_laws.proofs.runs.Runs.{more, fills, replaces}
+use Rattle.shfl_laws.proofs.runs.Runs.{fills, replaces}
+use Rattle.shfl_table.specs.declared.kept.Action.{Action}
 use Rattle.shfl_table.specs.declared.view.Part.{Part}
 use Rattle.shfl_table.specs.declared.view.View.{View}
+use Rattle.shfl_table.specs.MadeInHolds.{changes_of, RunMakes}
 use Rattle.shfl_table.specs.Places.{Every}
 use Rattle.shfl_table.specs.Views.{Deeds, number, next_view, not_last, part_of, passes_from, spent_view, with_given, IsSpent}
 use Rattle.shfl_table.specs.ThreadRuns.{did_in, part_in, IsTold, TellsParts, HasRun, RanUntilClosed}
+use Rattle.shfl_table.proofs.MadeInHolds.{quiet, quiet-changes, quiet-in-holds, quiet-makes, changes-both, makes-more}
 use Rattle.shfl_table.proofs.SeatViews.{dead_longer, dead_stays, at_end}
 use Rattle.shfl_table.proofs.ThreadRuns.{did-both, every-part}
 
-module _ (t : Terms) (words : List ℕ) (views : List View) (old : HasRun t words views) where
+module _ (t : Terms) (words : List ℕ) (views : List View) (total : List Action) (old : HasRun t words views total) where
   abbrev did : ℕ → List Deeds
-  did k = did_in t.rules (first_seated old.attrs) k old.changes
+  did k = did_in t.rules (first_seated old.attrs) k (changes_of old.events)
 
-  -- changes that are nobody's operation go on with the run, and leave what each pass did
+  -- changes that are nobody's operation go on with the run, and leave what each pass did, and what was made
   still-told : (added : List Change) (views' : List View) → EachMayChange t.rules.form added → after_changes t.rules (record { words = words; passes = passes_from 0 views }) added ≡ record { words = words; passes = passes_from 0 views' }
-      → ((k : ℕ) → did_in t.rules (record { words = words; passes = passes_from 0 views }) k added ≡ []) → TellsParts (λ k. did_in t.rules (first_seated old.attrs) k old.changes) views' → HasRun t words views'
+      → ((k : ℕ) → did_in t.rules (record { words = words; passes = passes_from 0 views }) k added ≡ []) → TellsParts (λ k. did_in t.rules (first_seated old.attrs) k (changes_of old.events)) views' → HasRun t words views' total
   still-told added views' may leads nobody tells = record {
     attrs = old.attrs;
     opened = old.opened;
-    changes = old.changes ++ added;
-    run = more t.rules old.attrs old.changes added (record { words = words; passes = passes_from 0 views }) (record { words = words; passes = passes_from 0 views' }) old.run may leads;
+    events = old.events ++ quiet added;
+    makes = subst (λ (l : List Action). RunMakes t.rules old.attrs (old.events ++ quiet added) (record { words = words; passes = passes_from 0 views' }) l) (ap (λ (l : List Action). total ++ l) (quiet-makes added) ∙ append-nil total)
+        (makes-more t.rules old.attrs old.events (quiet added) added (record { words = words; passes = passes_from 0 views }) (record { words = words; passes = passes_from 0 views' }) total old.makes (quiet-changes added) may leads
+        (quiet-in-holds t.rules (record { words = words; passes = passes_from 0 views }) added));
     parts = subst (λ (f : ℕ → List Deeds). TellsParts f views') (λ j k. same k j) tells;
   }
     where
-      same : (k : ℕ) → did_in t.rules (first_seated old.attrs) k old.changes ≡ did_in t.rules (first_seated old.attrs) k (old.changes ++ added)
-      same k = sym (did-both t.rules (first_seated old.attrs) k old.changes added
-          ∙ (ap (λ (w : World). did_in t.rules (first_seated old.attrs) k old.changes ++ did_in t.rules w k added) old.run.made
-          ∙ (ap (λ (l : List Deeds). did_in t.rules (first_seated old.attrs) k old.changes ++ l) (nobody k) ∙ append-nil (did_in t.rules (first_seated old.attrs) k old.changes))))
+      same : (k : ℕ) → did_in t.rules (first_seated old.attrs) k (changes_of old.events) ≡ did_in t.rules (first_seated old.attrs) k (changes_of (old.events ++ quiet added))
+      same k = let cs : List Change = changes_of old.events in sym (ap (did_in t.rules (first_seated old.attrs) k) (changes-both old.events (quiet added) ∙ ap (λ (l : List Change). cs ++ l) (quiet-changes added))
+          ∙ (did-both t.rules (first_seated old.attrs) k cs added
+          ∙ (ap (λ (w : World). did_in t.rules (first_seated old.attrs) k cs ++ did_in t.rules w k added) old.makes.run.made
+          ∙ (ap (λ (l : List Deeds). did_in t.rules (first_seated old.attrs) k cs ++ l) (nobody k) ∙ append-nil (did_in t.rules (first_seated old.attrs) k cs)))))
 
   -- where the parts stay as they are, and spent seats stay spent
-  kept-parts : (views' : List View) → ((k : ℕ) → IsSpent views k → IsSpent views' k) → (xs : List Part) → Every (λ (x : Part). IsSpent views x.number × IsTold (λ k. did_in t.rules (first_seated old.attrs) k old.changes) x) xs
-      → Every (λ (x : Part). IsSpent views' x.number × IsTold (λ k. did_in t.rules (first_seated old.attrs) k old.changes) x) xs
+  kept-parts : (views' : List View) → ((k : ℕ) → IsSpent views k → IsSpent views' k) → (xs : List Part) → Every (λ (x : Part). IsSpent views x.number × IsTold (λ k. did_in t.rules (first_seated old.attrs) k (changes_of old.events)) x) xs
+      → Every (λ (x : Part). IsSpent views' x.number × IsTold (λ k. did_in t.rules (first_seated old.attrs) k (changes_of old.events)) x) xs
   kept-parts views' stays = every-part (λ x h. (stays x.number h.0, h.1))
 
   -- the last pass splits off the next
   pub run-splits : (id : ℕ) (v : View) → get_elem? views id ≡ some v → v.live ≡ true → number v + 1 ≡ length views → wide (length (passes_from 0 views)) < length words
-      → passes_from 0 views ++ idle (length (passes_from 0 views)) ∷ [] ≡ passes_from 0 (set views id (not_last v) ++ next_view v ∷ []) → HasRun t words (set views id (not_last v) ++ next_view v ∷ [])
+      → passes_from 0 views ++ idle (length (passes_from 0 views)) ∷ [] ≡ passes_from 0 (set views id (not_last v) ++ next_view v ∷ []) → HasRun t words (set views id (not_last v) ++ next_view v ∷ []) total
   run-splits id v at live long room same = let l : View = not_last v in let n : View = next_view v in let vs : List View = set views id l in
       let stays : (k : ℕ) → IsSpent views k → IsSpent (vs ++ n ∷ []) k = λ k d. dead_longer vs n k (dead_stays views id v l at live k d) in
       let size : length vs ≡ length views = length-set views id l in
@@ -73,7 +79,7 @@ module _ (t : Terms) (words : List ℕ) (views : List View) (old : HasRun t word
   -- an idle pass is given back to another
   pub run-joins : (id : ℕ) (v : View) (other : ℕ) (w : View) → get_elem? views id ≡ some v → v.live ≡ true → get_elem? views other ≡ some w → w.live ≡ true → other ≢ id → number w ≡ other
       → get_elem? (passes_from 0 views) other ≡ some w.pass → w.pass.phase ≡ Idle → passes_from 0 (set (set views id (with_given v w)) other spent_view) ≡ set (passes_from 0 views) other (idle other)
-      → get_elem? (set views id (with_given v w)) other ≡ some w → IsSpent (set (set views id (with_given v w)) other spent_view) (number w) → HasRun t words (set (set views id (with_given v w)) other spent_view)
+      → get_elem? (set views id (with_given v w)) other ≡ some w → IsSpent (set (set views id (with_given v w)) other spent_view) (number w) → HasRun t words (set (set views id (with_given v w)) other spent_view) total
   run-joins id v other w at live at' live' apart num here rests gone at'' now = let b : View = with_given v w in let vs : List View = set views id b in let vs' : List View = set vs other spent_view in
       let stays : (k : ℕ) → IsSpent views k → IsSpent vs' k = λ k d. dead_stays vs other w spent_view at'' live' k (dead_stays views id v b at live k d) in
       let size : length vs' ≡ length views = length-set vs other spent_view ∙ length-set views id b in
@@ -102,15 +108,17 @@ module _ (t : Terms) (words : List ℕ) (views : List View) (old : HasRun t word
 
   -- once all are given back
   pub run-closes : (id : ℕ) (v : View) (n : ℕ) → get_elem? views id ≡ some v → v.live ≡ true → number v ≡ id → length views ≤ n → ((k : ℕ) → (known (passes_from 0 views) k).phase ≡ Idle)
-      → RanUntilClosed t.rules t.attrs n (v.parts ++ part_of v ∷ [])
+      → RanUntilClosed t.rules t.attrs n (v.parts ++ part_of v ∷ []) total
   run-closes id v n at live num few rest = record {
     attrs = old.attrs;
     opened = old.opened;
-    changes = old.changes;
-    world = record { words = words; passes = passes_from 0 views };
-    run = old.run;
-    idle = λ k. ap is_idle (rest k);
-    told = every-end (IsTold (λ k. did_in t.rules (first_seated old.attrs) k old.changes)) v.parts (part_of v) (every-part (λ x h. h.1) v.parts (old.parts.back id v at))
+    ran = record {
+      events = old.events;
+      world = record { words = words; passes = passes_from 0 views };
+      makes = old.makes;
+      idle = λ k. ap is_idle (rest k);
+    };
+    told = every-end (IsTold (λ k. did_in t.rules (first_seated old.attrs) k (changes_of old.events))) v.parts (part_of v) (every-part (λ x h. h.1) v.parts (old.parts.back id v at))
         (old.parts.own id v at live ∙ (λ j. part_in (sym num j) (did (sym num j))));
     nobody_else = λ k h. old.parts.unborn k (omega arith);
   }

@@ -9,34 +9,41 @@ use Rattle.shfl_core.specs.declared.phase.Phase.TheVariants.{Idle}
 use Rattle.shfl_core.specs.declared.phase.PassState.{PassState}
 use Rattle.shfl_core.specs.declared.phase.Rules.{Rules}
 use Rattle.shfl_core.specs.Plan.{moving}
-use Rattle.shfl_core.specs.Waiting.{MayUse}
+use Rattle.shfl_core.specs.Waiting.{MayUse, idle}
 use Rattle.shfl_core.specs.Worlds.{World, known, stepped, tried, Step}
 use Rattle.shfl_core.specs.Lawful.{Terms}
-use Rattle.shfl_core.proofs.Lists.{set-again}
+use Rattle.shfl_core.proofs.Lists.{set-again, seen-at}
 use Rattle.shfl_laws.specs.Changes.{Change, Moves, Tries, Disables, is_idle_there, after_change, after_changes, EachMayChange}
+use Rattle.shfl_laws.specs.Holds.{hold_of}
 use Rattle.shfl_laws.specs.Moves.{first_seated}
-use Rattle.shfl_laws.specs.Runs.{IsRun, step_changes, unseen_move}
+use Rattle.shfl_laws.specs.Runs.{unseen_move}
 use Rattle.shfl_laws.specs.Seen.{SeenAs, Alike, Enters, Leaves}
 use Rattle.shfl_laws.specs.Stealing.{stealing_disabled}
+use Rattle.shfl_laws.proofs.laws.Holds.{hold-seen}
 use Rattle.shfl_laws.proofs.runs.OwnChanges.{stands, step-changes-lead}
-use Rattle.shfl_laws.proofs.runs.Runs.{more, there-is, tries}
+use Rattle.shfl_laws.proofs.runs.Runs.{after-both, there-is, tries}
 use Rattle.shfl_table.specs.declared.kept.Action.{Action}
 use Rattle.shfl_table.specs.declared.view.Decision.{Decision}
 use Rattle.shfl_table.specs.declared.view.Part.{Part}
 use Rattle.shfl_table.specs.declared.view.View.{View}
+use Rattle.shfl_table.specs.MadeInHolds.{RunEvent, changes_of, MakesInHold, RunMakes}
 use Rattle.shfl_table.specs.Places.{Every}
 use Rattle.shfl_table.specs.Views.{Deeds, step_deeds, attempt_deeds, no_deeds, part_of, passes_from, view_after, IsSpent}
-use Rattle.shfl_table.specs.ThreadRuns.{own_deeds, did_in, attempts_in, decisions_in, part_in, IsTold, HasRun}
+use Rattle.shfl_table.specs.ThreadRuns.{own_deeds, did_in, attempts_in, decisions_in, part_in, IsTold, TellsParts, HasRun}
+use Rattle.shfl_table.proofs.MadeInHolds.{PutsIn, ending, ending-changes, ending-in-holds, ending-makes, changes-both, makes-more}
 use Rattle.shfl_table.proofs.Places.{there}
-use Rattle.shfl_table.proofs.SeatViews.{passes-set, live-pass, dead_stays, not_dead}
+use Rattle.shfl_table.proofs.SeatViews.{passes-set, live-pass, pass-there, dead_stays, not_dead, hold-here, hold-was}
 
 -- one operation of the pass id, as changes: they lead from the world w to another, and are just this operation of this pass
 pub record GoesOn (t : Rules) (w : World) (id : ℕ) (d : Deeds) (w' : World) : Type 0 where
-  pub added : List Change
-  pub may : EachMayChange t.form added
-  pub leads : after_changes t w added ≡ w'
-  pub own : did_in t w id added ≡ d ∷ []
-  pub others : (k : ℕ) → k ≢ id → did_in t w k added ≡ []
+  -- the operation is the last of the changes, and the others leave the pass's hold
+  pub before : List Change
+  pub last : Change
+  pub may : EachMayChange t.form (before ++ last ∷ [])
+  pub leads : after_changes t w (before ++ last ∷ []) ≡ w'
+  pub own : did_in t w id (before ++ last ∷ []) ≡ d ∷ []
+  pub others : (k : ℕ) → k ≢ id → did_in t w k (before ++ last ∷ []) ≡ []
+  pub holds : hold_of (known (after_changes t w before).passes id) ≡ hold_of (known w.passes id)
 
 -- what is done by two lists of changes, one behind the other
 pub did-both : (t : Rules) (w : World) (k : ℕ) (xs ys : List Change) → did_in t w k (xs ++ ys) ≡ did_in t w k xs ++ did_in t (after_changes t w xs) k ys
@@ -62,31 +69,37 @@ pub step-goes-on : (t : Rules) (w : World) (p : ℕ) (own seen : PassState) (cho
 step-goes-on t w p own seen choice at as_seen goes = let s = step-changes-lead t w p own seen at choice goes as_seen in let v : World = after_changes t w (unseen_move p as_seen) in
     let k : known v.passes p ≡ own = stands t w p own seen at as_seen in
     let split = λ (z : ℕ). did-both t w z (unseen_move p as_seen) (Moves (Step p choice) ∷ []) ∙ ap (λ (l : List Deeds). l ++ did_in t v z (Moves (Step p choice) ∷ [])) (unseen-does t w p z own seen as_seen) in record {
-      added = step_changes p choice as_seen;
+      before = unseen_move p as_seen;
+      last = Moves (Step p choice);
       may = s.0;
       leads = s.1;
       own = split p ∙ (mine p (moving (known v.passes p)) (step_deeds t (known v.passes p) choice ∷ []) (ap moving k ∙ goes) ∙ ap (λ (q : PassState). step_deeds t q choice ∷ []) k);
       others = λ z ne. split z ∙ theirs p z (moving (known v.passes p)) (step_deeds t (known v.passes p) choice ∷ []) ne;
+      holds = ap hold_of k ∙ (hold-seen t.form own seen as_seen ∙ sym (ap hold_of (seen-at w.passes p seen (idle p) at).0));
     }
 
 -- the one operation of an attempt
 pub attempt-goes-on : (t : Rules) (w : World) (p : ℕ) (q : PassState) (mode : Mode) → get_elem? w.passes p ≡ some q → q.phase ≡ Idle → MayUse t.form mode → GoesOn t w p attempt_deeds (tried w p q mode)
 attempt-goes-on t w p q mode at rests may = record {
-  added = Tries p mode ∷ [];
+  before = [];
+  last = Tries p mode;
   may = (may, tt);
   leads = tries t w p q mode at rests;
   own = mine p (is_idle_there w p) (attempt_deeds ∷ []) (there-is w p q at rests).0;
   others = λ z ne. theirs p z (is_idle_there w p) (attempt_deeds ∷ []) ne;
+  holds = refl;
 }
 
 -- stealing disabled beside the rows, by a pass that stands as it stood
 pub disabling-goes-on : (t : Rules) (w : World) (p : ℕ) (q : PassState) → get_elem? w.passes p ≡ some q → GoesOn t w p no_deeds (record { words = (stealing_disabled w).words; passes = set w.passes p q })
 disabling-goes-on t w p q at = record {
-  added = Disables p ∷ [];
+  before = [];
+  last = Disables p;
   may = (tt, tt);
   leads = λ j. record { words = (stealing_disabled w).words; passes = sym (set-again w.passes p q at) j };
   own = (λ j. cond (eq-eqb p p refl j) (no_deeds ∷ []) [] ++ []);
   others = λ z ne. (λ j. cond (ne_eqb p z (λ e. ne (sym e)) j) (no_deeds ∷ []) [] ++ []);
+  holds = refl;
 }
 
 -- a part that goes on by one operation
@@ -116,31 +129,43 @@ pub every-part : {A B : Part → Type 0} → ((x : Part) → A x → B x) → (x
 every-part f [] h = tt
 every-part f (x ∷ xs) h = (f x h.0, every-part f xs h.1)
 
-module _ (t : Terms) (words : List ℕ) (views : List View) (old : HasRun t words views) (id : ℕ) (v : View) (at : get_elem? views id ≡ some v) (live : v.live ≡ true) where
-  abbrev W : World
-  W = record { words = words; passes = passes_from 0 views }
-
+module _ (t : Terms) (words : List ℕ) (views : List View) (total : List Action) (old : HasRun t words views total) (id : ℕ) (v : View) (at : get_elem? views id ≡ some v) (live : v.live ≡ true) where
   -- the list goes on, and what each pass did in it
-  longer : (added : List Change) (k : ℕ) → did_in t.rules (first_seated old.attrs) k (old.changes ++ added) ≡ did_in t.rules (first_seated old.attrs) k old.changes ++ did_in t.rules (record { words = words; passes = passes_from 0 views }) k added
-  longer added k = did-both t.rules (first_seated old.attrs) k old.changes added
-      ∙ ap (λ (w : World). did_in t.rules (first_seated old.attrs) k old.changes ++ did_in t.rules w k added) old.run.made
+  longer : (added : List Change) (k : ℕ) → did_in t.rules (first_seated old.attrs) k (changes_of old.events ++ added) ≡ did_in t.rules (first_seated old.attrs) k (changes_of old.events) ++ did_in t.rules (record { words = words; passes = passes_from 0 views }) k added
+  longer added k = did-both t.rules (first_seated old.attrs) k (changes_of old.events) added
+      ∙ ap (λ (w : World). did_in t.rules (first_seated old.attrs) k (changes_of old.events) ++ did_in t.rules w k added) old.makes.run.made
+
+  -- an operation that ends a hold does so at its last change
+  ends-there : (d : Deeds) (q : PassState) (words' : List ℕ) (total' : List Action) (g : GoesOn t.rules (record { words = words; passes = passes_from 0 views }) id d (record { words = words'; passes = set (passes_from 0 views) id q })) (puts : PutsIn id v.pass q total total')
+      → MakesInHold t.rules (after_changes t.rules (record { words = words; passes = passes_from 0 views }) g.before) (record { change = g.last; made = puts.grew.0 })
+  ends-there d q words' total' g puts made = let w : World = record { words = words; passes = passes_from 0 views } in let here : get_elem? (passes_from 0 views) id ≡ some v.pass = pass-there views id v at live in
+      let h = puts.ends made in record {
+        worker = id;
+        wrote = g.holds ∙ (hold-was (passes_from 0 views) id v.pass q here ∙ h.0);
+        ended = ap (λ (z : World). hold_of (known z.passes id)) (sym (after-both t.rules w g.before (g.last ∷ [])) ∙ g.leads) ∙ (hold-here (passes_from 0 views) id v.pass q here ∙ h.1);
+        own = puts.grew.2;
+      }
 
   -- an operation of a pass goes on with the run
-  pub run-after : (d : Deeds) (q : PassState) (words' : List ℕ) (seen : List Action) → q.reg.me ≡ id → GoesOn t.rules (record { words = words; passes = passes_from 0 views }) id d (record { words = words'; passes = set (passes_from 0 views) id q })
-      → HasRun t words' (set views id (view_after d v q seen))
-  run-after d q words' seen num g = let w : View = view_after d v q seen in let vs : List View = set views id w in
+  pub run-after : (d : Deeds) (q : PassState) (words' : List ℕ) (seen total' : List Action) → q.reg.me ≡ id → GoesOn t.rules (record { words = words; passes = passes_from 0 views }) id d (record { words = words'; passes = set (passes_from 0 views) id q })
+      → PutsIn id v.pass q total total' → HasRun t words' (set views id (view_after d v q seen)) total'
+  run-after d q words' seen total' num g puts = let w : View = view_after d v q seen in let vs : List View = set views id w in let cs : List Change = changes_of old.events in let more : List Change = g.before ++ g.last ∷ [] in let own : List Action = puts.grew.0 in
+      let added : List RunEvent = ending g.before g.last own in let same : changes_of added ≡ more = ending-changes g.before g.last own in let all : cs ++ more ≡ changes_of (old.events ++ added) = ap (λ (l : List Change). cs ++ l) (sym same) ∙ sym (changes-both old.events added) in
+      let W : World = record { words = words; passes = passes_from 0 views } in
       let passes : passes_from 0 vs ≡ set (passes_from 0 views) id q = passes-set 0 views id w ∙ ap (set (passes_from 0 views) id) (live-pass (0 + id) w live) in
-      let did : ℕ → List Deeds = λ k. did_in t.rules (first_seated old.attrs) k old.changes in
-      let did' : ℕ → List Deeds = λ k. did_in t.rules (first_seated old.attrs) k (old.changes ++ g.added) in
-      let mine : did' id ≡ did id ++ d ∷ [] = longer g.added id ∙ ap (λ (l : List Deeds). did id ++ l) g.own in
-      let theirs : (k : ℕ) → k ≢ id → did' k ≡ did k = λ k ne. longer g.added k ∙ (ap (λ (l : List Deeds). did k ++ l) (g.others k ne) ∙ append-nil (did k)) in
+      let did : ℕ → List Deeds = λ k. did_in t.rules (first_seated old.attrs) k cs in
+      let did' : ℕ → List Deeds = λ k. did_in t.rules (first_seated old.attrs) k (cs ++ more) in
+      let mine : did' id ≡ did id ++ d ∷ [] = longer more id ∙ ap (λ (l : List Deeds). did id ++ l) g.own in
+      let theirs : (k : ℕ) → k ≢ id → did' k ≡ did k = λ k ne. longer more k ∙ (ap (λ (l : List Deeds). did k ++ l) (g.others k ne) ∙ append-nil (did k)) in
       let parts : (xs : List Part) → Every (λ (x : Part). IsSpent views x.number × IsTold did x) xs → Every (λ (x : Part). IsSpent vs x.number × IsTold did' x) xs = every-part (λ x h.
       let ne = not_dead views id v at live x.number h.0 in (dead_stays views id v w at live x.number h.0, h.1 ∙ ap (part_in x.number) (sym (theirs x.number ne)))) in record {
         attrs = old.attrs;
         opened = old.opened;
-        changes = old.changes ++ g.added;
-        run = subst (λ (l : List PassState). IsRun t.rules old.attrs (old.changes ++ g.added) (record { words = words'; passes = l })) (sym passes) (more t.rules old.attrs old.changes g.added (record { words = words; passes = passes_from 0 views }) (record { words = words'; passes = set (passes_from 0 views) id q }) old.run g.may g.leads);
-        parts = record {
+        events = old.events ++ added;
+        makes = subst (λ (z : List PassState × List Action). RunMakes t.rules old.attrs (old.events ++ added) (record { words = words'; passes = z.0 }) z.1) (λ j. (sym passes j, (ap (λ (l : List Action). total ++ l) (ending-makes g.before g.last own) ∙ sym puts.grew.1) j))
+            (makes-more t.rules old.attrs old.events added more W (record { words = words'; passes = set (passes_from 0 views) id q }) total old.makes same g.may g.leads
+            (ending-in-holds t.rules W g.before g.last own (ends-there d q words' total' g puts)));
+        parts = subst (λ (l : List Change). TellsParts (λ k. did_in t.rules (first_seated old.attrs) k l) vs) all (record {
           own = λ seat u e l. ⊎_elim
               (λ p. subst (λ (z : ℕ × View). part_of z.1 ≡ part_in z.0 (did' z.0)) (λ i. (sym p.0 i, p.1 i)) (part-after d v q seen id (did id) (old.parts.own id v at live) num ∙ ap (part_in id) (sym mine)))
               (λ p. old.parts.own seat u p.1 l ∙ ap (part_in seat) (sym (theirs seat p.0)))
@@ -150,5 +175,5 @@ module _ (t : Terms) (words : List ℕ) (views : List View) (old : HasRun t word
               (λ p. parts u.parts (old.parts.back seat u p.1))
               (at_set views id seat w u e);
           unborn = λ k h. theirs k (λ is. absurd (let x = there views id v at in let y = length-set views id w in omega arith)) ∙ old.parts.unborn k (subst (λ n. n ≤ k) (length-set views id w) h);
-        };
+        });
       }

@@ -21,6 +21,7 @@ use Rattle.shfl_table.specs.Views.{Deeds, passes_from, view_after}
 use Rattle.shfl_table.specs.BoardRule.{AreHome, BoardRule, Homes, IsHome, SeatFacts, world_of}
 use Rattle.shfl_laws.proofs.laws.Holds.{alone}
 use Rattle.shfl_table.proofs.Histories.{knew_itself, knew_more}
+use Rattle.shfl_table.proofs.MadeInHolds.{PutsIn, puts-nothing}
 use Rattle.shfl_table.proofs.ThreadRuns.{GoesOn, run-after}
 use Rattle.shfl_table.proofs.SeatViews.{passes-set, live-pass, pass-there, seated_after, none-some, write-read, hold-here, hold-was, hold-else, hold-same}
 
@@ -40,14 +41,14 @@ module _ {V : Type 0} (initial_state : V → List ℕ) (history : V → List Act
   abbrev Whole : Type 0
   Whole = State (Option V) View
 
-  ruled-of : (homes : Homes V) (total seen : List Action) → AreHome initial_state history r total (set (passes_from 0 s.views) id q) homes → ((k : ℕ) → length s.views ≤ k → actions_by k total ≡ [])
+  ruled-of : (homes : Homes V) (total seen : List Action) → PutsIn id v.pass q ok.total total → AreHome initial_state history r total (set (passes_from 0 s.views) id q) homes → ((k : ℕ) → length s.views ≤ k → actions_by k total ≡ [])
       → ((seat : ℕ) (u : View) → get_elem? (set s.views id (view_after qs v q seen)) seat ≡ some u → SeatFacts r total (set s.views id (view_after qs v q seen)) seat u)
       → BoardRule initial_state history t r (record { words = words; homes = homes; views = set s.views id (view_after qs v q seen) })
-  ruled-of homes total seen free unborn seated = let w : View = view_after qs v q seen in
+  ruled-of homes total seen puts free unborn seated = let w : View = view_after qs v q seen in
       let passes : passes_from 0 (set s.views id w) ≡ set (passes_from 0 s.views) id q = passes-set 0 s.views id w ∙ ap (set (passes_from 0 s.views) id) (live-pass (0 + id) w live) in record {
         total = total;
         lawful = subst (λ (l : List PassState). Lawful t (record { words = words; passes = l })) (sym passes) law;
-        run = run-after t s.words s.views ok.run id v at live qs q words seen (law.numbers id q (set_here (passes_from 0 s.views) id q (there (passes_from 0 s.views) id v.pass here))) grown;
+        run = run-after t s.words s.views ok.total ok.run id v at live qs q words seen total (law.numbers id q (set_here (passes_from 0 s.views) id q (there (passes_from 0 s.views) id v.pass here))) grown puts;
         free = subst (λ (l : List PassState). AreHome initial_state history r total l homes) (sym passes) free;
         unborn = λ k h. unborn k (subst (λ n. n ≤ k) (length-set s.views id w) h);
         seated = seated;
@@ -61,7 +62,7 @@ module _ {V : Type 0} (initial_state : V → List ℕ) (history : V → List Act
   -- the hold stays as it was
   pub stays-ruled : hold_of v.pass ≡ hold_of q → BoardRule initial_state history t r (record { words = words; homes = s.homes; views = set s.views id (view_after qs v q v.history) })
   stays-ruled e = let o = ok.seated id v at in let same = hold-same (passes_from 0 s.views) id v.pass q here e in
-      ruled-of s.homes ok.total v.history
+      ruled-of s.homes ok.total v.history (puts-nothing id v.pass q ok.total)
       (λ none k small. ⊎_elim (λ x. inl (same k ∙ x)) (λ x. inr x) (ok.free (λ p h. none p (same p ∙ h)) k small))
       ok.unborn (same-total v.history (o.knew live) (λ h. o.holder live (λ x. h (sym e ∙ x))))
 
@@ -77,7 +78,7 @@ module _ {V : Type 0} (initial_state : V → List ℕ) (history : V → List Act
             ∙ alone t (record { words = words; passes = set (passes_from 0 s.views) id q }) law id p (hold-here (passes_from 0 s.views) id v.pass q here ∙ gains) ne)
 
     pub write-ruled : (homes : Homes V) → BoardRule initial_state history t r (record { words = words; homes = homes; views = set s.views id (view_after qs v q ok.total) })
-    write-ruled homes = ruled-of homes ok.total ok.total
+    write-ruled homes = ruled-of homes ok.total ok.total (puts-nothing id v.pass q ok.total)
         (λ free k small. absurd (free id (hold-here (passes_from 0 s.views) id v.pass q here ∙ gains)))
         ok.unborn (same-total ok.total (knew_itself id ok.total) (λ h. refl))
 
@@ -93,7 +94,7 @@ module _ {V : Type 0} (initial_state : V → List ℕ) (history : V → List Act
     own-home small = ⊎_elim (λ x. absurd (none-some (hold_of (known (passes_from 0 s.views) id)) Read (hold-was (passes_from 0 s.views) id v.pass q here ∙ none) x)) (λ x. x) (ok.free no-writer id small)
 
     pub read-ruled : (homes : Homes V) → length homes ≡ length s.homes → ((k : ℕ) → k ≢ id → get_elem? homes k ≡ get_elem? s.homes k) → BoardRule initial_state history t r (record { words = words; homes = homes; views = set s.views id (view_after qs v q ok.total) })
-    read-ruled homes long same = ruled-of homes ok.total ok.total
+    read-ruled homes long same = ruled-of homes ok.total ok.total (puts-nothing id v.pass q ok.total)
         (λ free k small. dite (ℕ_discrete k id)
         (λ is. inl (ap (λ z. hold_of (known (set (passes_from 0 s.views) id q) z)) is ∙ (hold-here (passes_from 0 s.views) id v.pass q here ∙ gains)))
         (λ ne. ⊎_elim (λ x. inl (hold-else (passes_from 0 s.views) id v.pass q here k ne ∙ x)) (λ x. inr (x.0, same k ne ∙ x.1, x.2, x.3)) (ok.free no-writer k (subst (λ n. k < n) long small))))
@@ -105,7 +106,7 @@ module _ {V : Type 0} (initial_state : V → List ℕ) (history : V → List Act
     nobody-else p ne = alone t (world_of s) ok.lawful id p (hold-was (passes_from 0 s.views) id v.pass q here ∙ was) ne
 
     pub freed-ruled : (homes : Homes V) (new : List Action) → ((k : ℕ) → k < length homes → IsHome initial_state history r new homes k) → Continues id ok.total new → BoardRule initial_state history t r (record { words = words; homes = homes; views = set s.views id (view_after qs v q new) })
-    freed-ruled homes new homed grew = ruled-of homes new new (λ free k small. inr (homed k small))
+    freed-ruled homes new homed grew = ruled-of homes new new (record { grew = grew; ends = λ _. (was, now) }) (λ free k small. inr (homed k small))
         (λ k h. (knew_more id k ok.total new ok.total grew (λ is. absurd (let x = there s.views id v at in omega arith)) (knew_itself k ok.total)).1 ∙ ok.unborn k h)
         (seated_after r id s.views v (view_after qs v q new) ok.total new at live ok.seated live refl refl refl (λ k u ne know. knew_more id k ok.total new u grew ne know) (knew_itself id new) (λ _. refl)
         (λ seat u ne there_is l h e. absurd (h (sym (ap hold_of (seen-at (passes_from 0 s.views) seat u.pass (idle seat) (pass-there s.views seat u there_is l)).0) ∙ nobody-else seat ne))))
@@ -114,7 +115,7 @@ module _ {V : Type 0} (initial_state : V → List ℕ) (history : V → List Act
   module _ (was : hold_of v.pass ≡ Some Read) (now : hold_of q ≡ None) where
     pub unread-ruled : (homes : Homes V) → length homes ≡ length s.homes → ((k : ℕ) → k ≢ id → get_elem? homes k ≡ get_elem? s.homes k) → (id < length homes → IsHome initial_state history r ok.total homes id)
         → BoardRule initial_state history t r (record { words = words; homes = homes; views = set s.views id (view_after qs v q ok.total) })
-    unread-ruled homes long same homed = ruled-of homes ok.total ok.total
+    unread-ruled homes long same homed = ruled-of homes ok.total ok.total (puts-nothing id v.pass q ok.total)
         (λ free k small. dite (ℕ_discrete k id)
         (λ is. inr (subst (λ z. IsHome initial_state history r ok.total homes z) (sym is) (homed (subst (λ z. z < length homes) is small))))
         (λ ne. ⊎_elim (λ x. inl (hold-else (passes_from 0 s.views) id v.pass q here k ne ∙ x)) (λ x. inr (x.0, same k ne ∙ x.1, x.2, x.3)) (ok.free no-writers k (subst (λ n. k < n) long small))))

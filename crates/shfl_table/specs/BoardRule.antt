@@ -47,8 +47,8 @@ pub record BoardRule {V : Type 0} (initial_state : V → List ℕ) (history : V 
   -- the whole history
   pub total : List Action
   pub lawful : Lawful t (world_of s)
-  -- the list of what was done since the opening
-  pub run : HasRun t s.words s.views
+  -- the list of what was done since the opening, whose holds have made the whole history
+  pub run : HasRun t s.words s.views total
   pub free : AreHome initial_state history r total (passes_from 0 s.views) s.homes
   -- a pass that isn't yet there did nothing
   pub unborn : (k : ℕ) → length s.views ≤ k → actions_by k total ≡ []

@@ -1,5 +1,6 @@
 pub mod BoardRule
 pub mod Histories
+pub mod MadeInHolds
 pub mod PassInvariant
 pub mod PassModel
 pub mod PassSteps

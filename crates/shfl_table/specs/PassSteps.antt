@@ -21,9 +21,17 @@ use Rattle.shfl_table.specs.Histories.{HasSeen, common_history, IsCurrent}
 use Rattle.shfl_table.specs.Views.{step_decisions}
 use Rattle.shfl_table.specs.PassModel.{PassModel}
 
+-- the values are those of the places that the mode covers, each where the history leads
+abbrev pub AreCurrent : {X : Type 0} → (X → List ℕ) → (X → List Action) → Mode → PassModel X → PassModel X → Type 0
+AreCurrent {X} initial_state history mode old new =
+    (xs : List X)
+    × (new.values ≡ map Some xs)
+    × (length xs ≡ place_count (Some mode) old.own.reg.me old.board.table.slots)
+    × Every (IsCurrent initial_state history old.initial_state new.history) xs
+
 -- what a pass sees as it gains the hold: a history that goes on from the one seen, without own actions, and the values that have it
 abbrev pub SeesValues : {X : Type 0} → (X → List ℕ) → (X → List Action) → Mode → PassModel X → PassModel X → Type 0
-SeesValues {X} initial_state history mode old new = HasSeen new.history old.own.reg.me old.history × ((xs : List X) × (new.values ≡ map Some xs) × (length xs ≡ place_count (Some mode) old.own.reg.me old.board.table.slots) × Every (IsCurrent initial_state history old.initial_state new.history) xs)
+SeesValues initial_state history mode old new = HasSeen new.history old.own.reg.me old.history × AreCurrent initial_state history mode old new
 
 -- what the next step asks of a candidate tells the attributes of that pass
 abbrev pub AsksOfCandidate : {X : Type 0} → PassModel X → Type 0
@@ -36,15 +44,28 @@ pub record TakesStep {X : Type 0} (initial_state : X → List ℕ) (history : X 
   -- a look at a pass's attributes finds those of the opening, and what is asked of a candidate tells the candidate's
   pub attr : is_store (plan old.board.rules old.own.reg.me old.own) ≡ false → (q : ℕ) → site (plan old.board.rules old.own.reg.me old.own) ≡ AttrOf q → found ≡ slice_index old.board.attrs q
   pub asks : AsksOfCandidate old
-  pub row : new ≡ record old { own = take old.board.rules old.own.reg.me old.own found choice; steps_taken = old.steps_taken + 1; decisions = old.decisions ++ step_decisions old.board.rules old.own choice; history = new.history; values = new.values }
+  pub row : new ≡ record old {
+    own = take old.board.rules old.own.reg.me old.own found choice;
+    steps_taken = old.steps_taken + 1;
+    decisions = old.decisions ++ step_decisions old.board.rules old.own choice;
+    history = new.history;
+    values = new.values;
+  }
   pub number : new.own.reg.me ≡ old.own.reg.me
   pub stays : hold_of old.own ≡ hold_of new.own → (new.values ≡ old.values) × (new.history ≡ old.history)
   pub gains : (mode : Mode) → hold_of old.own ≡ None → hold_of new.own ≡ Some mode → SeesValues initial_state history mode old new
-  pub frees : (mode : Mode) → hold_of old.own ≡ Some mode → hold_of new.own ≡ None → (xs : List X) → old.values ≡ map Some xs → (new.values ≡ []) × (new.history ≡ common_history history old.history xs)
+  pub frees : (mode : Mode) → hold_of old.own ≡ Some mode → hold_of new.own ≡ None → (xs : List X) → old.values ≡ map Some xs
+      → (new.values ≡ []) × (new.history ≡ common_history history old.history xs)
 
 -- the one operation of an attempt, which found n
 pub record TriesOnce {X : Type 0} (initial_state : X → List ℕ) (history : X → List Action) (old : PassModel X) (mode : Mode) (n : ℕ) (new : PassModel X) : Type 0 where
-  pub row : new ≡ record old { own = attempted mode old.own.reg n; steps_taken = old.steps_taken + 1; attempts = old.attempts + 1; history = new.history; values = new.values }
+  pub row : new ≡ record old {
+    own = attempted mode old.own.reg n;
+    steps_taken = old.steps_taken + 1;
+    attempts = old.attempts + 1;
+    history = new.history;
+    values = new.values;
+  }
   pub stays : hold_of (attempted mode old.own.reg n) ≡ None → (new.values ≡ old.values) × (new.history ≡ old.history)
   pub gains : (m : Mode) → hold_of (attempted mode old.own.reg n) ≡ Some m → SeesValues initial_state history m old new
 

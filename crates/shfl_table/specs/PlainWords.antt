@@ -25,6 +25,7 @@ pub record ShowsHeadline {V : Type 0} (t : Terms) (s : State (Option V) View) : 
 abbrev pub BoardHeadline : {V : Type 0} → (V → List ℕ) → (V → List Action) → Type 0
 BoardHeadline {V} initial_state history = (t : Terms) (r : List ℕ) (s : State (Option V) View) → BoardRule initial_state history t r s → ShowsHeadline t s
 
--- every board has a run, between any two operations
+-- every board has a run, between any two operations, and the history of its values is what the holds of that run have made
 abbrev pub BoardHasRun : {V : Type 0} → (V → List ℕ) → (V → List Action) → Type 0
-BoardHasRun {V} initial_state history = (t : Terms) (r : List ℕ) (s : State (Option V) View) → BoardRule initial_state history t r s → HasRun t s.words s.views
+BoardHasRun {V} initial_state history = (t : Terms) (r : List ℕ) (s : State (Option V) View)
+    → (rule : BoardRule initial_state history t r s) → HasRun t s.words s.views rule.total

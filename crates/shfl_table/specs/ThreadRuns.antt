@@ -1,20 +1,21 @@
 -- What threads did on a board since its opening: a list of changes that makes its words and its passes, and in that list what
--- each pass did.
+-- each pass did, and what its holds have made.
 use Rattle.std.specs.Prelude.{◌≡◌, ℕ, ◌+◌, ◌≤◌, ◌==◌, ◌&&◌, true, cond, List, [], ◌∷◌, ◌++◌, map, length}
 use mathlib.Core.Option.{some}
 use lib.ListN.{get_elem?}
 use Rattle.shfl_line.specs.declared.words.Attr.{Attr}
 use Rattle.shfl_line.specs.Words.{attr_word}
 use Rattle.shfl_core.specs.declared.phase.Rules.{Rules}
-use Rattle.shfl_core.specs.Plan.{moving, is_idle}
+use Rattle.shfl_core.specs.Plan.{moving}
 use Rattle.shfl_core.specs.Worlds.{World, known, Acquire, Release, Step}
 use Rattle.shfl_core.specs.Lawful.{Terms}
 use Rattle.shfl_laws.specs.Changes.{Change, Moves, Tries, Disables, Fills, Replaces, is_idle_there, after_change}
 use Rattle.shfl_laws.specs.Moves.{first_seated}
-use Rattle.shfl_laws.specs.Runs.{IsRun}
+use Rattle.shfl_table.specs.declared.kept.Action.{Action}
 use Rattle.shfl_table.specs.declared.view.Decision.{Decision}
 use Rattle.shfl_table.specs.declared.view.Part.{Part}
 use Rattle.shfl_table.specs.declared.view.View.{View}
+use Rattle.shfl_table.specs.MadeInHolds.{RunEvent, changes_of, RunMakes, RanAs}
 use Rattle.shfl_table.specs.Places.{Every}
 use Rattle.shfl_table.specs.Views.{Deeds, step_deeds, attempt_deeds, no_deeds, part_of, passes_from, IsSpent}
 
@@ -61,23 +62,20 @@ pub record TellsParts (did : ℕ → List Deeds) (views : List View) : Type 0 wh
   pub unborn : (k : ℕ) → length views ≤ k → did k ≡ []
 
 -- the words and the passes, as they are seen, are what a list of changes makes of the opening, and in it each pass made just the
--- operations that its seat knows
-pub record HasRun (t : Terms) (words : List ℕ) (views : List View) : Type 0 where
+-- operations that its seat knows; the whole history is what the holds in that list have made, in the order in which they ended
+pub record HasRun (t : Terms) (words : List ℕ) (views : List View) (total : List Action) : Type 0 where
   -- the attributes of the opening
   pub attrs : List Attr
   pub opened : t.attrs ≡ map attr_word attrs
-  pub changes : List Change
-  pub run : IsRun t.rules attrs changes (record { words = words; passes = passes_from 0 views })
-  pub parts : TellsParts (λ k. did_in t.rules (first_seated attrs) k changes) views
+  pub events : List RunEvent
+  pub makes : RunMakes t.rules attrs events (record { words = words; passes = passes_from 0 views }) total
+  pub parts : TellsParts (λ k. did_in t.rules (first_seated attrs) k (changes_of events)) views
 
--- a list of changes leads from the opening with these attribute words to a world in which all passes are idle; in it each pass did
--- what it told as it was given back, and nobody else did anything
-pub record RanUntilClosed (rules : Rules) (attr_words : List ℕ) (count : ℕ) (parts : List Part) : Type 0 where
+-- the lock that opened with these attribute words came to rest by one run, and its holds have made the history; in that run each
+-- pass did what it told as it was given back, and nobody else did anything
+pub record RanUntilClosed (rules : Rules) (attr_words : List ℕ) (count : ℕ) (parts : List Part) (history : List Action) : Type 0 where
   pub attrs : List Attr
   pub opened : attr_words ≡ map attr_word attrs
-  pub changes : List Change
-  pub world : World
-  pub run : IsRun rules attrs changes world
-  pub idle : (p : ℕ) → is_idle (known world.passes p).phase ≡ true
-  pub told : Every (IsTold (λ k. did_in rules (first_seated attrs) k changes)) parts
-  pub nobody_else : (p : ℕ) → count ≤ p → did_in rules (first_seated attrs) p changes ≡ []
+  pub ran : RanAs rules attrs history
+  pub told : Every (IsTold (λ k. did_in rules (first_seated attrs) k (changes_of ran.events))) parts
+  pub nobody_else : (p : ℕ) → count ≤ p → did_in rules (first_seated attrs) p (changes_of ran.events) ≡ []

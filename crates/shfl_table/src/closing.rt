@@ -116,7 +116,8 @@ impl<V: Kept + Drop> Closing<V> {
 
     /// The values, once all passes are given back: with the initial state of the opening and one history, which begins with what each
     /// pass saw, has each pass's actions as that pass saw them, and no others. All that was done to the lock since its opening is one
-    /// list of changes, in which each pass did what it tells, and nobody else did anything.
+    /// list of changes, in which each pass did what it tells, and nobody else did anything; and the history is what the holds in that
+    /// list have made, in the order in which they ended: each action by its worker, while that one alone held the lock.
     pub fn finish(self) -> Vec<V>
         requires all { (k : ℕ) → k < self.board.count
             → (g : Given) × IsAmong g self.back × (g.number ≡ k) }
@@ -126,8 +127,11 @@ impl<V: Kept + Drop> Closing<V> {
             result.items
             × ((g : Given) → IsAmong g self.back → HasSeen total g.number g.history)
             × ((k : ℕ) → self.board.count ≤ k → actions_by k total ≡ []) }
-        ensures run { RanUntilClosed self.board.id.rules self.board.id.attrs self.board.count
-            self.parts }
+        ensures run { (total : List Action)
+            × Every (IsCurrent V.initial_state V.history self.board.initial_state total)
+            result.items
+            × RanUntilClosed self.board.id.rules self.board.id.attrs self.board.count
+            self.parts total }
     {
         let Closing { board, desk } = self;
         let SharedBoard {

@@ -58,7 +58,7 @@ pub struct Opening<V> {
 }
 
 /// The words and the passes are a lawful world, which a list of changes makes of the opening; each seat knows what its pass did in that
-/// list; and every value is at home or out with a holder.
+/// list; the holds in it have made the history of the values; and every value is at home or out with a holder.
 pub struct LawfulBoard;
 
 impl<V: Kept> TableRule<Option<V>, View, Opening<V>> for LawfulBoard {

@@ -72,14 +72,6 @@ none_left-of : {A : Type 0} (xs ys all : List A) → length xs ≡ 0 → all ≡
 none_left-of [] ys all h e = sym e
 none_left-of (x ∷ xs) ys all h e = absurd (omega arith)
 
-pub returns-clause-run : goal.returns-clause-run
-returns-clause-run g c = let i = c.loop-pass.invariant in let n = c.in_default-pop.ensures.cases.0 in let ok = c.loop-pass.passes.ok.0 in
-    let all : i.4.0 ≡ c.args.passes.items = none_left-of c.loop-pass.passes.items i.4.0 c.args.passes.items (omega arith) i.4.1 in record {
-      parts = c.loop-pass.closing.parts;
-      told = subst (λ (l : List CellPassModel). ArePartsOf l c.loop-pass.closing.parts) all i.4.2;
-      run = subst (λ (z : CellModel). RanUntilClosed z.id.rules z.id.attrs z.count c.loop-pass.closing.parts) i.0 c.finish-values.ensures.run;
-    }
-
 no-given : (l : List CellPassModel) (h : Given) → length l ≡ 0 → IsAmong h (map given l) → ⊥
 no-given [] h n has = has
 no-given (x ∷ xs) h n has = absurd (omega arith)
@@ -99,33 +91,40 @@ new-closing-requires-clause-board g c = let P : CellPassModel → Type 0 = λ p.
     let popped = All-pop P c.args.passes.items c.pop.new.self.items c.pop.result c.pop.ensures.items c.requires.cell in
     let first = subst (λ o. IfSome o P) c.in-Some.is popped.1 in c.board_pass.ensures.board ∙ (first ∙ ap (λ (z : CellModel). z.id) (sym c.self.view_is))
 
-module _ (g : given_here.Over) (c : After-into_parts g) where
-  -- the one value that the lock gave back
-  last : IsCurrent (λ (x : BookModel). pack x.opening x.allowed) (λ (x : BookModel). x.history) c.loop-pass.closing.board.initial_state c.finish-values.ensures.values.0 c.in-Some-pop-2.book
-  last = let f = c.finish-values.ensures in let v = f.values in
-      let one : length c.finish-values.result.items ≡ 1 = (let l = f.len in let s = c.loop-pass.invariant.1 in let ok = c.finish-values.result.ok.0 in omega arith) in
-      one-of (IsCurrent (λ (x : BookModel). pack x.opening x.allowed) (λ (x : BookModel). x.history) c.loop-pass.closing.board.initial_state v.0) c.finish-values.result.items c.pop-2.new.self.items c.in-Some-pop-2.book v.1 c.in-Some-pop-2.ensures.items one
+-- the one value that the lock gave back, with the history that all its values have
+module _ (g : given_here.Over) (c : After-into_parts g) (total : List Action) (alike : Every (IsCurrent (λ (x : BookModel). pack x.opening x.allowed) (λ (x : BookModel). x.history) c.loop-pass.closing.board.initial_state total) c.finish-values.result.items) where
+  last : IsCurrent (λ (x : BookModel). pack x.opening x.allowed) (λ (x : BookModel). x.history) c.loop-pass.closing.board.initial_state total c.in-Some-pop-2.book
+  last = let one : length c.finish-values.result.items ≡ 1 = (let l = c.finish-values.ensures.len in let s = c.loop-pass.invariant.1 in let ok = c.finish-values.result.ok.0 in omega arith) in
+      one-of (IsCurrent (λ (x : BookModel). pack x.opening x.allowed) (λ (x : BookModel). x.history) c.loop-pass.closing.board.initial_state total) c.finish-values.result.items c.pop-2.new.self.items c.in-Some-pop-2.book alike c.in-Some-pop-2.ensures.items one
 
   opening : c.in-Some-pop-2.book.opening ≡ c.args.self.opening
   opening = sym (opening_of-pack c.in-Some-pop-2.book.opening c.in-Some-pop-2.book.allowed) ∙ (ap opening_of last.0 ∙ ap (λ (z : CellModel). z.opening) c.loop-pass.invariant.0)
 
-  whole : actions g.O.Object.call_numbers g.O.Object.reply_numbers c.into_parts.result.1.items ≡ c.finish-values.ensures.values.0
+  whole : actions g.O.Object.call_numbers g.O.Object.reply_numbers c.into_parts.result.1.items ≡ total
   whole = c.into_parts.ensures.history ∙ last.1
 
 pub returns-clause-legal : goal.returns-clause-legal
-returns-clause-legal g c = let d = (goal.at.returns-clause-legal g c).After-into_parts in let O = g.O.Object in
-    subst (λ (s : List ℕ). IsLegal O.reply_at O.state_after s (operations O.call_numbers O.reply_numbers c.into_parts.result.1.items)) (opening g d) c.into_parts.ensures.legal
+returns-clause-legal g c = let d = (goal.at.returns-clause-legal g c).After-into_parts in let O = g.O.Object in let v = c.finish-values.ensures.values in
+    subst (λ (s : List ℕ). IsLegal O.reply_at O.state_after s (operations O.call_numbers O.reply_numbers c.into_parts.result.1.items)) (opening g d v.0 v.1) c.into_parts.ensures.legal
 
 pub returns-clause-state : goal.returns-clause-state
-returns-clause-state g c = let d = (goal.at.returns-clause-state g c).After-into_parts in let O = g.O.Object in
-    c.into_parts.ensures.state ∙ ap (λ (s : List ℕ). state_left O.state_after s (operations O.call_numbers O.reply_numbers c.into_parts.result.1.items)) (opening g d)
+returns-clause-state g c = let d = (goal.at.returns-clause-state g c).After-into_parts in let O = g.O.Object in let v = c.finish-values.ensures.values in
+    c.into_parts.ensures.state ∙ ap (λ (s : List ℕ). state_left O.state_after s (operations O.call_numbers O.reply_numbers c.into_parts.result.1.items)) (opening g d v.0 v.1)
 
 pub returns-clause-seen : goal.returns-clause-seen
-returns-clause-seen g c = let d = (goal.at.returns-clause-seen g c).After-into_parts in let O = g.O.Object in
+returns-clause-seen g c = let d = (goal.at.returns-clause-seen g c).After-into_parts in let O = g.O.Object in let v = c.finish-values.ensures.values in
     let back = all_back g (goal.at.returns-clause-seen g c).In_default-pop in
     seen-of (actions O.call_numbers O.reply_numbers c.into_parts.result.1.items) c.args.passes.items
-    (λ h has. subst (λ (t : List Action). HasSeen t h.number h.history) (sym (whole g d)) (c.finish-values.ensures.values.2 h (subst (IsAmong h) back has)))
+    (λ h has. subst (λ (t : List Action). HasSeen t h.number h.history) (sym (whole g d v.0 v.1)) (v.2 h (subst (IsAmong h) back has)))
 
 pub returns-clause-nobody_else : goal.returns-clause-nobody_else
-returns-clause-nobody_else g c = let d = (goal.at.returns-clause-nobody_else g c).After-into_parts in
-    λ k h. ap (actions_by k) (whole g d) ∙ c.finish-values.ensures.values.3 k (subst (λ (z : CellModel). z.count ≤ k) (sym c.loop-pass.invariant.0) h)
+returns-clause-nobody_else g c = let d = (goal.at.returns-clause-nobody_else g c).After-into_parts in let v = c.finish-values.ensures.values in
+    λ k h. ap (actions_by k) (whole g d v.0 v.1) ∙ v.3 k (subst (λ (z : CellModel). z.count ≤ k) (sym c.loop-pass.invariant.0) h)
+
+pub returns-clause-run : goal.returns-clause-run
+returns-clause-run g c = let d = (goal.at.returns-clause-run g c).After-into_parts in let r = c.finish-values.ensures.run in let i = c.loop-pass.invariant in let n = c.in_default-pop.ensures.cases.0 in let ok = c.loop-pass.passes.ok.0 in
+    let all : i.4.0 ≡ c.args.passes.items = none_left-of c.loop-pass.passes.items i.4.0 c.args.passes.items (omega arith) i.4.1 in record {
+      parts = c.loop-pass.closing.parts;
+      told = subst (λ (l : List CellPassModel). ArePartsOf l c.loop-pass.closing.parts) all i.4.2;
+      run = subst (λ (z : CellModel × List Action). RanUntilClosed z.0.id.rules z.0.id.attrs z.0.count c.loop-pass.closing.parts z.1) (λ j. (i.0 j, sym (whole g d r.0 r.1) j)) r.2;
+    }

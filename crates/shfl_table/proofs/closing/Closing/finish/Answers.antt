@@ -1,9 +1,10 @@
-use Rattle.std.proofs.Common.{rules, ℕ, ◌<◌, sym, ap, ◌∙◌, subst, List}
+use Rattle.std.proofs.Common.{rules, ◌≡◌, ℕ, ◌<◌, sym, ap, ◌∙◌, subst, List, map, Some}
 use Rattle.std.specs.Mem.Slots.{slots_items}
 use Rattle.shfl_table.specs.PassModel.{BoardModel, ClosingModel}
 use Rattle.shfl_table.specs.Views.{IsAmong}
 use Rattle.shfl_laws.specs.Moves.{told_terms}
-use Rattle.shfl_table.specs.Histories.{initial_state_of}
+use Rattle.shfl_table.specs.Histories.{IsCurrent, initial_state_of}
+use Rattle.shfl_table.specs.Places.{Every}
 use Rattle.shfl_table.specs.declared.view.Given.{Given}
 use Rattle.shfl_table.specs.declared.view.Part.{Part}
 use Rattle.shfl_table.proofs.First.{count-is}
@@ -26,13 +27,21 @@ drained-requires-clause-all g c k h = let a = (goal.at.drained-requires-clause-a
     let f = c.close_with.ensures.values.2 in let long = f.3 in let n = c.close_with.ensures.counts.1 in
     let x = e.home k (search rules) in (x.0, x.1)
 
+module _ (g : given_here.Over) (c : After-close_with g) (values : List _) (drained : map Some values ≡ slots_items c.close_with.result.slots) where
+  alike : Every (IsCurrent g.V.Kept.initial_state g.V.Kept.history c.args.self.board.initial_state (is_ending g c).total) values
+  alike = all_alike g.V.Kept.initial_state g.V.Kept.history c.args.self.board.initial_state (is_ending g c).total values (slots_items c.close_with.result.slots) drained (is_ending g c).home
+
 pub returns-clause-values : goal.returns-clause-values
-returns-clause-values g c = let e = is_ending g (goal.at.returns-clause-values g c).After-close_with in (
+returns-clause-values g c = let a = (goal.at.returns-clause-values g c).After-close_with in let e = is_ending g a in (
   e.total,
-  all_alike g.V.Kept.initial_state g.V.Kept.history c.args.self.board.initial_state e.total c.drained.result.items (slots_items c.close_with.result.slots) c.drained.ensures e.home,
+  alike g a c.drained.result.items c.drained.ensures,
   e.knew,
   e.only,
 )
 
 pub returns-clause-run : goal.returns-clause-run
-returns-clause-run g c = (is_ending g (goal.at.returns-clause-run g c).After-close_with).run
+returns-clause-run g c = let a = (goal.at.returns-clause-run g c).After-close_with in let e = is_ending g a in (
+  e.total,
+  alike g a c.drained.result.items c.drained.ensures,
+  e.run,
+)
