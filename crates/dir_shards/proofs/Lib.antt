@@ -8,3 +8,4 @@ pub mod LockEnds
 pub mod JournalEnds
 pub mod ShardEnds
 pub mod Crossing
+pub mod LockRuns

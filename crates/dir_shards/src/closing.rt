@@ -8,7 +8,7 @@ ghost use Rattle.shard_rows.specs.Replay.{opening, left_by};
 ghost use Rattle.shard_rows.specs.Values.{names_after};
 ghost use Rattle.dir_shards.specs.Commits.{IsLegalFor, calls_by};
 ghost use Rattle.dir_shards.specs.ShardPasses.{IsPassOf, AreAll};
-ghost use Rattle.dir_shards.specs.Closings.{HasSeen, AreInPlace};
+ghost use Rattle.dir_shards.specs.Closings.{HasSeen, AreInPlace, HasRunOfEach};
 
 use crate::journal_closing::close_journal;
 use crate::lock_closing::close_locks;
@@ -50,6 +50,9 @@ impl ShardedDir {
             → calls_by k result.1.items ≡ [] }
         ensures places { HavePlaces result.1.items }
         ensures admitted { All (λ e. IsAdmitted self.room e.call) result.1.items }
+
+        // All that was done to each lock is one list of changes, in which each pass asked what it tells, and nobody else did anything.
+        ensures run { HasRunOfEach self passes.items }
     {
         let ShardedDir {
             boards,

@@ -1,8 +1,9 @@
 //! The locks are closed, one directory's after another's.
-ghost use Rattle.std.specs.Prelude.{◌≡◌, ◌<◌, ◌≤◌, [], All, length, map, reverse, vec_len, vec_capacity};
+ghost use Rattle.std.specs.Prelude.{◌≡◌, ℕ, ◌+◌, ◌<◌, ◌≤◌, [], All, length, map, reverse, vec_len, vec_capacity, slice_get, Some};
+ghost use Rattle.shfl_table.specs.PassModel.{BoardModel};
 ghost use Rattle.dir_shards.specs.KeptShards.{state_of};
 ghost use Rattle.dir_shards.specs.ShardPasses.{AreAll, without_last};
-ghost use Rattle.dir_shards.specs.Closings.{EndsOn, without_locks};
+ghost use Rattle.dir_shards.specs.Closings.{EndsOn, HasRunAt, without_locks};
 
 use crate::kept_shard::KeptShard;
 use crate::shard_pass::ShardPass;
@@ -16,6 +17,9 @@ fn close_lock(board: SharedBoard<KeptShard>, passes: &mut [ShardPass]) -> KeptSh
     requires one { board.id.table.slots ≡ 1 }
     ensures passes { passes.new ≡ map without_last passes.old }
     ensures kept { state_of result ≡ board.initial_state }
+    ensures asked { All (λ p. length p.decisions ≡ length p.locks) passes.old }
+    ensures run { (dir : ℕ) → All (λ p. length p.locks ≡ dir + 1) passes.old
+        → HasRunAt dir board.count board.id passes.old }
 {
     let first = passes[0].take_last();
     let mut closing = Closing::new(board, first);
@@ -44,6 +48,8 @@ pub fn close_locks(
     ensures passes { map without_locks passes.new ≡ map without_locks passes.old }
     ensures kept { map state_of kept.new.items
         ≡ reverse (map (λ b. b.initial_state) boards.items) }
+    ensures runs { (dir : ℕ) (b : BoardModel) → slice_get boards.items dir ≡ Some b
+        → HasRunAt dir b.count b.id passes.old }
 {
     while let Some(board) = boards.pop() {
         kept.push_reserved(close_lock(board, passes));

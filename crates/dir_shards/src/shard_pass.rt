@@ -1,9 +1,9 @@
 //! A caller's right to make so many calls of a sharded directory.
-ghost use Rattle.std.specs.Prelude.{◌≡◌, ◌<◌, [], true, false, length, OnOk};
+ghost use Rattle.std.specs.Prelude.{◌≡◌, ◌-◌, ◌<◌, [], true, false, length, OnOk};
 ghost use Rattle.shfl_core.specs.Plan.{is_idle};
-ghost use Rattle.shfl_table.specs.PassModel.{as_given};
+ghost use Rattle.shfl_table.specs.PassModel.{as_given, as_part};
 ghost use Rattle.dir_shards.specs.ShardPasses.{MayAdd, with_lock, without_last};
-ghost use Rattle.dir_shards.specs.Closings.{EndsOn};
+ghost use Rattle.dir_shards.specs.Closings.{EndsOn, part_at};
 
 use crate::dir_journal::DirJournal;
 use crate::kept_shard::KeptShard;
@@ -73,6 +73,9 @@ impl ShardPass {
         ensures lock { EndsOn result.board self.old }
         ensures idle { is_idle result.own.phase ≡ true }
         ensures given { as_given result ≡ record { number = self.old.number; history = [] } }
+        ensures part { as_part result ≡ part_at (length self.old.locks - 1)
+            result.steps_taken result.attempts self.old }
+        ensures asked { length self.old.decisions ≡ length self.old.locks }
     {
         let Some(pass) = self.passes.pop() else {
             unreachable!()

@@ -11,3 +11,4 @@ pub mod OrderedPasses
 pub mod CallOrder
 pub mod LastCalls
 pub mod PlacedCopies
+pub mod PassParts

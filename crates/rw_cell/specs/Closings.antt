@@ -1,8 +1,11 @@
 -- What the closing of a cell gives.
-use Rattle.std.specs.Prelude.{◌≡◌, ℕ, ◌<◌, ◌≤◌, List, [], All, length, slice_index_or}
+use Rattle.std.specs.Prelude.{◌≡◌, ℕ, ◌<◌, ◌≤◌, List, [], ◌∷◌, All, length, slice_index_or}
 use Rattle.hist_log.specs.declared.entry.Entry.{Entry}
 use Rattle.hist_log.specs.History.{IsLegal, operations}
 use Rattle.hist_log.specs.Merge.{merged, AreInOrder, AreWithin, ReadsFit}
+use Rattle.shfl_table.specs.declared.kept.Action.{Action}
+use Rattle.shfl_table.specs.declared.view.Part.{Part}
+use Rattle.shfl_table.specs.ThreadRuns.{RanUntilClosed}
 use Rattle.shfl_table.specs.Histories.{HasSeen, actions_by}
 use Rattle.shfl_table.specs.Books.{HavePlaces, actions}
 use Rattle.rw_cell.specs.CallOrder.{calls_of}
@@ -26,3 +29,19 @@ module _ {O C R : Type 0} (call : C → List ℕ) (reply : R → List ℕ) where
     -- the merged history has the calls of each pass in its order
     pub order : All (λ p. actions_by (number p) (actions call reply (merged (λ e. e.receipt) writes reads)) ≡ calls_of call reply p) passes
     pub fit : ReadsFit call reply is_read reply_at state_after cell.opening writes reads
+
+-- what a pass did, with so many attempts
+abbrev pub part : {E : Type 0} → ℕ → RwPassModel E → Part
+part attempts p = record { number = p.reg.me; steps_taken = p.steps_taken; attempts = attempts; decisions = p.decisions }
+
+-- each of these is what the pass at its place did
+abbrev pub ArePartsOf : {E : Type 0} → List (RwPassModel E) → List Part → Type 0
+ArePartsOf [] [] = Unit {0}
+ArePartsOf (p ∷ ps) (x ∷ xs) = (x ≡ part x.attempts p) × ArePartsOf ps xs
+ArePartsOf _ _ = ⊥
+
+-- all that was done to the lock is a run of the model, in which these passes did what they tell, and whose holds have made the writes
+pub record HasRunOf {E : Type 0} (cell : RwCellModel) (passes : List (RwPassModel E)) (writes : List Action) : Type 0 where
+  pub parts : List Part
+  pub told : ArePartsOf passes parts
+  pub run : RanUntilClosed cell.id.rules cell.id.attrs cell.count parts writes

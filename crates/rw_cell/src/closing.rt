@@ -3,12 +3,12 @@ ghost use Rattle.std.specs.Prelude.{◌≡◌, ℕ, ◌<◌, ◌≤◌, true, Al
 ghost use Rattle.hist_log.specs.History.{operations, IsLegal, state_left};
 ghost use Rattle.shfl_core.specs.Plan as plan;
 ghost use Rattle.shfl_table.specs.Places.{Every};
-ghost use Rattle.shfl_table.specs.PassModel.{as_given};
+ghost use Rattle.shfl_table.specs.PassModel.{as_given, as_part};
 ghost use Rattle.shfl_table.specs.declared.kept.Action.{Action};
 ghost use Rattle.shfl_table.specs.Books.{action, actions, pack, opening_of, operations_of, HavePlaces};
 ghost use Rattle.rw_cell.specs.KeptReads.{KeepsReads, answers_as};
 ghost use Rattle.rw_cell.specs.RwCells.{given, number, IsPassOf, AreAll, AreOnce};
-ghost use Rattle.rw_cell.specs.Closings.{GivesWrites, GivesReads};
+ghost use Rattle.rw_cell.specs.Closings.{GivesWrites, GivesReads, part, HasRunOf};
 
 use crate::cell::{RwCellOf, RwPass, RwPassOf};
 use hist_log::{Entry, Object};
@@ -19,6 +19,7 @@ fn parted<O: Object + Drop>(pass: RwPass<O>) -> (Pass<Book<O>>, usize, Vec<Entry
     ensures idle { plan.is_idle result.0.own.phase ≡ true }
     ensures board { result.0.board ≡ pass.cell }
     ensures given { as_given result.0 ≡ given pass }
+    ensures part { as_part result.0 ≡ part result.0.attempts pass }
     ensures number { (result.1 ≡ number pass) × (number pass < pass.cell.table.slots) }
     ensures reads { result.2.items ≡ pass.reads }
     ensures keeps { KeepsReads (action O.call_numbers O.reply_numbers) (λ e. e.receipt)
@@ -82,6 +83,12 @@ impl<O: Object + Drop> RwCellOf<Book<O>, Entry<O>, O> {
             self passes.items result.1.items }
         ensures reads { GivesReads O.call_numbers O.reply_numbers O.reads O.reply_at O.state_after
             self passes.items result.1.items (map (λ v. v.items) result.2.items) }
+
+        // All that was done to the lock is one list of changes, in which each pass did what it tells, and nobody else did anything.
+        // The writes are what the holds in it have made, in the order in which they ended: each by its worker, while that one held the
+        // lock as a writer.
+        ensures run { HasRunOf self passes.items
+            (actions O.call_numbers O.reply_numbers result.1.items) }
     {
         let RwCellOf {
             board,

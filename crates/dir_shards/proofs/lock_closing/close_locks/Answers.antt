@@ -1,5 +1,5 @@
-use Rattle.std.proofs.Common.{◌≡◌, ◌<◌, ◌≤◌, ℕ, ◌+◌, ◌-◌, ◌∷◌, ◌++◌, [], List, All, IfSome, Contains, map, reverse, take, length, vec_len, vec_capacity, slice_index_or, Some, sym, refl, ap, ◌∙◌, subst, arith, length-append, append_assoc, option_to_list}
-use Rattle.std.proofs.lemmas.List.{map-append, reverse-append}
+use Rattle.std.proofs.Common.{rules, ◌≡◌, ◌<◌, ◌≤◌, ℕ, ◌+◌, ◌-◌, ◌∷◌, ◌++◌, [], List, All, IfSome, Contains, map, reverse, take, length, vec_len, vec_capacity, slice_index_or, Some, sym, refl, ap, ◌∙◌, subst, arith, length-append, append_assoc, option_to_list}
+use Rattle.std.proofs.lemmas.List.{length-map, map-append, reverse-append}
 use Rattle.std.proofs.lemmas.List.Elements.{All-pop}
 use Rattle.shfl_table.specs.PassModel.{BoardModel, BoardId}
 use Rattle.dir_shards.specs.KeptShards.{state_of}
@@ -7,6 +7,7 @@ use Rattle.dir_shards.specs.ShardPasses.{ShardPassModel, AreAll, without_last}
 use Rattle.dir_shards.specs.Closings.{without_locks}
 use Rattle.dir_shards.proofs.Places.{got_map, all_got, all_at}
 use Rattle.dir_shards.proofs.LockEnds.{take_front, without_any, numbers_same}
+use Rattle.dir_shards.proofs.LockRuns.{AskedTheSame, asked_at-first, asked_at-last, runs_none, run_before, runs_more}
 use Rattle.dir_shards.proofs.lock_closing.close_locks.Goals as goal
 
 abbrev id_of : BoardModel → BoardId
@@ -14,6 +15,17 @@ id_of b = b.id
 
 abbrev state_at : BoardModel → List ℕ
 state_at b = b.initial_state
+
+pub loop-board-init : goal.loop-board-init
+loop-board-init c = record {
+  locks = c.requires.locks;
+  boards = c.requires.boards;
+  passes = refl;
+  kept = ap (λ l. map state_of l ++ reverse (map state_at c.args.boards.items)) (sym c.requires.empty);
+  asked = asked_at-first (length c.args.boards.items) c.args.passes.now;
+  runs = runs_none c.args.boards.items c.args.passes.now;
+  reserved = search rules;
+}
 
 pub close_lock-requires-clause-last : goal.close_lock-requires-clause-last
 close_lock-requires-clause-last c k d within = let v = c.loop-board.invariant in let front = c.pop.new.self.items in let board = c.in-Some.board in
@@ -32,6 +44,9 @@ loop-board-preserved c = let v = c.loop-board.invariant in let front = c.pop.new
     let P : BoardModel → Type 0 = λ b. (b.id.table.slots ≡ 1) × AreAll b.count c.args.passes.now in
     let Q : ShardPassModel → Type 0 = λ p. p.locks ≡ map id_of front in
     let kept = c.loop-board.kept.items in let next = c.close_lock.result in
+    let long : length c.loop-board.boards.items ≡ length front + 1 = ap length items ∙ length-append front (board ∷ []) in
+    let many : All (λ (p : ShardPassModel). length p.locks ≡ length front + 1) passes =
+    (λ k d within. ap length (v.locks k d within) ∙ (length-map c.loop-board.boards.items id_of ∙ long)) in
     record {
       locks = subst (All Q) (sym c.close_lock.ensures.passes) (all_got Q (map without_last passes) (λ k q at.
           let m = got_map without_last passes k q at in
@@ -46,5 +61,12 @@ loop-board-preserved c = let v = c.loop-board.invariant in let front = c.pop.new
           ∙ (sym (append_assoc (map state_of kept) (board.initial_state ∷ []) (reverse (map state_at front)))
           ∙ ap (λ l. l ++ reverse (map state_at front))
           (ap (λ s. map state_of kept ++ s ∷ []) (sym c.close_lock.ensures.kept) ∙ (sym (map-append state_of kept (next ∷ [])) ∙ ap (map state_of) (sym c.push_reserved.ensures.items)))))));
+      asked = subst (AskedTheSame (length front) c.args.passes.now) (sym c.close_lock.ensures.passes)
+          (asked_at-last (length front) c.args.passes.now passes c.close_lock.ensures.asked many (subst (λ n. AskedTheSame n c.args.passes.now passes) long v.asked));
+      runs = runs_more c.args.boards.items c.loop-board.boards.items front board c.args.passes.now v.runs items
+          (run_before (length c.loop-board.boards.items) (length front) board.count board.id c.args.passes.now passes v.asked (omega arith) (c.close_lock.ensures.run (length front) many));
       reserved = (let r = v.reserved in let n = c.in-Some.ensures.cases in let l = c.push_reserved.ensures.len in let k = c.push_reserved.ensures.capacity in omega (arith, r, n, l, k));
     }
+
+pub returns-clause-runs : goal.returns-clause-runs
+returns-clause-runs c dir b at = let n = c.in_default.ensures.cases.0 in let ok = c.loop-board.boards.ok.0 in c.loop-board.invariant.runs.each dir b (omega arith) at

@@ -2,12 +2,13 @@ use Rattle.std.proofs.Common.{◌≡◌, ◌<◌, ℕ, ◌++◌, List, All, Cont
 use Rattle.std.proofs.lemmas.List.{length-map}
 use Rattle.std.proofs.lemmas.Option.{slice_get-get_or}
 use Rattle.dir_table.specs.Meanings.{IsAdmitted}
+use Rattle.shfl_table.specs.PassModel.{BoardId, BoardModel}
 use Rattle.shard_rows.specs.Replay.{DirEntry, opening, IsLegal}
 use Rattle.shard_rows.proofs.ByNumbers.{legal_numbers}
 use Rattle.dir_shards.specs.Commits.{IsLegalFor, calls_by}
 use Rattle.dir_shards.specs.ShardPasses.{ShardPassModel, ShardedDirModel, IsPassOf, AreAll}
-use Rattle.dir_shards.specs.Closings.{HasSeen, shard_of, without_locks}
-use Rattle.dir_shards.proofs.Places.{written_back, all_got, all_at}
+use Rattle.dir_shards.specs.Closings.{HasSeen, HasRunAt, shard_of, without_locks}
+use Rattle.dir_shards.proofs.Places.{written_back, got_map, all_got, all_at}
 use Rattle.dir_shards.proofs.LockEnds.{numbers_same}
 use Rattle.dir_shards.proofs.ShardEnds.{same_but_locks, as_many, all_of_table, in_place}
 use Rattle.dir_shards.proofs.sharded.ShardedDir.close.Goals as goal
@@ -82,3 +83,9 @@ pub returns-clause-admitted : goal.returns-clause-admitted
 returns-clause-admitted c = let j = c.close_journal-journal.result in
     let room : j.room ≡ c.args.self.room = c.close_journal-journal.ensures.opening.0 ∙ ap (λ (s : ShardedDirModel). s.room) c.self.view_is in
     subst (λ (z : ℕ × List DirEntry). All (λ e. IsAdmitted z.0 e.call) z.1) (λ i. (room i, sym c.into_entries.ensures.entries i)) c.into_entries.ensures.admitted
+
+pub returns-clause-run : goal.returns-clause-run
+returns-clause-run c dir lock at = let boards = c.self.inside.boards.items in
+    let b = got_map (λ (b : BoardModel). b.id) boards dir lock (ap (λ (s : ShardedDirModel). slice_get s.locks dir) c.self.view_is ∙ at) in
+    let count = (c.self.invariant.each dir b.0 b.1).count_is ∙ ap (λ (s : ShardedDirModel). length s.allowed) c.self.view_is in
+    subst (λ (z : ℕ × BoardId × List ShardPassModel). HasRunAt dir z.0 z.1 z.2) (λ i. (count i, sym b.2 i, c.deref_mut.ensures.value i)) (c.close_locks.ensures.runs dir b.0 b.1)

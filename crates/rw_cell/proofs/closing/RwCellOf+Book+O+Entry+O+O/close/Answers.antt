@@ -9,6 +9,7 @@ use Rattle.shfl_table.specs.declared.view.Given.{Given}
 use Rattle.shfl_table.specs.Histories.{actions_by, HasSeen, StartsWith}
 use Rattle.shfl_table.specs.PassModel.{ClosingModel, BoardModel, BoardId}
 use Rattle.shfl_table.specs.Places.{Every}
+use Rattle.shfl_table.specs.ThreadRuns.{RanUntilClosed}
 use Rattle.shfl_table.specs.Views.{IsAmong}
 use Rattle.shfl_table.specs.Books.{BookModel, actions, opening_of, operations_of, pack}
 use Rattle.shfl_table.proofs.Entries.{operations_of-actions}
@@ -17,6 +18,7 @@ use Rattle.rw_cell.specs.RwCells.{RwCellModel, RwPassModel, cell_on, given, numb
 use Rattle.rw_cell.proofs.GivenCopies.{operations-total}
 use Rattle.rw_cell.proofs.CallOrder.{calls_in_order, none-between}
 use Rattle.rw_cell.proofs.GivenReads.{EachKept, Keeps, in_order_all, within_all, fit_all, own_all}
+use Rattle.rw_cell.proofs.PassParts.{AreBack, back-first, back-more, all-told}
 use Rattle.rw_cell.proofs.SortedReads.{Sorted, IsListOf, sorted-start, sorted-at, given-more, none-left, pass-of, given-of, seen-at, seen-of, none-given, mapped-at, all-at, some-at, got-inside}
 use Rattle.rw_cell.proofs.closing.RwCellOf+Book+O+Entry+O+O.close.Given as given_here
 use Rattle.rw_cell.proofs.closing.RwCellOf+Book+O+Entry+O+O.close.Goals as goal
@@ -64,6 +66,7 @@ loop-next-init g c = let P : RwPassModel (E g) → Type 0 = IsPassOf c.args.self
       sym (append-nil (map given c.args.passes.items)) ∙ (given-more given c.args.passes.items c.pop.new.self.items c.in-Some.first _ [] items (sym e.given) ∙ ap (λ (z : ClosingModel). map given c.pop.new.self.items ++ z.back) (sym n)),
       (let a = ap (λ (z : RwCellModel). z.count) m in search rules),
       s,
+      subst (λ (z : ClosingModel). AreBack c.args.passes.items c.pop.new.self.items z.parts) (sym n) (back-first c.args.passes.items c.pop.new.self.items c.in-Some.first _ _ items e.part),
     )
 
 pub index_mut-requires-in-Some-pop : goal.index_mut-requires-in-Some-pop
@@ -93,6 +96,7 @@ loop-next-preserved g c = let P : RwPassModel (E g) → Type 0 = IsPassOf c.args
       i.3 ∙ (given-more given old new c.in-Some-pop.next _ c.loop-next.closing.back items (sym e.given) ∙ ap (λ (z : ClosingModel). map given new ++ z.back) (sym n)),
       search rules,
       s,
+      subst (λ (z : ClosingModel). AreBack c.args.passes.items new z.parts) (sym n) (back-more c.args.passes.items old new c.in-Some-pop.next _ _ c.loop-next.closing.parts items e.part i.6),
     )
 
 module _ (g : given_here.Over) (c : In_default-pop g) where
@@ -192,4 +196,13 @@ returns-clause-reads g c = let d = (goal.at.returns-clause-reads g c).After-part
       order = in-order g d b;
       within = within_all O.call_numbers O.reply_numbers O.reads O.reply_at O.state_after c.args.self.opening (writes g d b) (lists g d b) (each-kept g d b);
       fit = fit_all O.call_numbers O.reply_numbers O.reads O.reply_at O.state_after c.args.self.opening (writes g d b) (lists g d b) (each-kept g d b);
+    }
+
+pub returns-clause-run : goal.returns-clause-run
+returns-clause-run g c = let d = (goal.at.returns-clause-run g c).After-parts_of-copies in let b = all-back g (goal.at.returns-clause-run g c).In_default-pop in
+    let i = c.loop-next.invariant in let r = c.finish.ensures.run in
+    let made = (c.parts_of-copies.ensures.parts c.loop-next.closing.board.initial_state r.0 r.1).0 in record {
+      parts = c.loop-next.closing.parts;
+      told = all-told c.args.passes.items c.loop-next.passes.items c.loop-next.closing.parts (taken g d b) i.6;
+      run = subst (λ (z : RwCellModel × List Action). RanUntilClosed z.0.id.rules z.0.id.attrs z.0.count c.loop-next.closing.parts z.1) (λ j. (i.0 j, sym made j)) r.2;
     }
