@@ -8,12 +8,13 @@ use Rattle.shfl_line.specs.declared.events.Form.TheVariants.{Park}
 use Rattle.shfl_line.specs.Words.{attr_word}
 use Rattle.shfl_table.specs.Histories.{HasSeen}
 use Rattle.shfl_table.specs.Books.{actions}
-use Rattle.shfl_cell.specs.Cells.{number}
+use Rattle.shfl_cell.specs.Cells.{number, HasRunOf}
 use Rattle.call_pool.specs.Pools.{PoolModel, PoolPassModel, IsPassOf, AreNumbered, calls_by}
 
 -- A pool of these calls behind a lock of the parking form, whose batches have up to 1,024, and its passes behind their last call:
 -- one for each of the attributes, in the order of their numbers. Each has found that no call is left. The calls of each pass's
--- entries are just those that it took; the history begins with what it saw last, and has no more of its entries.
+-- entries are just those that it took; the history begins with what it saw last, and has no more of its entries. The lock ran from
+-- its opening until it was closed, and its holds made the history.
 pub record IsLeftBy {O C R : Type 0} (call_numbers : C → List ℕ) (reply_numbers : R → List ℕ) (admits : List ℕ → List ℕ → Type 0)
     (opening : List ℕ) (attrs : List Attr) (calls : List C) (entries : List (Entry O (NumberedCall C) R)) : Type 0 where
   pub pool : PoolModel C
@@ -28,3 +29,4 @@ pub record IsLeftBy {O C R : Type 0} (call_numbers : C → List ℕ) (reply_numb
   pub ended : All (λ p. p.taker.ended ≡ true) passes
   pub taken : All (λ p. calls_by (number p.cell) entries ≡ p.taker.taken) passes
   pub seen : All (λ p. HasSeen (actions (numbers call_numbers) reply_numbers entries) (number p.cell) p.cell.seen) passes
+  pub run : HasRunOf pool.cell (map (λ p. p.cell) passes) (actions (numbers call_numbers) reply_numbers entries)

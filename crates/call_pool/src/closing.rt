@@ -4,7 +4,7 @@ ghost use Rattle.std.specs.List.{flat_map, list_any, sum_by};
 ghost use Rattle.hist_log.specs.History.{operations, state_left};
 ghost use Rattle.hist_log.specs.Numbers.{numbers, inner};
 ghost use Rattle.hist_log.specs.PoolHistories.{IsPoolHistory};
-ghost use Rattle.shfl_cell.specs.Cells.{number, AreAll};
+ghost use Rattle.shfl_cell.specs.Cells.{number, AreAll, HasRunOf};
 ghost use Rattle.shfl_table.specs.Books.{actions, HavePlaces};
 ghost use Rattle.shfl_table.specs.Histories.{actions_by, HasSeen};
 ghost use Rattle.call_pool.specs.Pools.{IsPassOf, calls_by};
@@ -70,6 +70,10 @@ impl<O: Object + Drop> PoolOf<O::Call, Book<Numbered<O>>> {
         ensures nobody_else { (k : ℕ) → self.cell.count ≤ k → actions_by k
             (actions (numbers O.call_numbers) O.reply_numbers result.1.items) ≡ [] }
         ensures places { HavePlaces result.1.items }
+
+        // The lock ran from its opening until it was closed, and its holds made the history.
+        ensures run { HasRunOf self.cell (map (λ p. p.cell) passes.items)
+            (actions (numbers O.call_numbers) O.reply_numbers result.1.items) }
     {
         let PoolOf { queue, cell } = self;
         let PoolPassOf {

@@ -1,5 +1,5 @@
 //! Calls on a directory by takers in threads.
-ghost use Rattle.std.specs.Prelude.{◌≡◌, ◌*◌, ◌<◌, ◌≤◌, true, All, length, vec_len, IfOk};
+ghost use Rattle.std.specs.Prelude.{◌≡◌, ◌*◌, ◌<◌, ◌≤◌, true, All, length, map, vec_len, IfOk};
 ghost use Rattle.dir_table.specs.Numbers.{call_numbers, reply_numbers, state_numbers};
 ghost use Rattle.dir_table.specs.Meanings.{reply_at, state_after, Admits, IsAdmitted};
 ghost use Rattle.hist_log.specs.History.{operations, state_left};
@@ -7,7 +7,7 @@ ghost use Rattle.hist_log.specs.Numbers.{numbers, inner};
 ghost use Rattle.hist_log.specs.PoolHistories.{IsPoolHistory};
 ghost use Rattle.shfl_table.specs.Books.{actions, HavePlaces};
 ghost use Rattle.shfl_table.specs.Histories.{HasSeen};
-ghost use Rattle.shfl_cell.specs.Cells.{number};
+ghost use Rattle.shfl_cell.specs.Cells.{number, HasRunOf};
 ghost use Rattle.call_pool.specs.Pools.{IsPassOf, AreNumbered, calls_by};
 ghost use Rattle.call_pool.specs.Runs.{IsLeftBy};
 
@@ -68,6 +68,8 @@ fn close_in_order(pool: Pool<Dir>, passes: Vec<PoolPass<Dir>>) -> (Dir, Vec<Entr
         (number p.cell) p.cell.seen) passes.items }
     ensures workers { All (λ e. e.worker < vec_len passes) result.1.items }
     ensures places { HavePlaces result.1.items }
+    ensures run { HasRunOf pool.cell (map (λ p. p.cell) passes.items)
+        (actions (numbers call_numbers) reply_numbers result.1.items) }
 {
     pool.close(passes)
 }
@@ -99,7 +101,7 @@ pub fn run_pool<G: Gate + Sync, R: Threads + Wait + Sync>(
     ensures workers { IfOk result (λ r. All (λ e. e.worker < length attrs.now) r.1.items) }
     ensures places { IfOk result (λ r. HavePlaces r.1.items) }
 
-    // The calls of each worker's entries are just those that its pass took of such a pool.
+    // The calls of each worker's entries are just those that its pass took of such a pool, whose holds made the history.
     ensures passes { IfOk result (λ r. IsLeftBy call_numbers reply_numbers Admits
         (state_numbers dir) attrs.now calls.now r.1.items) }
 {

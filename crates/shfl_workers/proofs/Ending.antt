@@ -29,6 +29,7 @@ use Rattle.shfl_workers.specs.RwDirs.{HasMade}
 use Rattle.shfl_workers.specs.Receipts.{CountWrites}
 use Rattle.shfl_workers.proofs.Numbered.{of_all, element_at}
 use Rattle.shfl_workers.proofs.Receipts.{IsWrite, only_writes, merged_counts}
+use Rattle.shfl_workers.proofs.WritesMade.{written, merged_written}
 use Rattle.shfl_workers.proofs.Merging.{made_once, nobody}
 use Rattle.shfl_workers.proofs.Histories.{HasAll, has_all, is_history}
 
@@ -48,7 +49,7 @@ module _ {O : Type 0} (t : Trace) (within : IsWithin t) (cell : RwCellModel) (op
 
   others : (k : ℕ) → length t.workers.items ≤ k → All (All (λ e. e.worker ≢ k)) reads
   others k past j d lt i e h same =
-      let count = opened.0 in
+      let count = opened.count in
       let b : j < cell.count = (let n = gives_reads.count in omega (arith, lt, n)) in
       let o = gives_reads.own j b i e (subst (λ l. i < length l) (any_default reads j d [] lt) h) in
       let o' : (get_or (get_or reads j d) i e).worker ≡ j = subst (λ l. (get_or l i e).worker ≡ j) (any_default reads j [] d lt) o in
@@ -64,7 +65,7 @@ module _ {O : Type 0} (t : Trace) (within : IsWithin t) (cell : RwCellModel) (op
 
   nobody_else : (k : ℕ) → length t.workers.items ≤ k → of_worker k (map made_of (map done_of history)) ≡ []
   nobody_else k past =
-      let count = opened.0 in
+      let count = opened.count in
       made_once k history [] (ap (map (λ (x : Action). x.call)) (nobody k 0 reads writes (others k past) (gives_writes.nobody_else k (omega (arith, past, count)))))
 
   only_reads : All (All (λ e. Reads (call_numbers e.call))) reads
@@ -76,7 +77,7 @@ module _ {O : Type 0} (t : Trace) (within : IsWithin t) (cell : RwCellModel) (op
         let p = element_at ps k (omega (arith, lt, many)) in let d = done k p.0 p.1 in
         let saw = of_all (λ (q : RwPassModel (Entry O DirCall DirReply)). HasSeen (actions call_numbers reply_numbers writes) (number q) q.seen) ps gives_writes.seen k p.0 p.1 in
         subst (λ w. AllByRecursion IsWrite (actions_by w (actions call_numbers reply_numbers writes))) d.number_is (subst (AllByRecursion IsWrite) (sym saw.1) d.has_made.1)
-    | no ge ↦ let count = opened.0 in subst (AllByRecursion IsWrite) (sym (gives_writes.nobody_else k (omega (arith, ge, count)))) tt
+    | no ge ↦ let count = opened.count in subst (AllByRecursion IsWrite) (sym (gives_writes.nobody_else k (omega (arith, ge, count)))) tt
   ]
 
   are_reads : AllByRecursion (AllByRecursion (λ e. is_read e.call ≡ true)) reads
@@ -87,6 +88,10 @@ module _ {O : Type 0} (t : Trace) (within : IsWithin t) (cell : RwCellModel) (op
   pub receipts_are : CountWrites history
   receipts_are = merged_counts writes reads are_reads (only_writes writes each_write) gives_writes.places
 
+  -- its writes are those that were written
+  pub writes_are : written history ≡ actions call_numbers reply_numbers writes
+  writes_are = merged_written writes reads are_reads (only_writes writes each_write)
+
   -- the merged history is one of the trace
   pub merged_is : (dir : Directory) (es : List (Entry O DirCall DirReply)) → es ≡ history
       → IsLegal reply_at state_after cell.opening (operations call_numbers reply_numbers es)
@@ -95,5 +100,5 @@ module _ {O : Type 0} (t : Trace) (within : IsWithin t) (cell : RwCellModel) (op
       let at_beginning = λ (s : List ℕ) (l : List (Entry O DirCall DirReply)). IsLegal reply_at state_after s (operations call_numbers reply_numbers l) in
       subst (λ (l : List (Entry O DirCall DirReply)). IsHistoryOf t (map done_of l) dir) (sym order)
       (is_history t within history (has_all t within history ps many own nobody_else) dir
-      (subst (λ s. at_beginning s history) opened.1 (subst (at_beginning cell.opening) order legal))
-      (state ∙ sym (reads_leave_all call_numbers reply_numbers Reads state_after reads_leave cell.opening writes reads only_reads) ∙ ap (λ s. state_left state_after s (operations call_numbers reply_numbers history)) opened.1))
+      (subst (λ s. at_beginning s history) opened.opening (subst (at_beginning cell.opening) order legal))
+      (state ∙ sym (reads_leave_all call_numbers reply_numbers Reads state_after reads_leave cell.opening writes reads only_reads) ∙ ap (λ s. state_left state_after s (operations call_numbers reply_numbers history)) opened.opening))

@@ -1,4 +1,5 @@
 pub mod Attachments
+pub mod LockRuns
 pub mod Turns
 pub mod Counting
 pub mod Joining
@@ -15,3 +16,4 @@ pub mod CellEnding
 pub mod Publishing
 pub mod Opening
 pub mod Receipts
+pub mod WritesMade

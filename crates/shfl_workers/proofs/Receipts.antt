@@ -51,7 +51,7 @@ module _ {O : Type 0} where
       let step = sum_by-cons (λ (y : Entry O DirCall DirReply). cond (not (is_read y.call)) 1 0) x (take k xs) in omega arith
 
   -- a read after so many writes
-  abbrev IsReadAt : ℕ → Entry O DirCall DirReply → Type 0
+  abbrev pub IsReadAt : ℕ → Entry O DirCall DirReply → Type 0
   IsReadAt point e = (e.receipt ≡ point) × (is_read e.call ≡ true)
 
   reads_first : (point : ℕ) (l rest : List (Entry O DirCall DirReply)) → AllByRecursion (IsReadAt point) l → CountFrom point rest → CountFrom point (l ++ rest)
@@ -71,7 +71,7 @@ module _ {O : Type 0} where
   both P [] ys all more = more
   both P (x ∷ xs) ys all more = (all.0, both P xs ys all.1 more)
 
-  kept_at : (point : ℕ) (reads : List (List (Entry O DirCall DirReply))) → AllByRecursion (AllByRecursion (λ e. is_read e.call ≡ true)) reads → AllByRecursion (IsReadAt point) (reads_at (λ e. e.receipt) reads point)
+  pub kept_at : (point : ℕ) (reads : List (List (Entry O DirCall DirReply))) → AllByRecursion (AllByRecursion (λ e. is_read e.call ≡ true)) reads → AllByRecursion (IsReadAt point) (reads_at (λ e. e.receipt) reads point)
   kept_at point [] all = tt
   kept_at point (l ∷ ls) all = both (IsReadAt point) (filter (λ e. e.receipt == point) l) (reads_at (λ e. e.receipt) ls point) (kept point l all.0) (kept_at point ls all.1)
 

@@ -11,3 +11,4 @@ pub mod Opened
 pub mod Loaded
 pub mod Prevailing
 pub mod Receipts
+pub mod LockRuns

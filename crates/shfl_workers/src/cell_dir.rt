@@ -6,6 +6,7 @@ ghost use Rattle.trace_text.specs.Report.{done_of};
 ghost use Rattle.trace_text.specs.Traces.{IsWithin};
 ghost use Rattle.trace_text.specs.Histories.{IsHistoryOf};
 ghost use Rattle.shfl_workers.specs.CellDirs.{IsPassOf, HasMade};
+ghost use Rattle.shfl_workers.specs.LockRuns.{RanOnOne};
 ghost use Rattle.shfl_workers.specs.Opened.{IsOneFor};
 ghost use Rattle.shfl_workers.specs.Passes.{AtEachPlace, IsDone};
 
@@ -28,8 +29,10 @@ impl SharedDir for ShflCellOf<Book<Dir>> {
     ghost use Rattle.std.specs.Prelude.{slice_index};
     ghost use Rattle.shfl_cell.specs.Cells.{number};
     ghost use Rattle.shfl_table.specs.Books.{HavePlaces};
+    ghost use Rattle.shfl_table.specs.Waits.{AsksInRounds};
     ghost use Rattle.shfl_workers.specs.CellDirs.{IsPassOf, HasMade};
     ghost use Rattle.shfl_workers.specs.Opened.{IsOneFor};
+    ghost use Rattle.shfl_workers.specs.LockRuns.{RanOnOne};
 
     ghost opened = { λ t c. IsOneFor t c };
 
@@ -43,7 +46,12 @@ impl SharedDir for ShflCellOf<Book<Dir>> {
 
     ghost left = { λ p. p.left };
 
+    ghost asks = { λ old _ new told told'.
+        AsksInRounds old.attr old.decisions new.decisions told told' };
+
     ghost receipts = { λ entries. HavePlaces entries };
+
+    ghost ran = { λ t history. RanOnOne t history };
 
     fn open(alloc: Global, trace: &Trace) -> Result<(Self, Vec<CellPass<Dir>>), NoMemory> {
         let shares = shares_of(alloc, trace)?;
@@ -84,6 +92,7 @@ impl SharedDir for ShflCellOf<Book<Dir>> {
             (IsDone (IsPassOf self) number HasMade trace.now.calls.items) passes.items }
         ensures history { IfOk result (λ r. IsHistoryOf trace.now (map done_of r.0.items) r.1) }
         ensures receipts { IfOk result (λ r. HavePlaces r.0.items) }
+        ensures ran { IfOk result (λ r. RanOnOne trace.now (map done_of r.0.items)) }
     {
         let _ = alloc;
         let _ = trace;

@@ -10,6 +10,7 @@ ghost use Rattle.policy_versions.specs.Models.{AreFresh};
 ghost use Rattle.shfl_table.specs.Books.{HavePlaces};
 ghost use Rattle.shfl_workers.specs.Attaching.{Attached};
 ghost use Rattle.shfl_workers.specs.Loaded.{AreLoaded};
+ghost use Rattle.shfl_workers.specs.LockRuns.{RanByThreads, RanByShards};
 ghost use Rattle.shfl_workers.specs.Prevailing.{DoWritesPrevail};
 ghost use Rattle.shfl_workers.specs.Receipts.{CountWrites};
 
@@ -87,6 +88,9 @@ pub fn run_on<D: SharedDir + Sync, G: Gate + Sync, R: Threads + Wait + Sync>(
         trace.now.policies.items }
     ensures history { IfOk result (λ o. IsHistoryOf trace.now (map done_of o.history.items) o.dir) }
     ensures receipts { IfOk result (λ o. D.receipts o.history.items) }
+
+    // The history was made in the holds of the lock's run.
+    ensures ran { IfOk result (λ o. D.ran trace.now (map done_of o.history.items)) }
     ensures versions { IfOk result (λ o. o.versions ≡ attaches_of trace.now) }
 {
     let (registry, attaching, users) = open_registry(alloc, trace)?;
@@ -127,6 +131,9 @@ pub fn run_trace<G: Gate + Sync, R: Threads + Wait + Sync>(
         → IfOk result (λ o. HavePlaces o.history.items) }
     ensures receipts { ¬ DoWritesPrevail trace.now
         → IfOk result (λ o. CountWrites o.history.items) }
+
+    // It was made in the holds of the lock's run: that of the one directory where writes prevail, else that of the copies.
+    ensures ran { IfOk result (λ o. RanByThreads trace.now (map done_of o.history.items)) }
     ensures versions { IfOk result (λ o. o.versions ≡ attaches_of trace.now) }
 {
     if do_writes_prevail(trace) {
@@ -151,6 +158,9 @@ pub fn run_shards<G: Gate + Sync, R: Threads + Wait + Sync>(
         trace.now.policies.items }
     ensures history { IfOk result (λ o. IsHistoryOf trace.now (map done_of o.history.items) o.dir) }
     ensures places { IfOk result (λ o. HavePlaces o.history.items) }
+
+    // Each of the locks ran from its opening until it was closed.
+    ensures ran { IfOk result (λ o. RanByShards trace.now (map done_of o.history.items)) }
     ensures versions { IfOk result (λ o. o.versions ≡ attaches_of trace.now) }
 {
     run_on::<Shards, G, R>(rt, alloc, trace, gate)

@@ -3,10 +3,12 @@ ghost use Rattle.std.specs.Prelude.{◌≡◌, ◌<◌, ◌+◌, ◌++◌, ◌�
 ghost use Rattle.dir_table.specs.declared.calls.DirCall.{DirCall as DirCallValue};
 ghost use Rattle.dir_table.specs.Meanings.{IsAdmitted};
 ghost use Rattle.rw_cell.specs.RwCells.{number, IsPassOf};
+ghost use Rattle.shfl_table.specs.Waits.{AsksInRounds};
 ghost use Rattle.trace_text.specs.Report.{done_of};
 ghost use Rattle.trace_text.specs.Traces.{IsWithin};
 ghost use Rattle.trace_text.specs.Histories.{IsHistoryOf};
 ghost use Rattle.shfl_workers.specs.RwDirs.{HasMade, mode_of};
+ghost use Rattle.shfl_workers.specs.LockRuns.{RanOnCopies};
 ghost use Rattle.shfl_workers.specs.Opened.{directory_for, IsCellFor};
 ghost use Rattle.shfl_workers.specs.Passes.{AtEachPlace, IsDone};
 ghost use Rattle.shfl_workers.specs.Receipts.{CountWrites};
@@ -42,9 +44,11 @@ impl SharedDir for RwCellOf<Book<Dir>, Entry<Dir>, Dir> {
     type Pass = RwPass<Dir>;
 
     ghost use Rattle.std.specs.Prelude.{◌≡◌, slice_index};
+    ghost use Rattle.shfl_table.specs.Waits.{AsksInRounds};
     ghost use Rattle.rw_cell.specs.RwCells.{number, IsPassOf};
     ghost use Rattle.shfl_workers.specs.RwDirs.{HasMade};
     ghost use Rattle.shfl_workers.specs.Opened.{IsCellFor};
+    ghost use Rattle.shfl_workers.specs.LockRuns.{RanOnCopies};
     ghost use Rattle.shfl_workers.specs.Receipts.{CountWrites};
 
     ghost opened = { λ t c. IsCellFor t c };
@@ -59,7 +63,12 @@ impl SharedDir for RwCellOf<Book<Dir>, Entry<Dir>, Dir> {
 
     ghost left = { λ p. p.left };
 
+    ghost asks = { λ old _ new told told'.
+        AsksInRounds old.attr old.decisions new.decisions told told' };
+
     ghost receipts = { λ entries. CountWrites entries };
+
+    ghost ran = { λ t history. RanOnCopies t history };
 
     fn open(alloc: Global, trace: &Trace) -> Result<(Self, Vec<RwPass<Dir>>), NoMemory> {
         let shares = shares_of(alloc, trace)?;
@@ -92,6 +101,8 @@ impl SharedDir for RwCellOf<Book<Dir>, Entry<Dir>, Dir> {
         ensures left { pass.new.left + 1 ≡ pass.old.left }
         ensures made { (calls : List DirCallValue) → HasMade pass.old calls
             → HasMade pass.new (calls ++ call.now ∷ []) }
+        ensures asked { AsksInRounds pass.old.attr pass.old.decisions pass.new.decisions
+            (C.told chooser.old) (C.told chooser.new) }
         ensures home { C.home chooser.new ≡ C.home chooser.old }
 
         // A read holds the lock beside other readers, and a write alone.
@@ -117,6 +128,7 @@ impl SharedDir for RwCellOf<Book<Dir>, Entry<Dir>, Dir> {
             (IsDone (IsPassOf self) number HasMade trace.now.calls.items) passes.items }
         ensures history { IfOk result (λ r. IsHistoryOf trace.now (map done_of r.0.items) r.1) }
         ensures receipts { IfOk result (λ r. CountWrites r.0.items) }
+        ensures ran { IfOk result (λ r. RanOnCopies trace.now (map done_of r.0.items)) }
     {
         let _ = trace;
         let (mut dirs, writes, reads) = self.close(passes);

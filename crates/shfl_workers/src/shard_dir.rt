@@ -6,6 +6,7 @@ ghost use Rattle.trace_text.specs.Report.{done_of};
 ghost use Rattle.trace_text.specs.Traces.{IsWithin};
 ghost use Rattle.trace_text.specs.Histories.{IsHistoryOf};
 ghost use Rattle.shfl_workers.specs.ShardDirs.{HasMade};
+ghost use Rattle.shfl_workers.specs.LockRuns.{RanByShards};
 ghost use Rattle.shfl_workers.specs.Opened.{AreShardsFor};
 ghost use Rattle.shfl_workers.specs.Passes.{AtEachPlace, IsDone};
 
@@ -32,10 +33,12 @@ impl SharedDir for Shards {
     type Pass = ShardPass;
 
     ghost use Rattle.std.specs.Prelude.{◌≡◌};
-    ghost use Rattle.dir_shards.specs.ShardPasses.{IsPassOf};
+    ghost use Rattle.dir_shards.specs.Naming.{locks_of};
+    ghost use Rattle.dir_shards.specs.ShardPasses.{IsPassOf, Asks};
     ghost use Rattle.shfl_table.specs.Books.{HavePlaces};
     ghost use Rattle.shfl_workers.specs.ShardDirs.{HasMade};
     ghost use Rattle.shfl_workers.specs.Opened.{AreShardsFor};
+    ghost use Rattle.shfl_workers.specs.LockRuns.{RanByShards};
 
     ghost opened = { λ t s. AreShardsFor t s };
 
@@ -49,7 +52,11 @@ impl SharedDir for Shards {
 
     ghost left = { λ p. p.left };
 
+    ghost asks = { λ old call new told told'. Asks old new (locks_of call) told told' };
+
     ghost receipts = { λ entries. HavePlaces entries };
+
+    ghost ran = { λ t history. RanByShards t history };
 
     fn open(alloc: Global, trace: &Trace) -> Result<(Self, Vec<ShardPass>), NoMemory> {
         let shares = shares_of(alloc, trace)?;
@@ -91,6 +98,7 @@ impl SharedDir for Shards {
             trace.now.calls.items) passes.items }
         ensures history { IfOk result (λ r. IsHistoryOf trace.now (map done_of r.0.items) r.1) }
         ensures receipts { IfOk result (λ r. HavePlaces r.0.items) }
+        ensures ran { IfOk result (λ r. RanByShards trace.now (map done_of r.0.items)) }
     {
         let _ = alloc;
         let _ = trace;

@@ -19,12 +19,14 @@ use trace_text::{NoMemory, Trace};
 pub trait SharedDir: Drop {
     type Pass: Drop + Send;
 
-    ghost use Rattle.std.specs.Prelude.{ℕ, List};
+    ghost use Rattle.std.specs.Prelude.{ℕ, List, Option};
     ghost use Rattle.dir_table.specs.declared.calls.DirCall.{DirCall};
     ghost use Rattle.dir_table.specs.declared.calls.DirReply.{DirReply};
     ghost use Rattle.dir_table.specs.declared.dir.Dir.{Dir as DirValue};
     ghost use Rattle.hist_log.specs.declared.entry.Entry.{Entry as EntryValue};
+    ghost use Rattle.shfl_line.specs.declared.choosers.Told.{Told};
     ghost use Rattle.trace_text.specs.declared.trace.Trace.{Trace};
+    ghost use Rattle.trace_text.specs.Report.{Done};
 
     /// It was opened for the calls of this trace, empty.
     ghost opened: { Trace → Self → Type 0 };
@@ -44,8 +46,14 @@ pub trait SharedDir: Drop {
     /// How many calls the pass may still make.
     ghost left: { Self.Pass → ℕ };
 
+    /// By this call the pass asked its policy just what a chooser was told between these two lists.
+    ghost asks: { Self.Pass → DirCall → Self.Pass → (told told' : Option (List Told)) → Type 0 };
+
     /// The receipt of each entry is what its call was given at this lock.
     ghost receipts: { List (EntryValue DirValue DirCall DirReply) → Type 0 };
+
+    /// For this trace the lock ran from its opening until it was closed, and its holds made this history.
+    ghost ran: { Trace → List Done → Type 0 };
 
     /// An empty directory for the calls of a trace, with a pass for each of its workers.
     fn open(alloc: Global, trace: &Trace) -> Result<(Self, Vec<Self::Pass>), NoMemory>
@@ -79,6 +87,8 @@ pub trait SharedDir: Drop {
         ensures left { left pass.new + 1 ≡ left pass.old }
         ensures made { (calls : List DirCall) → made pass.old calls
             → made pass.new (calls ++ call.now ∷ []) }
+        ensures asked { asks pass.old call.now pass.new
+            (C.told chooser.old) (C.told chooser.new) }
         ensures home { C.home chooser.new ≡ C.home chooser.old };
 
     /// A history of the trace whose calls the passes have made, and the directory that it leaves.
@@ -96,5 +106,6 @@ pub trait SharedDir: Drop {
         requires passes { AtEachPlace
             (IsDone (is_pass self) worker made trace.now.calls.items) passes.items }
         ensures history { IfOk result (λ r. IsHistoryOf trace.now (map done_of r.0.items) r.1) }
-        ensures receipts { IfOk result (λ r. receipts r.0.items) };
+        ensures receipts { IfOk result (λ r. receipts r.0.items) }
+        ensures ran { IfOk result (λ r. ran trace.now (map done_of r.0.items)) };
 }

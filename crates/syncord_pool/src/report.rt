@@ -4,6 +4,7 @@ ghost use Rattle.syncord_endings.specs.Endings.{Due};
 ghost use Rattle.syncord_pool.specs.Runs.{MayRun, TakesEach, LeavesRuns};
 ghost use Rattle.syncord_pool.specs.Reports.{IsReportOf, Reports, Refuses};
 
+use crate::manner::PoolManner;
 use crate::outcome::PoolRun;
 use doc_text::Fault;
 use pool_text::{first_fault, render_pool};
@@ -12,15 +13,15 @@ use syncord_endings::Refusal;
 use trace_text::{NoMemory, Trace, TraceError, read_trace};
 
 /// The report of what a run of the trace leaves.
-fn report_of<F: Fn(Global, &Trace) -> Result<PoolRun, NoMemory>>(
+fn report_of<M: PoolManner, F: Fn(Global, &Trace) -> Result<PoolRun, NoMemory>>(
     runner: &F,
     alloc: Global,
     trace: &Trace,
 ) -> Result<Vec<u8>, NoMemory>
     requires trace { MayRun trace.now }
     requires takes { TakesEach (F.pre runner.now) (λ t. t.now) }
-    requires leaves { LeavesRuns (F.post runner.now) (λ t. t.now) }
-    ensures { IfOk result (λ text. IsReportOf trace.now text.items) }
+    requires leaves { LeavesRuns M.ran (F.post runner.now) (λ t. t.now) }
+    ensures { IfOk result (λ text. IsReportOf M.ran trace.now text.items) }
 {
     let outcome = runner(alloc, trace)?;
     let text = render_pool(alloc, trace, outcome.history.as_slice(), &outcome.dir)?;
@@ -28,14 +29,14 @@ fn report_of<F: Fn(Global, &Trace) -> Result<PoolRun, NoMemory>>(
 }
 
 /// Runs the calls of the trace that the bytes are.
-pub fn pooled<F: Fn(Global, &Trace) -> Result<PoolRun, NoMemory>>(
+pub fn pooled<M: PoolManner, F: Fn(Global, &Trace) -> Result<PoolRun, NoMemory>>(
     runner: &F,
     alloc: Global,
     bytes: &[u8],
 ) -> Result<Vec<u8>, Refusal>
     requires takes { TakesEach (F.pre runner.now) (λ t. t.now) }
-    requires leaves { LeavesRuns (F.post runner.now) (λ t. t.now) }
-    ensures report { IfOk result (λ text. Reports bytes.now text.items) }
+    requires leaves { LeavesRuns M.ran (F.post runner.now) (λ t. t.now) }
+    ensures report { IfOk result (λ text. Reports M.ran bytes.now text.items) }
     ensures refusal { IfErr result (Due (Refuses bytes.now)) }
 {
     let trace = match read_trace(alloc, bytes) {
@@ -46,7 +47,7 @@ pub fn pooled<F: Fn(Global, &Trace) -> Result<PoolRun, NoMemory>>(
     if let Some(Fault { line, what }) = first_fault(&trace) {
         return Err(Refusal::Line { line, what });
     }
-    match report_of(runner, alloc, &trace) {
+    match report_of::<M, F>(runner, alloc, &trace) {
         Ok(text) => Ok(text),
         Err(NoMemory) => Err(Refusal::NoMemory),
     }

@@ -6,6 +6,7 @@ ghost use Rattle.syncord_endings.specs.Endings.{Ends, Answers, Decides, most_byt
 ghost use Rattle.syncord_pool.specs.Runs.{TakesEach, LeavesRuns};
 ghost use Rattle.syncord_pool.specs.Reports.{Reports, Refuses};
 
+use crate::manner::PoolManner;
 use crate::outcome::PoolRun;
 use crate::report::pooled;
 use std::alloc::Global;
@@ -14,15 +15,15 @@ use syncord_endings::{Ending, deliver, read_input, tell_ending};
 use trace_text::{NoMemory, Trace};
 
 /// Reads, runs the calls, and writes the report.
-fn ending<F: Fn(Global, &Trace) -> Result<PoolRun, NoMemory>, R: Source, W: Sink>(
+fn ending<M: PoolManner, F: Fn(Global, &Trace) -> Result<PoolRun, NoMemory>, R: Source, W: Sink>(
     runner: &F,
     alloc: Global,
     src: &mut R,
     out: &mut W,
 ) -> Ending
     requires takes { TakesEach (F.pre runner.now) (λ t. t.now) }
-    requires leaves { LeavesRuns (F.post runner.now) (λ t. t.now) }
-    ensures ends { Ends Reports Refuses
+    requires leaves { LeavesRuns M.ran (F.post runner.now) (λ t. t.now) }
+    ensures ends { Ends (Reports M.ran) Refuses
         (through R.left R.faults src.old src.new)
         (through W.held W.faults out.old out.new) result }
     ensures reads { CallsAtMost (most_bytes + 1) (R.calls src.old) (R.calls src.new) }
@@ -31,7 +32,7 @@ fn ending<F: Fn(Global, &Trace) -> Result<PoolRun, NoMemory>, R: Source, W: Sink
         Ok(bytes) => bytes,
         Err(ending) => return ending,
     };
-    match pooled(runner, alloc, &bytes) {
+    match pooled::<M, F>(runner, alloc, &bytes) {
         Ok(text) => deliver(out, &text),
         Err(refusal) => Ending::NoReport(refusal),
     }
@@ -39,16 +40,16 @@ fn ending<F: Fn(Global, &Trace) -> Result<PoolRun, NoMemory>, R: Source, W: Sink
 
 /// Does all of the command `pool` that follows its words, and answers the status. The calls are run by `runner`: who takes which
 /// call, and in which order they are made, is left open.
-pub fn run_pool<F: Fn(Global, &Trace) -> Result<PoolRun, NoMemory>, R: Source, W: Sink, E: Sink>(
-    runner: &F,
-    alloc: Global,
-    src: &mut R,
-    out: &mut W,
-    err: &mut E,
-) -> u8
+pub fn run_pool<
+    M: PoolManner,
+    F: Fn(Global, &Trace) -> Result<PoolRun, NoMemory>,
+    R: Source,
+    W: Sink,
+    E: Sink,
+>(runner: &F, alloc: Global, src: &mut R, out: &mut W, err: &mut E) -> u8
     requires takes { TakesEach (F.pre runner.now) (λ t. t.now) }
-    requires leaves { LeavesRuns (F.post runner.now) (λ t. t.now) }
-    ensures answer { Answers Reports Refuses
+    requires leaves { LeavesRuns M.ran (F.post runner.now) (λ t. t.now) }
+    ensures answer { Answers (Reports M.ran) Refuses
         (through R.left R.faults src.old src.new)
         (through W.held W.faults out.old out.new)
         (through E.held E.faults err.old err.new) result }
@@ -57,7 +58,7 @@ pub fn run_pool<F: Fn(Global, &Trace) -> Result<PoolRun, NoMemory>, R: Source, W
         (through W.held W.faults out.old out.new) result }
     ensures reads { CallsAtMost (most_bytes + 1) (R.calls src.old) (R.calls src.new) }
 {
-    let ending = ending(runner, alloc, src, out);
+    let ending = ending::<M, F, R, W>(runner, alloc, src, out);
     tell_ending(err, ending);
     ending.status()
 }

@@ -27,20 +27,21 @@ replayed t history final = record {
   attaches = attaches_of t;
 }
 
--- the text is the report of a history of the trace
-pub record IsReportOf (t : Trace) (text : List ℕ) : Type 0 where
+-- the text is the report of a history of the trace that came about in this way
+pub record IsReportOf (Ran : Trace → List Done → Type 0) (t : Trace) (text : List ℕ) : Type 0 where
   pub history : List Done
   pub final : Directory
   pub is_history : IsHistoryOf t history final
+  pub ran : Ran t history
   pub told : text ≡ report (replayed t history final)
 
--- the bytes are a trace, and the text is the report of a history of it
-pub record Reports (bytes text : List ℕ) : Type 0 where
+-- the bytes are a trace, and the text is the report of a history of it that came about in this way
+pub record Reports (Ran : Trace → List Done → Type 0) (bytes text : List ℕ) : Type 0 where
   pub document : Document
   pub read : ReadsTrace bytes (Ok document)
   pub trace : Trace
   pub is_trace : IsTraceOf document trace
-  pub is_report : IsReportOf trace text
+  pub is_report : IsReportOf Ran trace text
 
 -- the bytes are no trace; the refusal tells the first bad line, and the lowest fault on it
 pub record Refuses (bytes : List ℕ) (refusal : Refusal) : Type 0 where

@@ -26,13 +26,14 @@ summed seed t history final = record {
   left = length (entries final.names);
 }
 
--- the text is the summary of a history of the trace that the seed makes
-pub record Summarizes (seed workers calls : ℕ) (text : List ℕ) : Type 0 where
+-- the text is the summary of a history of the trace that the seed makes, which came about in this way
+pub record Summarizes (Ran : Trace → List Done → Type 0) (seed workers calls : ℕ) (text : List ℕ) : Type 0 where
   pub trace : Trace
   pub is_trace : IsTraceOf (generated seed workers calls) trace
   pub history : List Done
   pub final : Directory
   pub is_history : IsHistoryOf trace history final
+  pub ran : Ran trace history
   pub told : text ≡ bulk_report (summed seed trace history final)
 
 abbrev pub RunsOut : Traffic → Refusal → Type 0

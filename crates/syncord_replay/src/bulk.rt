@@ -4,6 +4,7 @@ ghost use Rattle.syncord_endings.specs.Traffic.{through, Failed};
 ghost use Rattle.syncord_replay.specs.Runnable.{TakesEach, LeavesRuns};
 ghost use Rattle.syncord_replay.specs.Sums.{Summarizes, Writes, Concludes};
 
+use crate::manner::Manner;
 use crate::outcome::Run;
 use std::alloc::Global;
 use syn_outer::Sink;
@@ -11,7 +12,7 @@ use syncord_endings::{Ending, Refusal, deliver, tell_ending};
 use trace_text::{NoMemory, Trace, generate, summary};
 
 /// The summary of what a run of the trace that the seed makes leaves.
-fn summary_of<F: Fn(Global, &Trace) -> Result<Run, NoMemory>>(
+fn summary_of<M: Manner, F: Fn(Global, &Trace) -> Result<Run, NoMemory>>(
     runner: &F,
     alloc: Global,
     seed: u64,
@@ -19,11 +20,11 @@ fn summary_of<F: Fn(Global, &Trace) -> Result<Run, NoMemory>>(
     calls: u32,
 ) -> Result<Vec<u8>, NoMemory>
     requires takes { TakesEach (F.pre runner.now) (λ t. t.now) }
-    requires leaves { LeavesRuns (F.post runner.now) (λ t. t.now) }
+    requires leaves { LeavesRuns M.ran (F.post runner.now) (λ t. t.now) }
     requires some { 0 < workers }
     requires few_workers { workers ≤ 16 }
     requires few_calls { calls ≤ 65000 }
-    ensures { IfOk result (λ text. Summarizes seed workers calls text.items) }
+    ensures { IfOk result (λ text. Summarizes M.ran seed workers calls text.items) }
 {
     let trace = generate(alloc, seed, workers, calls)?;
     let outcome = runner(alloc, &trace)?;
@@ -38,7 +39,7 @@ fn summary_of<F: Fn(Global, &Trace) -> Result<Run, NoMemory>>(
 }
 
 /// Sums up, and writes the summary.
-fn ending<F: Fn(Global, &Trace) -> Result<Run, NoMemory>, W: Sink>(
+fn ending<M: Manner, F: Fn(Global, &Trace) -> Result<Run, NoMemory>, W: Sink>(
     runner: &F,
     alloc: Global,
     seed: u64,
@@ -47,14 +48,14 @@ fn ending<F: Fn(Global, &Trace) -> Result<Run, NoMemory>, W: Sink>(
     out: &mut W,
 ) -> Ending
     requires takes { TakesEach (F.pre runner.now) (λ t. t.now) }
-    requires leaves { LeavesRuns (F.post runner.now) (λ t. t.now) }
+    requires leaves { LeavesRuns M.ran (F.post runner.now) (λ t. t.now) }
     requires some { 0 < workers }
     requires few_workers { workers ≤ 16 }
     requires few_calls { calls ≤ 65000 }
-    ensures { Writes (Summarizes seed workers calls)
+    ensures { Writes (Summarizes M.ran seed workers calls)
         (through W.held W.faults out.old out.new) result }
 {
-    match summary_of(runner, alloc, seed, workers, calls) {
+    match summary_of::<M, F>(runner, alloc, seed, workers, calls) {
         Ok(text) => deliver(out, &text),
         Err(NoMemory) => Ending::NoReport(Refusal::NoMemory),
     }
@@ -62,7 +63,7 @@ fn ending<F: Fn(Global, &Trace) -> Result<Run, NoMemory>, W: Sink>(
 
 /// Does all of the command `bulk` that follows its words, and answers the status: 0, 4 or 5. It reads nothing. The trace is run by
 /// `runner`.
-pub fn run_bulk<F: Fn(Global, &Trace) -> Result<Run, NoMemory>, W: Sink, E: Sink>(
+pub fn run_bulk<M: Manner, F: Fn(Global, &Trace) -> Result<Run, NoMemory>, W: Sink, E: Sink>(
     runner: &F,
     alloc: Global,
     seed: u64,
@@ -72,17 +73,17 @@ pub fn run_bulk<F: Fn(Global, &Trace) -> Result<Run, NoMemory>, W: Sink, E: Sink
     err: &mut E,
 ) -> u8
     requires takes { TakesEach (F.pre runner.now) (λ t. t.now) }
-    requires leaves { LeavesRuns (F.post runner.now) (λ t. t.now) }
+    requires leaves { LeavesRuns M.ran (F.post runner.now) (λ t. t.now) }
     requires some { 0 < workers }
     requires few_workers { workers ≤ 16 }
     requires few_calls { calls ≤ 65000 }
-    ensures answer { Concludes (Summarizes seed workers calls)
+    ensures answer { Concludes (Summarizes M.ran seed workers calls)
         (through W.held W.faults out.old out.new)
         (through E.held E.faults err.old err.new) result }
     ensures complete { ¬ (Failed (through W.held W.faults out.old out.new))
         → (result ≡ 0) ⊎ (result ≡ 5) }
 {
-    let ending = ending(runner, alloc, seed, workers, calls, out);
+    let ending = ending::<M, F, W>(runner, alloc, seed, workers, calls, out);
     tell_ending(err, ending);
     ending.status()
 }

@@ -4,21 +4,22 @@ ghost use Rattle.syncord_endings.specs.Endings.{Due};
 ghost use Rattle.syncord_replay.specs.Runnable.{IsRunnable, TakesEach, LeavesRuns};
 ghost use Rattle.syncord_replay.specs.Replays.{IsReportOf, Reports, Refuses};
 
+use crate::manner::Manner;
 use crate::outcome::Run;
 use std::alloc::Global;
 use syncord_endings::Refusal;
 use trace_text::{NoMemory, Trace, TraceError, read_trace, render};
 
 /// The report of what a run of the trace leaves.
-fn report_of<F: Fn(Global, &Trace) -> Result<Run, NoMemory>>(
+fn report_of<M: Manner, F: Fn(Global, &Trace) -> Result<Run, NoMemory>>(
     runner: &F,
     alloc: Global,
     trace: &Trace,
 ) -> Result<Vec<u8>, NoMemory>
     requires trace { IsRunnable trace.now }
     requires takes { TakesEach (F.pre runner.now) (λ t. t.now) }
-    requires leaves { LeavesRuns (F.post runner.now) (λ t. t.now) }
-    ensures { IfOk result (λ text. IsReportOf trace.now text.items) }
+    requires leaves { LeavesRuns M.ran (F.post runner.now) (λ t. t.now) }
+    ensures { IfOk result (λ text. IsReportOf M.ran trace.now text.items) }
 {
     let outcome = runner(alloc, trace)?;
     let attaches = outcome.versions.rows();
@@ -33,14 +34,14 @@ fn report_of<F: Fn(Global, &Trace) -> Result<Run, NoMemory>>(
 }
 
 /// Replays the trace that the bytes are, whose memory is given back before the run.
-pub fn replay<F: Fn(Global, &Trace) -> Result<Run, NoMemory>>(
+pub fn replay<M: Manner, F: Fn(Global, &Trace) -> Result<Run, NoMemory>>(
     runner: &F,
     alloc: Global,
     bytes: Vec<u8>,
 ) -> Result<Vec<u8>, Refusal>
     requires takes { TakesEach (F.pre runner.now) (λ t. t.now) }
-    requires leaves { LeavesRuns (F.post runner.now) (λ t. t.now) }
-    ensures report { IfOk result (λ text. Reports bytes.items text.items) }
+    requires leaves { LeavesRuns M.ran (F.post runner.now) (λ t. t.now) }
+    ensures report { IfOk result (λ text. Reports M.ran bytes.items text.items) }
     ensures refusal { IfErr result (Due (Refuses bytes.items)) }
 {
     let trace = match read_trace(alloc, &bytes) {
@@ -49,7 +50,7 @@ pub fn replay<F: Fn(Global, &Trace) -> Result<Run, NoMemory>>(
         Err(TraceError::NoMemory) => return Err(Refusal::NoMemory),
     };
     drop(bytes);
-    match report_of(runner, alloc, &trace) {
+    match report_of::<M, F>(runner, alloc, &trace) {
         Ok(text) => Ok(text),
         Err(NoMemory) => Err(Refusal::NoMemory),
     }

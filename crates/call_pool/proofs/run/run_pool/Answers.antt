@@ -1,4 +1,4 @@
-use Rattle.std.proofs.Common.{◌≡◌, List, All, length, sym, ap, ◌∙◌, subst, arith}
+use Rattle.std.proofs.Common.{◌≡◌, List, All, length, map, sym, ap, ◌∙◌, subst, arith}
 use Rattle.std.proofs.Crossing.{crosses}
 use Rattle.std.proofs.lemmas.List.{with_items_is}
 use denote.Param.Send.{sendable}
@@ -10,7 +10,7 @@ use Rattle.dir_table.specs.Meanings.{Admits}
 use Rattle.hist_log.specs.Numbers.{numbers}
 use Rattle.shfl_table.specs.Books.{actions}
 use Rattle.shfl_table.specs.Histories.{HasSeen}
-use Rattle.shfl_cell.specs.Cells.{number}
+use Rattle.shfl_cell.specs.Cells.{number, HasRunOf}
 use Rattle.call_pool.specs.Pools.{PoolPassModel, IsPassOf, AreNumbered, calls_by}
 use Rattle.call_pool.proofs.Crossing.{cell_sync, queue_sync}
 use Rattle.call_pool.proofs.Running.{numbered}
@@ -55,5 +55,6 @@ returns-clause-passes g c =
       numbered = c.take_in_threads.ensures.numbered;
       ended = c.take_in_threads.ensures.ended;
       taken = subst (All (λ (p : P). calls_by (number p.cell) entries ≡ p.taker.taken)) same c.close_in_order.ensures.taken;
+      run = subst (λ (l : List P). HasRunOf c.in_ok-pool.pool.cell (map (λ (p : P). p.cell) l) (actions (numbers call_numbers) reply_numbers entries)) same c.close_in_order.ensures.run;
       seen = subst (All (λ (p : P). HasSeen (actions (numbers call_numbers) reply_numbers entries) (number p.cell) p.cell.seen)) same c.close_in_order.ensures.seen;
     }

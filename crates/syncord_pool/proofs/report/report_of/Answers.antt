@@ -10,8 +10,9 @@ returns g c =
     record {
       history = entries;
       final = final;
-      is_history = run;
-      answered = are_answered t entries run.is_history.legal;
-      leaves = leave_it t entries final run.leaves;
+      is_history = run.pooled;
+      ran = run.ran;
+      answered = are_answered t entries run.pooled.is_history.legal;
+      leaves = leave_it t entries final run.pooled.leaves;
       told = rw c.as_slice.ensures.value at c.in_ok-text.ensures;
     }

@@ -6,11 +6,11 @@ use Rattle.syncord_pool.proofs.run.ending.Goals as goal
 
 pub returns-in-Err-clause-ends : goal.returns-in-Err-clause-ends
 returns-in-Err-clause-ends g c =
-    ends_unread Reports Refuses (through g.R.Source.left g.R.Source.faults c.args.src.now c.read_input.new.src)
+    ends_unread (Reports g.M.PoolManner.ran) Refuses (through g.R.Source.left g.R.Source.faults c.args.src.now c.read_input.new.src)
     (through g.W.Sink.held g.W.Sink.faults c.args.out.now c.args.out.now) c.in-Err.ending c.in-Err.ensures.unread (Took-nil (g.W.Sink.held c.args.out.now))
 
 pub returns-in-Ok-pooled-clause-ends : goal.returns-in-Ok-pooled-clause-ends
 returns-in-Ok-pooled-clause-ends g c =
-    ends_delivered Reports Refuses (through g.R.Source.left g.R.Source.faults c.args.src.now c.read_input.new.src)
+    ends_delivered (Reports g.M.PoolManner.ran) Refuses (through g.R.Source.left g.R.Source.faults c.args.src.now c.read_input.new.src)
     (through g.W.Sink.held g.W.Sink.faults c.args.out.now c.deliver.new.out) c.in-Ok.bytes.items c.in-Ok-pooled.text.items c.deliver.result
     c.in-Ok.ensures.whole (rw c.deref.ensures.value at c.in-Ok-pooled.ensures.report) (rw c.deref-in-Ok-pooled.ensures.value at c.deliver.ensures)

@@ -21,5 +21,6 @@ returns g c =
       history = map done_of c.in_ok-outcome.outcome.history.items;
       final = c.in_ok-outcome.outcome.dir;
       is_history = run.history;
+      ran = run.ran;
       told = rw (map-map (λ e. e.reply) done_of c.in_ok-outcome.outcome.history.items) (rw c.as_slice.ensures.value at c.in_ok-text.ensures);
     }

@@ -9,5 +9,6 @@ returns g c =
       history = map done_of c.in_ok-outcome.outcome.history.items;
       final = c.in_ok-outcome.outcome.dir;
       is_history = run.history;
+      ran = run.ran;
       told = rw (c.as_slice.ensures.value, c.rows-attaches.ensures, run.versions) at c.in_ok-text.ensures;
     }

@@ -12,7 +12,7 @@ use Rattle.call_queue.specs.Rule.{whole}
 use Rattle.call_queue.specs.Queues.{TakerModel, IsEachTaken}
 use Rattle.shfl_table.specs.Books.{actions}
 use Rattle.shfl_table.specs.Histories.{actions_by, HasSeen}
-use Rattle.shfl_cell.specs.Cells.{CellPassModel, number, AreAll}
+use Rattle.shfl_cell.specs.Cells.{CellPassModel, number, AreAll, HasRunOf}
 use Rattle.call_pool.specs.Pools.{PoolModel, PoolPassModel, IsPassOf, calls_by}
 use Rattle.call_pool.proofs.Members.{all_of-map, first_removed}
 use Rattle.call_pool.proofs.AllPasses.{every_part}
@@ -94,6 +94,12 @@ module _ (g : given_here.Over) (c : After-into_inner g) where
   seen = all_of-map (λ (p : CellPassModel). HasSeen (actions (numbers g.O.Object.call_numbers) g.O.Object.reply_numbers entries) (number p) p.seen) (λ (p : PoolPassModel C). p.cell) c.args.passes.items
       (subst (All (λ (p : CellPassModel). HasSeen (actions (numbers g.O.Object.call_numbers) g.O.Object.reply_numbers entries) (number p) p.seen)) (cells g c.before.before.before) c.close-object.ensures.seen)
 
+  ran : HasRunOf c.args.self.cell (map (λ p. p.cell) c.args.passes.items) (actions (numbers g.O.Object.call_numbers) g.O.Object.reply_numbers entries)
+  ran =
+      let made = actions (numbers g.O.Object.call_numbers) g.O.Object.reply_numbers entries in
+      subst (λ (z : PoolModel C). HasRunOf z.cell (map (λ (p : PoolPassModel C). p.cell) c.args.passes.items) made) c.self.view_is
+      (subst (λ (l : List CellPassModel). HasRunOf c.self.inside.cell l made) (cells g c.before.before.before) c.close-object.ensures.run)
+
 pub returns-clause-state : goal.returns-clause-state
 returns-clause-state g c = let O = g.O.Object in
     c.into_inner.ensures.state ∙ (c.close-object.ensures.state
@@ -104,6 +110,9 @@ returns-clause-nobody_else g c = nobody g (goal.at.returns-clause-nobody_else g 
 
 pub returns-clause-seen : goal.returns-clause-seen
 returns-clause-seen g c = seen g (goal.at.returns-clause-seen g c).After-into_inner
+
+pub returns-clause-run : goal.returns-clause-run
+returns-clause-run g c = ran g (goal.at.returns-clause-run g c).After-into_inner
 
 pub returns-clause-taken : goal.returns-clause-taken
 returns-clause-taken g c k d below = let e = (goal.at.returns-clause-taken g c).After-into_inner in let O = g.O.Object in

@@ -1,6 +1,7 @@
-use Rattle.std.proofs.Common.{◌<◌, ◌≤◌, length, sum, slice_index, slice_index_or, refl, sym, ap, ◌∙◌, subst, arith}
+use Rattle.std.proofs.Common.{◌<◌, ◌≤◌, length, map, sum, slice_index, slice_index_or, refl, sym, ap, ◌∙◌, subst, arith}
 use Rattle.dir_table.specs.Directory.{Directory}
 use Rattle.dir_table.specs.Numbers.{state_numbers}
+use Rattle.shfl_line.specs.Words.{attr_word}
 use Rattle.shfl_cell.specs.Cells.{fresh, no_attr}
 use Rattle.shfl_workers.proofs.Numbered.{each_place}
 use Rattle.shfl_workers.proofs.cell_dir.ShflCellOfBookDirSharedDir.open.Goals as goal
@@ -12,11 +13,12 @@ open-requires-clause-spare c =
 
 pub returns-clause-opened : goal.returns-clause-opened
 returns-clause-opened c =
-    let e = c.in-Ok.ensures.cell in (
-      e.0 ∙ ap length c.as_slice-counts.ensures.value ∙ c.in_ok-shares.ensures.as_many,
-      e.1 ∙ ap state_numbers c.in_ok-dir.ensures,
-      c.in-Ok.ensures.rules,
-    )
+    let e = c.in-Ok.ensures.cell in record {
+      count = e.0 ∙ ap length c.as_slice-counts.ensures.value ∙ c.in_ok-shares.ensures.as_many;
+      opening = e.1 ∙ ap state_numbers c.in_ok-dir.ensures;
+      rules = c.in-Ok.ensures.rules;
+      attrs = c.in-Ok.ensures.attrs ∙ ap (map attr_word) c.as_slice-attrs.ensures.value;
+    }
 
 pub returns-clause-room : goal.returns-clause-room
 returns-clause-room c = ap (λ s. slice_index s 0) (c.in-Ok.ensures.cell.1 ∙ ap state_numbers c.in_ok-dir.ensures)

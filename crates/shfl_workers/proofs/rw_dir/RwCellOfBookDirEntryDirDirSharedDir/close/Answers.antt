@@ -1,4 +1,4 @@
-use Rattle.std.proofs.Common.{◌≡◌, List, Vec, Global, map, length, Option, IfSome, sym, ◌∙◌, subst, arith}
+use Rattle.std.proofs.Common.{◌≡◌, List, Vec, Global, map, length, Option, IfSome, sym, ap, ◌∙◌, subst, arith}
 use Rattle.std.proofs.lemmas.List.Elements.{All-pop}
 use Rattle.dir_table.specs.declared.dir.Dir.{Dir}
 use Rattle.dir_table.specs.declared.calls.DirCall.{DirCall}
@@ -11,7 +11,9 @@ use Rattle.hist_log.specs.History.{IsLegal, operations, state_left}
 use Rattle.hist_log.specs.Merge.{merged, AreInOrder, ReadsFit}
 use Rattle.shfl_workers.proofs.Numbered.{each_of_dir, once, everyone}
 use Rattle.shfl_workers.specs.Receipts.{CountWrites}
-use Rattle.shfl_workers.proofs.Ending.{merged_is, receipts_are}
+use Rattle.shfl_workers.proofs.Ending.{merged_is, receipts_are, writes_are}
+use Rattle.shfl_workers.proofs.LockRuns.{ran_for}
+use Rattle.shfl_workers.proofs.WritesMade.{written}
 use Rattle.shfl_workers.proofs.rw_dir.RwCellOfBookDirEntryDirDirSharedDir.close.Goals as goal
 
 abbrev E : Type 0
@@ -22,7 +24,7 @@ close-dirs-requires-clause-cell c = each_of_dir _ _ _ _ c.args.passes.items c.re
 
 pub close-dirs-requires-clause-all : goal.close-dirs-requires-clause-all
 close-dirs-requires-clause-all c =
-    let n = c.requires.count in let ok = c.args.passes.ok.0 in let w = c.requires.opened.0 in
+    let n = c.requires.count in let ok = c.args.passes.ok.0 in let w = c.requires.opened.count in
     everyone _ _ _ _ c.args.passes.items c.requires.passes c.args.self.count (omega (arith, n, ok, w))
 
 pub close-dirs-requires-clause-once : goal.close-dirs-requires-clause-once
@@ -58,3 +60,13 @@ returns-clause-receipts c =
     let order = c.in-Ok.ensures.order ∙ (λ j. merged (λ (e : E). e.receipt) (same_writes j) (map (λ (v : Vec E Global). v.items) (same_lists j))) in
     let many : length passes.items ≡ length t.workers.items = (let n = c.requires.count in let ok = passes.ok.0 in omega (arith, n, ok)) in
     subst CountWrites (sym order) (receipts_are t c.requires.within c.args.self c.requires.opened passes.items many c.requires.passes writes reads c.close-dirs.ensures.writes c.close-dirs.ensures.reads)
+
+pub returns-clause-ran : goal.returns-clause-ran
+returns-clause-ran c =
+    let t = c.args.trace.now in let passes = c.args.passes in let o = c.requires.opened in let r = c.close-dirs.ensures.run.run in
+    let writes : List E = c.close-dirs.result.1.items in let reads : List (List E) = map (λ (v : Vec E Global). v.items) c.close-dirs.result.2.items in
+    let same_writes = c.as_slice.ensures.value in let same_lists = c.as_slice-2.ensures.value in
+    let order = c.in-Ok.ensures.order ∙ (λ j. merged (λ (e : E). e.receipt) (same_writes j) (map (λ (v : Vec E Global). v.items) (same_lists j))) in
+    let many : length passes.items ≡ length t.workers.items = (let n = c.requires.count in let ok = passes.ok.0 in omega (arith, n, ok)) in
+    let made = ap written order ∙ writes_are t c.requires.within c.args.self o passes.items many c.requires.passes writes reads c.close-dirs.ensures.writes c.close-dirs.ensures.reads in
+    ran_for _ _ _ _ _ _ _ o.rules o.attrs r.opened (sym made) r.ran

@@ -1,4 +1,5 @@
-use Rattle.std.proofs.Common.{◌<◌, ◌≤◌, ℕ, length, vec_len, sum, slice_index, slice_index_or, refl, sym, ap, ◌∙◌, subst, arith}
+use Rattle.std.proofs.Common.{◌<◌, ◌≤◌, ℕ, length, map, vec_len, sum, slice_index, slice_index_or, refl, sym, ap, ◌∙◌, subst, arith}
+use Rattle.shfl_line.specs.Words.{attr_word}
 use Rattle.rw_cell.specs.RwCells.{fresh, no_attr}
 use Rattle.shfl_workers.proofs.Opening.{all_alike, first_empty, enough_left}
 use Rattle.shfl_workers.proofs.Numbered.{each_place}
@@ -15,11 +16,12 @@ open-requires-clause-spare c =
 pub returns-clause-opened : goal.returns-clause-opened
 returns-clause-opened c =
     let e = c.in-Ok.ensures.cell in let dirs = c.in_ok-dirs.dirs in
-    let some : 0 < length dirs.items = (let n = c.in_ok-dirs.ensures.len in let w = c.requires.workers.0 in let ok = dirs.ok.0 in omega (arith, n, w, ok)) in (
-      e.0 ∙ ap length c.as_slice-counts.ensures.value ∙ c.in_ok-shares.ensures.as_many,
-      e.1 ∙ first_empty c.args.trace.now dirs.items some c.in_ok-dirs.ensures.empty,
-      c.in-Ok.ensures.rules,
-    )
+    let some : 0 < length dirs.items = (let n = c.in_ok-dirs.ensures.len in let w = c.requires.workers.0 in let ok = dirs.ok.0 in omega (arith, n, w, ok)) in record {
+      count = e.0 ∙ ap length c.as_slice-counts.ensures.value ∙ c.in_ok-shares.ensures.as_many;
+      opening = e.1 ∙ first_empty c.args.trace.now dirs.items some c.in_ok-dirs.ensures.empty;
+      rules = c.in-Ok.ensures.rules;
+      attrs = c.in-Ok.ensures.attrs ∙ ap (map attr_word) c.as_slice-attrs.ensures.value;
+    }
 
 pub returns-clause-room : goal.returns-clause-room
 returns-clause-room c =

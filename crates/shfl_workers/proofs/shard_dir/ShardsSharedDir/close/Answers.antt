@@ -1,4 +1,4 @@
-use Rattle.std.proofs.Common.{◌≡◌, List, get_or, All, length, sym, ap, ◌∙◌, subst, arith}
+use Rattle.std.proofs.Common.{◌≡◌, List, get_or, All, map, length, refl, sym, ap, ◌∙◌, subst, arith}
 use Rattle.dir_table.specs.Directory.{Directory}
 use Rattle.dir_table.specs.Numbers.{call_numbers, reply_numbers, state_numbers, call_from}
 use Rattle.dir_table.specs.Meanings.{state_after, IsAdmitted, Admits}
@@ -6,8 +6,12 @@ use Rattle.dir_table.specs.ObjectLaws.{call_again}
 use Rattle.hist_log.specs.History.{operations, state_left}
 use Rattle.shard_rows.specs.Replay.{DirEntry}
 use Rattle.trace_text.specs.Histories.{beginning}
+use Rattle.shfl_line.specs.declared.events.Form.TheVariants.{Park}
+use Rattle.shfl_line.specs.Words.{attr_word}
+use Rattle.shfl_table.specs.PassModel.{BoardId}
 use Rattle.dir_shards.specs.Commits.{IsLegalFor}
-use Rattle.shfl_workers.proofs.Numbered.{each_of_dir, everyone}
+use Rattle.shfl_workers.proofs.Numbered.{each_of_dir, everyone, element_at, of_all}
+use Rattle.shfl_workers.proofs.LockRuns.{ran_for}
 use Rattle.shfl_workers.proofs.ShardEnding.{journal_has_all}
 use Rattle.shfl_workers.proofs.Histories.{HasAll, few_entries, is_history}
 use Rattle.shfl_workers.proofs.shard_dir.ShardsSharedDir.close.Goals as goal
@@ -46,3 +50,11 @@ returns-clause-history c =
     let same : c.as_slice.result.now ≡ journal = c.as_slice.ensures.value in
     is_history t c.requires.within journal all c.legal.new.object (subst (λ n. IsLegalFor n journal) c.requires.opened.room e.legal).history
     (c.legal.ensures.state ∙ (λ j. state_left state_after (start j) (operations call_numbers reply_numbers (same j))))
+
+pub returns-clause-ran : goal.returns-clause-ran
+returns-clause-ran c dir below =
+    let o = c.requires.opened in let locks = c.args.self.locks.locks in let many = o.count in
+    let lock = element_at locks dir (omega (arith, below, many)) in
+    let r = (c.close-rows.ensures.run dir lock.0 lock.1).run in
+    ran_for _ _ _ _ _ _ _ (of_all (λ (l : BoardId). l.rules ≡ record { limit = 1024; form = Park }) locks o.rules dir lock.0 lock.1)
+    (of_all (λ (l : BoardId). l.attrs ≡ map attr_word c.args.trace.now.workers.items) locks o.attrs dir lock.0 lock.1) r.opened refl r.ran
