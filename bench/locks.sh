@@ -20,7 +20,7 @@ build() {
     bench="$(python3 -B "$top/bin/programs.py" "$room" locks)" || exit 1
     cc -O2 -pthread -o "$room/peers" "$top/bench/peers.c"
 }
-bench="$room/locks/crates/locks/out/locks"
+bench="$room/locks/locks"
 [ -x "$room/peers" ] || build
 
 # The median and the worst of numbers, each a line: the greatest where the words are -g, the least where they are -gr.

@@ -1,5 +1,5 @@
 """What the commands of this repository share that work on a copy of its crates."""
-import os, shutil
+import os, shutil, subprocess
 
 TOP = os.path.dirname(os.path.dirname(os.path.realpath(__file__)))
 
@@ -35,6 +35,20 @@ def copy(crates, room):
     for name in crates:
         left_out = shutil.ignore_patterns("out", "must-fail", "more-edits", "*.md")
         shutil.copytree(f"{TOP}/crates/{name}", f"{room}/crates/{name}", ignore=left_out)
+
+
+def build_words(name, top, uses, crates, room):
+    """The words by which rattle proves and compiles a crate over crates that rt ci has proved in the folder `room`; and the folder of the toolchain."""
+    kit = os.path.dirname(subprocess.run(["rt", "doc"], check=True, capture_output=True, text=True).stdout.strip())
+    words = ["rattle", "build", "--crate-name", name, top, "-L", f"dependency={kit}/rlibs"]
+    # (std is never listed, and always there)
+    for below in [*uses, "std"]:
+        at = f"{room}/crates/{below}/out/rlib" if below in crates else f"{kit}/rlibs"
+        words += ["--extern", f"{below}={at}/{below}.rlib"]
+    for below in crates:
+        words += ["-L", f"dependency={room}/crates/{below}/out/rlib"] if below != name else []
+    words += ["--antt-project", f"{kit}/rattle/logic/antt-project.json", "--logic-built", f"{kit}/logic_built", "--jobs", "2"]
+    return words + ["--links", f"{name}=", "--toolchain", f"{kit}/toolchain", "--backend", "llvm"], kit
 
 
 if __name__ == "__main__":
