@@ -2,11 +2,13 @@
 #![tactic(auto)]
 
 mod commands;
+mod manners;
 mod takers;
 mod threads;
 mod top;
 
 pub use bpf_isa::Profile;
+pub use manners::{ByShards, ByTakers, ByThreads};
 pub use syncord_asm::{run_asm, run_disasm};
 pub use syncord_line::run_line;
 pub use syncord_pool::run_pool;

@@ -1,6 +1,7 @@
 //! Pools run by threads.
 ghost use Rattle.std.specs.Prelude.{IfOk};
 ghost use Rattle.syncord_pool.specs.Runs.{MayRun, IsRunOf};
+ghost use Rattle.syncord_app.specs.Takers.{RanByTakers};
 
 use dir_table::Dir;
 use pool_text::dir_calls;
@@ -21,7 +22,7 @@ pub fn run_by_takers<Rt: Threads + Wait + Sync, G: Gate + Sync>(
     gate: &G,
 ) -> Result<PoolRun, NoMemory>
     requires { MayRun trace.now }
-    ensures { IfOk result (IsRunOf trace.now) }
+    ensures { IfOk result (IsRunOf RanByTakers trace.now) }
 {
     let calls = dir_calls(alloc, trace)?;
     let policy = load_one(alloc, 0, trace.profile, &trace.policies[0])?;

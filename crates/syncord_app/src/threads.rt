@@ -1,5 +1,6 @@
 //! Traces run by threads.
 ghost use Rattle.std.specs.Prelude.{◌≡◌, IfOk};
+ghost use Rattle.shfl_workers.specs.LockRuns.{RanByThreads, RanByShards};
 ghost use Rattle.syncord_replay.specs.Runnable.{IsRunnable, IsRunOf};
 
 use shfl_workers::{Outcome, run_shards, run_trace};
@@ -35,7 +36,7 @@ pub fn run_by_threads<Rt: Threads + Wait + Sync, G: Gate + Sync>(
     gate: &G,
 ) -> Result<Run, NoMemory>
     requires { IsRunnable trace.now }
-    ensures { IfOk result (IsRunOf trace.now) }
+    ensures { IfOk result (IsRunOf RanByThreads trace.now) }
 {
     Ok(run_of(run_trace(rt, alloc, trace, gate)?))
 }
@@ -48,7 +49,7 @@ pub fn run_by_shards<Rt: Threads + Wait + Sync, G: Gate + Sync>(
     gate: &G,
 ) -> Result<Run, NoMemory>
     requires { IsRunnable trace.now }
-    ensures { IfOk result (IsRunOf trace.now) }
+    ensures { IfOk result (IsRunOf RanByShards trace.now) }
 {
     Ok(run_of(run_shards(rt, alloc, trace, gate)?))
 }

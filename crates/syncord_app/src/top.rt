@@ -9,15 +9,18 @@ ghost use Rattle.syncord_line.specs.Reports as line;
 ghost use Rattle.syncord_verify.specs.Verdicts.{Verifies};
 ghost use Rattle.syncord_asm.specs.Assemblies.{Assembles};
 ghost use Rattle.syncord_asm.specs.Listings.{Disassembles};
+ghost use Rattle.shfl_workers.specs.LockRuns.{RanByThreads, RanByShards};
 ghost use Rattle.syncord_replay.specs.declared.words.BulkWords.{BulkWords as Numbers};
 ghost use Rattle.syncord_replay.specs.Replays as replay;
 ghost use Rattle.syncord_replay.specs.Runnable.{IsRunnable, IsRunOf};
 ghost use Rattle.syncord_pool.specs.Reports as pool;
 ghost use Rattle.syncord_pool.specs.Runs as pooled;
 ghost use Rattle.syncord_app.specs.Outcomes.{Performs, SumsUp};
+ghost use Rattle.syncord_app.specs.Takers.{RanByTakers};
 ghost use Rattle.syncord_app.specs.Commands.{command_in};
 
 use crate::commands::Command;
+use crate::manners::{ByShards, ByTakers, ByThreads};
 use crate::takers::run_by_takers;
 use crate::threads::{run_by_shards, run_by_threads};
 use std::alloc::Global;
@@ -74,24 +77,26 @@ pub fn syncord<Rt: Threads + Wait + Sync, R: Source, W: Sink, E: Sink, G: Gate +
         (through W.held W.faults out.old out.new)
         (through E.held E.faults err.old err.new) result }
 
-    // `replay` runs a trace by threads and reports a history of it, or ends otherwise with its cause.
+    // `replay` runs a trace by threads and reports a history of it, which the holds of the lock's run made; or it ends otherwise with its
+    // cause.
     ensures replay { command_in (map string_bytes words.now) ≡ Some Replay →
-        Performs replay.Reports replay.Refuses
+        Performs (replay.Reports RanByThreads) replay.Refuses
         (through R.left R.faults src.old src.new)
         (through W.held W.faults out.old out.new)
         (through E.held E.faults err.old err.new) result }
 
-    // `shards` runs a trace by threads with a lock for each directory, and reports a history of it as `replay` does.
+    // `shards` runs a trace by threads with a lock for each directory, each of which has a run, and reports a history of it as
+    // `replay` does.
     ensures shards { command_in (map string_bytes words.now) ≡ Some Shards →
-        Performs replay.Reports replay.Refuses
+        Performs (replay.Reports RanByShards) replay.Refuses
         (through R.left R.faults src.old src.new)
         (through W.held W.faults out.old out.new)
         (through E.held E.faults err.old err.new) result }
 
-    // `pool` runs the calls of a trace by threads that take them from one queue, and reports a history of them, or ends otherwise
-    // with its cause.
+    // `pool` runs the calls of a trace by threads that take them from one queue, and reports a history of them, which the holds of
+    // the lock's run made; or it ends otherwise with its cause.
     ensures pool { command_in (map string_bytes words.now) ≡ Some Pool →
-        Performs pool.Reports pool.Refuses
+        Performs (pool.Reports RanByTakers) pool.Refuses
         (through R.left R.faults src.old src.new)
         (through W.held W.faults out.old out.new)
         (through E.held E.faults err.old err.new) result }
@@ -120,29 +125,29 @@ pub fn syncord<Rt: Threads + Wait + Sync, R: Source, W: Sink, E: Sink, G: Gate +
 {
     let runner = |alloc: Global, trace: &Trace| -> Result<Run, NoMemory>
         requires { IsRunnable trace.now }
-        ensures { IfOk result (IsRunOf trace.now) }
+        ensures { IfOk result (IsRunOf RanByThreads trace.now) }
     { run_by_threads(rt, alloc, trace, gate) };
     let sharded = |alloc: Global, trace: &Trace| -> Result<Run, NoMemory>
         requires { IsRunnable trace.now }
-        ensures { IfOk result (IsRunOf trace.now) }
+        ensures { IfOk result (IsRunOf RanByShards trace.now) }
     { run_by_shards(rt, alloc, trace, gate) };
     let takers = |alloc: Global, trace: &Trace| -> Result<PoolRun, NoMemory>
         requires { pooled.MayRun trace.now }
-        ensures { IfOk result (pooled.IsRunOf trace.now) }
+        ensures { IfOk result (pooled.IsRunOf RanByTakers trace.now) }
     { run_by_takers(rt, alloc, trace, gate) };
     match Command::of(words) {
         Some(Command::Line) => run_line(alloc, src, out, err),
         Some(Command::Verify { profile }) => run_verify(alloc, profile, src, out, err),
-        Some(Command::Replay) => run_replay(&runner, alloc, src, out, err),
-        Some(Command::Shards) => run_replay(&sharded, alloc, src, out, err),
-        Some(Command::Pool) => run_pool(&takers, alloc, src, out, err),
+        Some(Command::Replay) => run_replay::<ByThreads, _, R, W, E>(&runner, alloc, src, out, err),
+        Some(Command::Shards) => run_replay::<ByShards, _, R, W, E>(&sharded, alloc, src, out, err),
+        Some(Command::Pool) => run_pool::<ByTakers, _, R, W, E>(&takers, alloc, src, out, err),
         Some(Command::Bulk(numbers)) => {
             let BulkWords {
                 seed,
                 workers,
                 calls,
             } = numbers;
-            run_bulk(&runner, alloc, seed, workers, calls, out, err)
+            run_bulk::<ByThreads, _, W, E>(&runner, alloc, seed, workers, calls, out, err)
         }
         Some(Command::Assemble { profile }) => run_asm(alloc, profile, src, out, err),
         Some(Command::Disassemble { profile }) => run_disasm(alloc, profile, src, out, err),
