@@ -1,10 +1,13 @@
 //! Traces that are run by threads with a lock for each directory.
+use crate::checks::same;
 use crate::threads::{
-    ATTACHED, FOUR_WORKERS, GROUPED, check_order, queue_gate, wait_for, workers_of,
+    ATTACHED, FOUR_WORKERS, GROUPED, is_by, is_grouped, is_of_four, nobody_gave_up, queue_gate,
+    wait_for,
 };
 use dir_table::DirReply;
 use shfl_workers::{Outcome, run_shards};
 use std::alloc::Global;
+use std::process::Abort;
 use std::sync::Wait;
 use std::sync::atomic::{AtomicU64, Ordering};
 use std::test::Fail;
@@ -62,35 +65,40 @@ fn run_text<G: Gate + Sync, R: Threads + Wait + Sync>(
 fn two_shards(rt: HostRuntime) -> Result<(), Fail> {
     let gate = shard_gate();
     let outcome = run_text(&rt, rt.alloc(), TWO_SHARDS, &gate)?;
-    let workers = workers_of(rt.alloc(), &outcome)?;
-    assert_eq!(&rt; gate.gave_up.load(Ordering::SeqCst), 0);
-    assert_eq!(&rt; workers.as_slice(), [1, 0].as_slice());
-    assert_eq!(&rt; outcome.dir.count(0), DirReply::Number(1));
-    assert_eq!(&rt; outcome.dir.count(1), DirReply::Number(1));
+    nobody_gave_up(&rt, &gate.gave_up);
+    is_by(&rt, rt.alloc(), &outcome, &[1, 0]);
+    same(&rt, &outcome.dir.count(0), &DirReply::Number(1));
+    same(&rt, &outcome.dir.count(1), &DirReply::Number(1));
     Ok(())
 }
 
 #[test]
 fn four_workers_share_shards(rt: HostRuntime) -> Result<(), Fail> {
-    let outcome = run_text(&rt, rt.alloc(), FOUR_WORKERS, &OpenGate)?;
-    assert_eq!(&rt; outcome.history.len(), 12);
-    assert_eq!(&rt; outcome.versions.rows(), [(1, 1), (2, 0)].as_slice());
-    assert_eq!(&rt; outcome.dir.count(5), DirReply::Number(1));
-    assert_eq!(&rt; outcome.dir.count(6), DirReply::Number(0));
+    is_of_four(&rt, &run_text(&rt, rt.alloc(), FOUR_WORKERS, &OpenGate)?);
+    Ok(())
+}
+
+/// The run of the trace that the text is: nobody gives up, and the queue is grouped.
+fn groups<R: Abort + Threads + Wait + Sync>(
+    rt: &R,
+    alloc: Global,
+    text: &[u8],
+    published: &[(u64, u32)],
+) -> Result<(), Fail> {
+    let gate = queue_gate(5);
+    let outcome = run_text(rt, alloc, text, &gate)?;
+    nobody_gave_up(rt, &gate.gave_up);
+    is_grouped(rt, alloc, &outcome, published);
     Ok(())
 }
 
 // Each worker's own attributes are asked about, and the policy is the trace's.
 #[test]
 fn grouped_order_in_a_shard(rt: HostRuntime) -> Result<(), Fail> {
-    let gate = queue_gate();
-    let outcome = run_text(&rt, rt.alloc(), GROUPED, &gate)?;
-    check_order(&rt, rt.alloc(), &gate, &outcome, &[])
+    groups(&rt, rt.alloc(), GROUPED, &[])
 }
 
 #[test]
 fn attached_order_in_a_shard(rt: HostRuntime) -> Result<(), Fail> {
-    let gate = queue_gate();
-    let outcome = run_text(&rt, rt.alloc(), ATTACHED, &gate)?;
-    check_order(&rt, rt.alloc(), &gate, &outcome, &[(1, 1)])
+    groups(&rt, rt.alloc(), ATTACHED, &[(1, 1)])
 }

@@ -1,4 +1,5 @@
 //! Traces that are run by threads.
+use crate::checks::same;
 use dir_table::{Dir, DirReply};
 use rw_cell::RwCell;
 use shfl_workers::{Outcome, do_writes_prevail, run_on, run_trace};
@@ -32,11 +33,13 @@ pub(crate) const FOUR_WORKERS: &[u8] =
 pub(crate) const TWO_READERS: &[u8] =
     b"syncord-trace 1\nworker 0 0 0 0\nworker 0 0 0 0\npolicy none - -\ncalls\n0 find 0 a\n1 find 0 a\n";
 
-/// Lets worker 0 hold the lock until the others have queued in their order and worker 1 has ended its round.
+/// Lets worker 0 hold the lock until the others, at most seven, have queued in their order and worker 1 has ended its round.
 #[derive(Drop)]
 pub(crate) struct QueueGate {
+    workers: usize,
     held: AtomicU64,
-    queued: [AtomicU64; 5],
+    // how often each has joined the queue or ended a round
+    queued: [AtomicU64; 8],
     pub(crate) gave_up: AtomicU64,
 }
 
@@ -52,49 +55,52 @@ pub(crate) fn wait_for(counter: &AtomicU64, least: u64, gave_up: &AtomicU64) {
 }
 
 impl QueueGate {
-    // Waits until the counter is that high, or until someone gave up.
-    fn wait(&self, counter: &AtomicU64, least: u64) {
-        wait_for(counter, least, &self.gave_up);
+    // Waits until this worker has queued, or ended a round.
+    fn await_worker(&self, worker: usize, least: u64) {
+        if let Some(queued) = self.queued.get(worker) {
+            wait_for(queued, least, &self.gave_up);
+        }
+    }
+
+    // Worker 1 stays at the head of the queue until all have queued, and only then begins its round.
+    fn note(&self, worker: usize) {
+        let Some(queued) = self.queued.get(worker) else {
+            return;
+        };
+        let before = queued.fetch_add(1, Ordering::SeqCst);
+        if worker == 1 && before == 0 {
+            for other in 2..self.workers {
+                self.await_worker(other, 1);
+            }
+        }
     }
 }
 
 impl Gate for QueueGate {
     fn at<Rt: Wait>(&self, _rt: &Rt, worker: u32, point: Point) {
-        match (worker, point) {
-            (1, Point::BeforeCall) => self.wait(&self.held, 1),
-            (2, Point::BeforeCall) => self.wait(&self.queued[1], 1),
-            (3, Point::BeforeCall) => self.wait(&self.queued[2], 1),
-            (4, Point::BeforeCall) => self.wait(&self.queued[3], 1),
+        match (worker as usize, point) {
             (0, Point::Holding) => {
                 self.held.store(1, Ordering::SeqCst);
-                self.wait(&self.queued[1], 2);
+                self.await_worker(1, 2);
             }
-            (1, Point::Queued) => {
-                if self.queued[1].fetch_add(1, Ordering::SeqCst) == 0 {
-                    self.wait(&self.queued[2], 1);
-                    self.wait(&self.queued[3], 1);
-                    self.wait(&self.queued[4], 1);
-                }
-            }
-            (2, Point::Queued) => {
-                self.queued[2].fetch_add(1, Ordering::SeqCst);
-            }
-            (3, Point::Queued) => {
-                self.queued[3].fetch_add(1, Ordering::SeqCst);
-            }
-            (4, Point::Queued) => {
-                self.queued[4].fetch_add(1, Ordering::SeqCst);
-            }
+            (0, _) => {}
+            (1, Point::BeforeCall) => wait_for(&self.held, 1, &self.gave_up),
+            (worker, Point::BeforeCall) => self.await_worker(worker - 1, 1),
+            (worker, Point::Queued) => self.note(worker),
             _ => {}
         }
     }
 }
 
-/// A gate at which nobody has been yet.
-pub(crate) fn queue_gate() -> QueueGate {
+/// A gate for so many workers, at which nobody has been yet.
+pub(crate) fn queue_gate(workers: usize) -> QueueGate {
     QueueGate {
+        workers,
         held: AtomicU64::new(0),
         queued: [
+            AtomicU64::new(0),
+            AtomicU64::new(0),
+            AtomicU64::new(0),
             AtomicU64::new(0),
             AtomicU64::new(0),
             AtomicU64::new(0),
@@ -127,56 +133,77 @@ fn run_text_on_copies<G: Gate + Sync, R: Threads + Wait + Sync>(
     Ok(run_on::<RwCell<Dir>, G, R>(rt, alloc, &trace, gate)?)
 }
 
-/// The workers of a history, in its order.
-pub(crate) fn workers_of(alloc: Global, outcome: &Outcome) -> Result<Vec<u32>, Fail> {
-    let mut workers = Vec::new(alloc);
-    for entry in outcome.history.as_slice() {
-        workers.push(entry.worker)?;
-    }
-    Ok(workers)
+/// Nobody gave up.
+pub(crate) fn nobody_gave_up(rt: &impl Abort, gave_up: &AtomicU64) {
+    same(rt, &gave_up.load(Ordering::SeqCst), &0);
 }
 
-/// Nobody gave up, the queue was ordered by the policy that prefers the own socket, and so much was published.
-pub(crate) fn check_order<R: Abort>(
-    rt: &R,
+/// The history is by these workers, in its order.
+pub(crate) fn is_by(rt: &impl Abort, alloc: Global, outcome: &Outcome, due: &[u32]) {
+    let mut workers = Vec::new(alloc);
+    for entry in outcome.history.as_slice() {
+        workers.push(entry.worker).ok().expect(rt, "memory");
+    }
+    same(rt, &workers.as_slice(), &due);
+}
+
+/// The queue was ordered by the policy that prefers the own socket, and so much was published.
+pub(crate) fn is_grouped(
+    rt: &impl Abort,
     alloc: Global,
-    gate: &QueueGate,
     outcome: &Outcome,
     published: &[(u64, u32)],
+) {
+    is_by(rt, alloc, outcome, &[0, 1, 3, 2, 4]);
+    same(rt, &outcome.versions.rows(), &published);
+}
+
+/// The run of the trace that the text is: nobody gives up, and the queue is grouped.
+fn groups<R: Abort + Threads + Wait + Sync>(
+    rt: &R,
+    alloc: Global,
+    text: &[u8],
+    published: &[(u64, u32)],
 ) -> Result<(), Fail> {
-    let workers = workers_of(alloc, outcome)?;
-    assert_eq!(rt; gate.gave_up.load(Ordering::SeqCst), 0);
-    assert_eq!(rt; workers.as_slice(), [0, 1, 3, 2, 4].as_slice());
-    assert_eq!(rt; outcome.versions.rows(), published);
+    let gate = queue_gate(5);
+    let outcome = run_text(rt, alloc, text, &gate)?;
+    nobody_gave_up(rt, &gate.gave_up);
+    is_grouped(rt, alloc, &outcome, published);
+    Ok(())
+}
+
+/// The same with a copy of the directory for each worker.
+fn groups_on_copies<R: Abort + Threads + Wait + Sync>(
+    rt: &R,
+    alloc: Global,
+    text: &[u8],
+    published: &[(u64, u32)],
+) -> Result<(), Fail> {
+    let gate = queue_gate(5);
+    let outcome = run_text_on_copies(rt, alloc, text, &gate)?;
+    nobody_gave_up(rt, &gate.gave_up);
+    is_grouped(rt, alloc, &outcome, published);
     Ok(())
 }
 
 #[test]
 fn grouped_order(rt: HostRuntime) -> Result<(), Fail> {
-    let gate = queue_gate();
-    let outcome = run_text(&rt, rt.alloc(), GROUPED, &gate)?;
-    check_order(&rt, rt.alloc(), &gate, &outcome, &[])
+    groups(&rt, rt.alloc(), GROUPED, &[])
 }
 
 #[test]
 fn attached_order(rt: HostRuntime) -> Result<(), Fail> {
-    let gate = queue_gate();
-    let outcome = run_text(&rt, rt.alloc(), ATTACHED, &gate)?;
-    check_order(&rt, rt.alloc(), &gate, &outcome, &[(1, 1)])
+    groups(&rt, rt.alloc(), ATTACHED, &[(1, 1)])
 }
 
 #[test]
 fn grouped_order_on_copies(rt: HostRuntime) -> Result<(), Fail> {
-    let gate = queue_gate();
-    let outcome = run_text_on_copies(&rt, rt.alloc(), GROUPED, &gate)?;
-    check_order(&rt, rt.alloc(), &gate, &outcome, &[])
+    groups_on_copies(&rt, rt.alloc(), GROUPED, &[])
 }
 
 #[test]
 fn attached_order_on_copies(rt: HostRuntime) -> Result<(), Fail> {
-    let gate = queue_gate();
-    let outcome = run_text_on_copies(&rt, rt.alloc(), ATTACHED, &gate)?;
-    check_order(&rt, rt.alloc(), &gate, &outcome, &[(1, 1)])
+    groups_on_copies(&rt, rt.alloc(), ATTACHED, &[(1, 1)])
 }
 
 /// Lets each of two workers hold the lock until the other one holds it too.
@@ -214,38 +241,41 @@ impl Gate for ReadersGate {
 fn readers_hold_at_once(rt: HostRuntime) -> Result<(), Fail> {
     let gate = readers_gate();
     let outcome = run_text(&rt, rt.alloc(), TWO_READERS, &gate)?;
-    assert_eq!(&rt; gate.gave_up.load(Ordering::SeqCst), 0);
-    assert_eq!(&rt; outcome.history.len(), 2);
-    assert_eq!(&rt; outcome.dir.count(0), DirReply::Number(0));
+    nobody_gave_up(&rt, &gate.gave_up);
+    same(&rt, &outcome.history.len(), &2);
+    same(&rt, &outcome.dir.count(0), &DirReply::Number(0));
     Ok(())
 }
 
+/// Whether most calls of the text are writes.
+fn writes_prevail(rt: &impl Abort, alloc: Global, text: &[u8], due: bool) {
+    let trace = read_trace(alloc, text).ok().expect(rt, "a trace");
+    same(rt, &do_writes_prevail(&trace), &due);
+}
+
 #[test]
-fn writes_of_four_workers_prevail(rt: HostRuntime) -> Result<(), Fail> {
-    let alloc = rt.alloc();
-    let four = read_trace(alloc, FOUR_WORKERS)?;
-    assert_eq!(&rt; do_writes_prevail(&four), true);
-    let readers = read_trace(alloc, TWO_READERS)?;
-    assert_eq!(&rt; do_writes_prevail(&readers), false);
-    Ok(())
+fn writes_of_four_workers_prevail(rt: HostRuntime) {
+    writes_prevail(&rt, rt.alloc(), FOUR_WORKERS, true);
+    writes_prevail(&rt, rt.alloc(), TWO_READERS, false);
+}
+
+/// The history is that of the four workers, with what was published, and so many names are left.
+pub(crate) fn is_of_four(rt: &impl Abort, outcome: &Outcome) {
+    same(rt, &outcome.history.len(), &12);
+    same(rt, &outcome.versions.rows(), &[(1, 1), (2, 0)].as_slice());
+    same(rt, &outcome.dir.count(5), &DirReply::Number(1));
+    same(rt, &outcome.dir.count(6), &DirReply::Number(0));
 }
 
 #[test]
 fn four_workers_have_copies(rt: HostRuntime) -> Result<(), Fail> {
     let outcome = run_text_on_copies(&rt, rt.alloc(), FOUR_WORKERS, &OpenGate)?;
-    assert_eq!(&rt; outcome.history.len(), 12);
-    assert_eq!(&rt; outcome.versions.rows(), [(1, 1), (2, 0)].as_slice());
-    assert_eq!(&rt; outcome.dir.count(5), DirReply::Number(1));
-    assert_eq!(&rt; outcome.dir.count(6), DirReply::Number(0));
+    is_of_four(&rt, &outcome);
     Ok(())
 }
 
 #[test]
 fn four_workers_share_a_directory(rt: HostRuntime) -> Result<(), Fail> {
-    let outcome = run_text(&rt, rt.alloc(), FOUR_WORKERS, &OpenGate)?;
-    assert_eq!(&rt; outcome.history.len(), 12);
-    assert_eq!(&rt; outcome.versions.rows(), [(1, 1), (2, 0)].as_slice());
-    assert_eq!(&rt; outcome.dir.count(5), DirReply::Number(1));
-    assert_eq!(&rt; outcome.dir.count(6), DirReply::Number(0));
+    is_of_four(&rt, &run_text(&rt, rt.alloc(), FOUR_WORKERS, &OpenGate)?);
     Ok(())
 }
