@@ -2,6 +2,7 @@
 ghost use Rattle.std.specs.Prelude.{◌≡◌, length, vec_len, IfOk};
 ghost use Rattle.policy_versions.specs.Models.{IsClosed};
 
+use crate::checks::same;
 use bpf_isa::Profile;
 use policy_versions::{Publisher, Registry, VersionPass};
 use shfl_line::{Attr, Chooser};
@@ -52,16 +53,16 @@ fn follow<R: Abort + Wait>(
     let here = Attr::unpack(1);
     let there = Attr::unpack(2);
     let mut chooser = UsingChooser::new(registry, pass, true);
-    assert_eq!(rt; chooser.should(&here, &here, 1), false);
+    same(rt, &chooser.should(&here, &here, 1), &false);
     chooser.begin(rt);
     let instance = registry.instance(alloc, 1).expect(rt, "memory");
-    assert_eq!(rt; publisher.publish(rt, registry, instance), 1);
-    assert_eq!(rt; chooser.should(&here, &here, 1), false);
+    same(rt, &publisher.publish(rt, registry, instance), &1);
+    same(rt, &chooser.should(&here, &here, 1), &false);
     chooser.end();
     chooser.begin(rt);
-    assert_eq!(rt; chooser.should(&here, &here, 1), true);
-    assert_eq!(rt; chooser.should(&here, &there, 1), false);
-    assert_eq!(rt; chooser.skip(&here, 1), false);
+    same(rt, &chooser.should(&here, &here, 1), &true);
+    same(rt, &chooser.should(&here, &there, 1), &false);
+    same(rt, &chooser.skip(&here, 1), &false);
     let _pass = chooser.done();
 }
 
@@ -74,7 +75,7 @@ fn a_round_is_answered_by_one_version(rt: HostRuntime) -> Result<(), Fail> {
     };
     follow(&rt, alloc, &registry, &mut publisher, &mut pass);
     let held = pass.enter(&rt, &registry);
-    assert_eq!(rt; held.version(), 1);
+    same(&rt, &held.version(), &1);
     pass.leave(&registry, held);
     Ok(())
 }

@@ -1,9 +1,14 @@
+//! Schedules and their reports.
+ghost use Rattle.std.specs.Prelude.{◌<◌};
+
 mod documents;
 
+use crate::checks::{holds, same};
+use crate::outcomes::{CutOutcome, Outcome, bytes_of, failing_sink, failing_source, sink, source};
 use documents::WORKED;
 use std::alloc::Global;
-use std::test::Fail;
-use syn_outer::{MemSink, MemSource, SureSink, SureSource};
+use std::process::Abort;
+use syn_outer::SureSource;
 use syncord_line::*;
 
 /// One caller takes the free lock and gives it back: 96 bytes.
@@ -14,254 +19,251 @@ const FAST_PATH: &str =
 const FAST_PATH_REPORT: &str =
     "shfl-line 1 form spin limit 1024 passes 1\n1 write 0 yes word 0 hold - line - hand - role -\n2 step 0 yes word 1 hold w0 line - hand - role -\n3 free 0 yes word 1 hold w0 line - hand - role -\n4 step 0 yes word 0 hold - line - hand - role -\nend yes 4 no 0\n";
 
-/// The status and what both sinks took.
-#[derive(Drop)]
-struct Outcome {
-    status: u8,
-    out: SureSink,
-    err: SureSink,
+/// What becomes of the document, with so much room for its report.
+fn ran_in(rt: &impl Abort, alloc: Global, document: Vec<u8>, room: usize) -> Outcome {
+    let mut src = SureSource::new(document);
+    let mut out = sink(rt, alloc, room);
+    let mut err = sink(rt, alloc, 100);
+    let status = run_line(alloc, &mut src, &mut out, &mut err);
+    Outcome { status, out, err }
 }
 
-fn ran(alloc: Global, document: &[u8]) -> Result<Outcome, Fail> {
-    let mut src = SureSource::new(Vec::from_slice(alloc, document)?);
-    let mut out = SureSink::open(alloc, 8192).ok().ok_or("memory")?;
-    let mut err = SureSink::open(alloc, 100).ok().ok_or("memory")?;
-    let status = run_line(alloc, &mut src, &mut out, &mut err);
-    Ok(Outcome { status, out, err })
+fn ran(rt: &impl Abort, alloc: Global, document: &[u8]) -> Outcome {
+    ran_in(rt, alloc, bytes_of(rt, alloc, document), 8192)
 }
 
 /// The status where the error stream fails at its first call, and whether nothing was written to either stream.
-fn untold(alloc: Global, document: &[u8]) -> Result<(u8, bool), Fail> {
-    let mut src = SureSource::new(Vec::from_slice(alloc, document)?);
-    let mut out = SureSink::open(alloc, 300).ok().ok_or("memory")?;
-    let mut err = MemSink::open(alloc, 100, 100, vec![in alloc; 1u32]?)
-        .ok()
-        .ok_or("memory")?;
+fn untold(rt: &impl Abort, alloc: Global, document: &[u8]) -> (u8, bool) {
+    let mut src = source(rt, alloc, document);
+    let mut out = sink(rt, alloc, 300);
+    let mut err = failing_sink(rt, alloc, 100, 100, 1);
     let status = run_line(alloc, &mut src, &mut out, &mut err);
-    Ok((status, out.bytes().is_empty() && err.bytes().is_empty()))
+    (status, out.bytes().is_empty() && err.bytes().is_empty())
 }
 
 #[test]
-fn worked_schedules_are_reported(rt: HostRuntime) -> Result<(), Fail> {
-    for (document, report) in [(FAST_PATH, FAST_PATH_REPORT)].into_iter().chain(WORKED) {
-        let end = ran(rt.alloc(), document.as_bytes())?;
-        assert_eq!(rt; end.status, 0);
-        assert_eq!(rt; end.out.bytes(), report.as_bytes());
-        assert_eq!(rt; end.err.bytes(), b"".as_slice());
+fn worked_schedules_are_reported(rt: HostRuntime) {
+    let alloc = rt.alloc();
+    ran(&rt, alloc, FAST_PATH.as_bytes()).reports(&rt, FAST_PATH_REPORT);
+    for (document, report) in WORKED {
+        ran(&rt, alloc, document.as_bytes()).reports(&rt, report);
     }
-    Ok(())
 }
 
-/// The error line of the first `length` bytes of the fast path, or an empty text where they are a schedule.
-fn due(alloc: Global, length: usize) -> Result<String, Fail> {
-    // where a line ends, the number of the next one, and the fault of a document that ends here
-    let ends = [
-        (0usize, 1u32, 2u8),
-        (12, 2, 3),
-        (22, 3, 4),
-        (33, 4, 5),
-        (47, 5, 7),
-        (60, 6, 7),
-        (67, 7, 0),
-        (75, 8, 0),
-        (82, 9, 0),
-        (89, 10, 0),
-        (96, 11, 0),
-    ];
-    let mut line = 1u32;
-    let mut what = 1u8;
-    for (end, next, fault) in ends {
-        if length >= end {
-            line = next;
-            what = if length == end { fault } else { 1 };
+/// Where a line of the fast path ends, the number of the next one, and the fault of a document that ends here.
+const ENDS: [(usize, u32, u8); 11] = [
+    (0, 1, 2),
+    (12, 2, 3),
+    (22, 3, 4),
+    (33, 4, 5),
+    (47, 5, 7),
+    (60, 6, 7),
+    (67, 7, 0),
+    (75, 8, 0),
+    (82, 9, 0),
+    (89, 10, 0),
+    (96, 11, 0),
+];
+
+/// The line and the fault of the first `length` bytes of the fast path. The fault is 0 where they are a schedule.
+fn due(length: usize) -> (u32, u8) {
+    let mut found = (1, 1);
+    for (end, next, fault) in ENDS {
+        if length == end {
+            found = (next, fault);
+        } else if length > end {
+            found = (next, 1);
         }
     }
-    if what == 0 {
-        return Ok(String::new(alloc));
+    found
+}
+
+/// The line that a fault has on the error stream.
+fn told(rt: &impl Abort, alloc: Global, line: u32, what: u8) -> String {
+    format!(in alloc; "syncord: line {line}: fault {what}\n").expect(rt, "memory")
+}
+
+/// The document has this status and this line on the error stream, or the status alone where that stream fails.
+fn ends(rt: &impl Abort, alloc: Global, document: &[u8], status: u8, message: &str) {
+    let end = ran(rt, alloc, document);
+    same(rt, &end.status, &status);
+    same(rt, &end.err.bytes(), &message.as_bytes());
+    same(rt, &untold(rt, alloc, document), &(status, status == 1));
+}
+
+/// So many bytes of the fast path are named with their fault, or are a schedule.
+fn is_cut(rt: &impl Abort, alloc: Global, length: usize) {
+    let front = FAST_PATH.as_bytes().get(..length).expect(rt, "bytes");
+    match due(length) {
+        (_, 0) => ends(rt, alloc, front, 0, ""),
+        (line, what) => ends(rt, alloc, front, 1, told(rt, alloc, line, what).as_str()),
     }
-    Ok(format!(in alloc; "syncord: line {line}: fault {what}\n")?)
 }
 
 #[test]
-fn a_cut_schedule_is_named_with_its_line(rt: HostRuntime) -> Result<(), Fail> {
-    let alloc = rt.alloc();
+fn a_cut_schedule_is_named_with_its_line(rt: HostRuntime) {
     for length in 0usize..=96 {
-        let document = FAST_PATH.as_bytes();
-        let front = document.get(..length).ok_or("bytes")?;
-        let message = due(alloc, length)?;
-        let status = if message.is_empty() { 0u8 } else { 1 };
-        let end = ran(alloc, front)?;
-        assert_eq!(rt; end.status, status);
-        assert_eq!(rt; end.err.bytes(), message.as_bytes());
-        assert_eq!(rt; untold(alloc, front)?, (status, status == 1));
+        is_cut(&rt, rt.alloc(), length);
     }
-    Ok(())
+}
+
+/// Other documents, and the line and the fault of each.
+const BAD_DOCUMENTS: [(&str, u32, u8); 12] = [
+    ("shfl-line 3\n", 1, 2),
+    ("shfl-line 2\n", 2, 10),
+    ("shfl-line 2\nprofile 3\n", 2, 10),
+    ("shfl-line 1\nform fast\n", 2, 3),
+    ("shfl-line 1\nform rw\nlimit 1025\n", 3, 4),
+    ("shfl-line 1\nform rw\nlimit 0\n", 3, 4),
+    ("shfl-line 1\nform rw\nlimit 1\npolicy program - 9\n", 4, 5),
+    ("shfl-line 1\nform rw\nlimit 1\npolicy program - 95\n", 4, 6),
+    (
+        "shfl-line 2\nprofile 2\nform rw\nlimit 1\npolicy always\nevents\n",
+        6,
+        7,
+    ),
+    (
+        "shfl-line 1\nform park\nlimit 1\npolicy never\npass 0 0 0 0\nevents\nread 0\n",
+        7,
+        8,
+    ),
+    (
+        "shfl-line 1\nform rw\nlimit 1\npolicy never\npass 0 0 0 0\nevents\nread 1\n",
+        7,
+        8,
+    ),
+    (
+        "shfl-line 1\nform rw\nlimit 1\npolicy never\npass 0 0 0 0\nevents\nread\t0\n",
+        7,
+        1,
+    ),
+];
+
+/// The document has no report, and this fault.
+fn is_named(rt: &impl Abort, alloc: Global, document: &str, line: u32, what: u8) {
+    let message = told(rt, alloc, line, what);
+    ran(rt, alloc, document.as_bytes()).refuses(rt, 1, message.as_str());
+    same(rt, &untold(rt, alloc, document.as_bytes()), &(1, true));
 }
 
 #[test]
-fn other_bytes_are_named_with_the_lowest_fault(rt: HostRuntime) -> Result<(), Fail> {
-    let cases = [
-        ("shfl-line 3\n", "1: fault 2"),
-        ("shfl-line 2\n", "2: fault 10"),
-        ("shfl-line 2\nprofile 3\n", "2: fault 10"),
-        ("shfl-line 1\nform fast\n", "2: fault 3"),
-        ("shfl-line 1\nform rw\nlimit 1025\n", "3: fault 4"),
-        ("shfl-line 1\nform rw\nlimit 0\n", "3: fault 4"),
-        (
-            "shfl-line 1\nform rw\nlimit 1\npolicy program - 9\n",
-            "4: fault 5",
-        ),
-        (
-            "shfl-line 1\nform rw\nlimit 1\npolicy program - 95\n",
-            "4: fault 6",
-        ),
-        (
-            "shfl-line 2\nprofile 2\nform rw\nlimit 1\npolicy always\nevents\n",
-            "6: fault 7",
-        ),
-        (
-            "shfl-line 1\nform park\nlimit 1\npolicy never\npass 0 0 0 0\nevents\nread 0\n",
-            "7: fault 8",
-        ),
-        (
-            "shfl-line 1\nform rw\nlimit 1\npolicy never\npass 0 0 0 0\nevents\nread 1\n",
-            "7: fault 8",
-        ),
-        (
-            "shfl-line 1\nform rw\nlimit 1\npolicy never\npass 0 0 0 0\nevents\nread\t0\n",
-            "7: fault 1",
-        ),
-    ];
-    for (document, fault) in cases {
-        let end = ran(rt.alloc(), document.as_bytes())?;
-        let message = format!(in rt.alloc(); "syncord: line {fault}\n")?;
-        assert_eq!(rt; end.status, 1);
-        assert_eq!(rt; end.out.bytes(), b"".as_slice());
-        assert_eq!(rt; end.err.bytes(), message.as_bytes());
-        assert_eq!(rt; untold(rt.alloc(), document.as_bytes())?, (1, true));
+fn other_bytes_are_named_with_the_lowest_fault(rt: HostRuntime) {
+    for (document, line, what) in BAD_DOCUMENTS {
+        is_named(&rt, rt.alloc(), document, line, what);
     }
-    Ok(())
+}
+
+/// The fast path from a source that gives a byte at a time, and fails at one call.
+fn unread(rt: &impl Abort, alloc: Global, call: u32) -> Outcome {
+    let mut src = failing_source(rt, alloc, FAST_PATH.as_bytes(), 1, call);
+    let mut out = sink(rt, alloc, 300);
+    let mut err = sink(rt, alloc, 100);
+    let status = run_line(alloc, &mut src, &mut out, &mut err);
+    Outcome { status, out, err }
 }
 
 #[test]
-fn a_source_fails_at_each_call(rt: HostRuntime) -> Result<(), Fail> {
+fn a_source_fails_at_each_call(rt: HostRuntime) {
     let alloc = rt.alloc();
     // 96 bytes one at a time, and one call that finds the end
-    for call in 1u32..=98 {
-        let bytes = Vec::from_slice(alloc, FAST_PATH.as_bytes())?;
-        let mut src = MemSource::new(bytes, 1, vec![in alloc; call]?);
-        let mut out = SureSink::open(alloc, 300).ok().ok_or("memory")?;
-        let mut err = SureSink::open(alloc, 100).ok().ok_or("memory")?;
-        let status = run_line(alloc, &mut src, &mut out, &mut err);
-        if call <= 97 {
-            assert_eq!(rt; status, 3);
-            assert_eq!(rt; out.bytes(), b"".as_slice());
-            assert_eq!(rt; err.bytes(), b"syncord: read fault\n".as_slice());
-        } else {
-            assert_eq!(rt; status, 0);
-            assert_eq!(rt; out.bytes(), FAST_PATH_REPORT.as_bytes());
-        }
+    for call in 1u32..=97 {
+        unread(&rt, alloc, call).refuses(&rt, 3, "syncord: read fault\n");
     }
-    Ok(())
+    unread(&rt, alloc, 98).reports(&rt, FAST_PATH_REPORT);
+}
+
+/// The document to a sink that takes so many bytes at a time, and fails at one call.
+fn unwritten(rt: &impl Abort, alloc: Global, document: &[u8], piece: usize, call: u32) -> CutOutcome
+    requires { 0 < piece }
+{
+    let mut src = source(rt, alloc, document);
+    let mut out = failing_sink(rt, alloc, 60_000, piece, call);
+    let mut err = sink(rt, alloc, 100);
+    let status = run_line(alloc, &mut src, &mut out, &mut err);
+    CutOutcome { status, out, err }
+}
+
+/// So much of the report was written before the sink failed.
+fn is_cut_off(rt: &impl Abort, alloc: Global, end: &CutOutcome, report: &[u8], written: usize) {
+    let front = report.get(..written).expect(rt, "bytes");
+    let message = format!(in alloc; "syncord: write fault after {written} bytes\n").expect(
+        rt, "memory",
+    );
+    end.is(rt, 4, front, message.as_bytes());
 }
 
 #[test]
-fn a_sink_fails_at_each_call(rt: HostRuntime) -> Result<(), Fail> {
+fn a_sink_fails_at_each_call(rt: HostRuntime) {
     let alloc = rt.alloc();
     let report = FAST_PATH_REPORT.as_bytes();
-    for call in 1u32..=17 {
-        let mut src = SureSource::new(Vec::from_slice(alloc, FAST_PATH.as_bytes())?);
-        let mut out = MemSink::open(alloc, 300, 16, vec![in alloc; call]?)
-            .ok()
-            .ok_or("memory")?;
-        let mut err = SureSink::open(alloc, 100).ok().ok_or("memory")?;
-        let status = run_line(alloc, &mut src, &mut out, &mut err);
-        if call <= 16 {
-            let written = 16 * (call as usize - 1);
-            let message = format!(in alloc; "syncord: write fault after {written} bytes\n")?;
-            assert_eq!(rt; status, 4);
-            assert_eq!(rt; Some(out.bytes()), report.get(..written));
-            assert_eq!(rt; err.bytes(), message.as_bytes());
-        } else {
-            assert_eq!(rt; status, 0);
-            assert_eq!(rt; out.bytes(), report);
-        }
+    for call in 0u32..16 {
+        let end = unwritten(&rt, alloc, FAST_PATH.as_bytes(), 16, call + 1);
+        is_cut_off(&rt, alloc, &end, report, 16 * call as usize);
     }
-    Ok(())
+    let whole = unwritten(&rt, alloc, FAST_PATH.as_bytes(), 16, 17);
+    whole.is(&rt, 0, report, b"");
+}
+
+/// The heading of the fast path, and so many events.
+fn long_document(rt: &impl Abort, alloc: Global, count: u32) -> Vec<u8> {
+    let heading = FAST_PATH.as_bytes().get(..67).expect(rt, "bytes");
+    let mut document = bytes_of(rt, alloc, heading);
+    for _ in 0..count {
+        document.extend_from_slice(b"free 0\n").expect(rt, "memory");
+    }
+    document
+}
+
+/// The document's report fails at one piece. How much was written before?
+fn fails_at(rt: &impl Abort, alloc: Global, document: &[u8], report: &[u8], call: u32) -> usize {
+    let end = unwritten(rt, alloc, document, 60_000, call);
+    let written = end.out.bytes().len();
+    is_cut_off(rt, alloc, &end, report, written);
+    written
 }
 
 #[test]
-fn a_sink_fails_at_each_piece_of_a_long_report(rt: HostRuntime) -> Result<(), Fail> {
+fn a_sink_fails_at_each_piece_of_a_long_report(rt: HostRuntime) {
     let alloc = rt.alloc();
-    let mut bytes = Vec::from_slice(alloc, FAST_PATH.as_bytes().get(..67).ok_or("bytes")?)?;
-    for _ in 0..1000 {
-        bytes.extend_from_slice(b"free 0\n")?;
-    }
-    let mut src = SureSource::new(Vec::from_slice(alloc, &bytes)?);
-    let mut whole = SureSink::open(alloc, 60_000).ok().ok_or("memory")?;
-    let mut err = SureSink::open(alloc, 100).ok().ok_or("memory")?;
-    assert_eq!(rt; run_line(alloc, &mut src, &mut whole, &mut err), 0);
-    assert!(rt; whole.bytes().len() > 40_000);
+    let document = long_document(&rt, alloc, 1000);
+    let whole = ran_in(&rt, alloc, bytes_of(&rt, alloc, &document), 60_000);
+    let report = whole.out.bytes();
+    same(&rt, &whole.status, &0);
+    holds(&rt, report.len() > 40_000);
     // two pieces, the first of them as long as a piece may get
-    for call in 1u32..=3 {
-        let mut src = SureSource::new(Vec::from_slice(alloc, &bytes)?);
-        let mut out = MemSink::open(alloc, 60_000, 60_000, vec![in alloc; call]?)
-            .ok()
-            .ok_or("memory")?;
-        let mut err = SureSink::open(alloc, 100).ok().ok_or("memory")?;
-        let status = run_line(alloc, &mut src, &mut out, &mut err);
-        let written = out.bytes().len();
-        assert_eq!(rt; status, if call <= 2 { 4 } else { 0 });
-        assert_eq!(rt; Some(out.bytes()), whole.bytes().get(..written));
-        if call <= 2 {
-            let message = format!(in alloc; "syncord: write fault after {written} bytes\n")?;
-            assert_eq!(rt; err.bytes(), message.as_bytes());
-            assert_eq!(rt; written >= 32_768, call == 2);
-        } else {
-            assert_eq!(rt; written, whole.bytes().len());
-        }
-    }
-    Ok(())
+    holds(&rt, fails_at(&rt, alloc, &document, report, 1) < 32_768);
+    holds(&rt, fails_at(&rt, alloc, &document, report, 2) >= 32_768);
+    unwritten(&rt, alloc, &document, 60_000, 3).is(&rt, 0, report, b"");
+}
+
+/// A schedule of so many events has this status and this line, and ends its report where it has one.
+fn has_room(rt: &impl Abort, alloc: Global, count: u32, status: u8, message: &str) {
+    let document = long_document(rt, alloc, count);
+    same(rt, &untold(rt, alloc, &document), &(status, status == 1));
+    let end = ran_in(rt, alloc, document, 5_000_000);
+    same(rt, &end.status, &status);
+    same(rt, &end.err.bytes(), &message.as_bytes());
+    let is_ended = end.out.bytes().ends_with(b"end yes 0 no 65536\n");
+    same(rt, &is_ended, &(status == 0));
 }
 
 #[test]
-fn as_many_events_as_a_schedule_may_have_are_reported(rt: HostRuntime) -> Result<(), Fail> {
+fn as_many_events_as_a_schedule_may_have_are_reported(rt: HostRuntime) {
     let alloc = rt.alloc();
-    let heading = FAST_PATH.as_bytes().get(..67).ok_or("bytes")?;
-    let cases = [
-        (65_536u32, 0u8, b"".as_slice()),
-        (65_537, 1, b"syncord: line 65543: fault 9\n".as_slice()),
-    ];
-    for (count, status, message) in cases {
-        let mut bytes = Vec::from_slice(alloc, heading)?;
-        for _ in 0..count {
-            bytes.extend_from_slice(b"free 0\n")?;
-        }
-        assert_eq!(rt; untold(alloc, &bytes)?, (status, status == 1));
-        let mut src = SureSource::new(bytes);
-        let mut out = SureSink::open(alloc, 5_000_000).ok().ok_or("memory")?;
-        let mut err = SureSink::open(alloc, 100).ok().ok_or("memory")?;
-        assert_eq!(rt; run_line(alloc, &mut src, &mut out, &mut err), status);
-        assert_eq!(rt; err.bytes(), message);
-        assert_eq!(rt; out.bytes().ends_with(b"end yes 0 no 65536\n"), status == 0);
-    }
-    Ok(())
+    has_room(&rt, alloc, 65_536, 0, "");
+    has_room(&rt, alloc, 65_537, 1, "syncord: line 65543: fault 9\n");
+}
+
+/// So many bytes, each of them a tabulator.
+fn tabulators(rt: &impl Abort, alloc: Global, length: usize) -> Vec<u8> {
+    Vec::from_elem(alloc, 9u8, length).expect(rt, "memory")
 }
 
 #[test]
-fn one_byte_over_the_limit_is_too_large(rt: HostRuntime) -> Result<(), Fail> {
+fn one_byte_over_the_limit_is_too_large(rt: HostRuntime) {
     let alloc = rt.alloc();
-    let cases = [
-        (16_777_217usize, b"syncord: input too large\n".as_slice()),
-        (16_777_216, b"syncord: line 1: fault 1\n".as_slice()),
-    ];
-    for (length, message) in cases {
-        let mut src = SureSource::new(vec![in alloc; 9u8; length]?);
-        let mut out = SureSink::open(alloc, 100).ok().ok_or("memory")?;
-        let mut err = SureSink::open(alloc, 100).ok().ok_or("memory")?;
-        assert_eq!(rt; run_line(alloc, &mut src, &mut out, &mut err), 1);
-        assert_eq!(rt; err.bytes(), message);
-        assert_eq!(rt; out.bytes(), b"".as_slice());
-    }
-    Ok(())
+    let larger = tabulators(&rt, alloc, 16_777_217);
+    ran_in(&rt, alloc, larger, 100).refuses(&rt, 1, "syncord: input too large\n");
+    let largest = tabulators(&rt, alloc, 16_777_216);
+    ran_in(&rt, alloc, largest, 100).refuses(&rt, 1, "syncord: line 1: fault 1\n");
 }
