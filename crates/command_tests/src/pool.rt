@@ -5,13 +5,20 @@ ghost use Rattle.syncord_pool.specs.Runs.{MayRun, IsRunOf};
 use std::alloc::Global;
 use std::test::Fail;
 use syn_outer::{SureSink, SureSource};
-use syncord_pool::{PoolRun, run_pool};
+use syncord_pool::{PoolManner, PoolRun, run_pool};
 use trace_text::{NoMemory, Trace};
+
+// By nobody.
+struct Unpooled;
+
+impl PoolManner for Unpooled {
+    ghost ran = { λ t history. Unit {0} };
+}
 
 // Lacks memory for every trace.
 fn gives_up(_alloc: Global, trace: &Trace) -> Result<PoolRun, NoMemory>
     requires { MayRun trace.now }
-    ensures { IfOk result (IsRunOf trace.now) }
+    ensures { IfOk result (IsRunOf (λ t history. Unit {0}) trace.now) }
 {
     let _ = trace;
     Err(NoMemory)
@@ -40,7 +47,9 @@ fn bad_lines_are_told(rt: HostRuntime) -> Result<(), Fail> {
         let mut src = SureSource::new(Vec::from_slice(alloc, input.as_bytes())?);
         let mut out = SureSink::open(alloc, 100).ok().ok_or("memory")?;
         let mut err = SureSink::open(alloc, 100).ok().ok_or("memory")?;
-        let answer = run_pool(&gives_up, alloc, &mut src, &mut out, &mut err);
+        let answer = run_pool::<Unpooled, _, _, _, _>(
+            &gives_up, alloc, &mut src, &mut out, &mut err,
+        );
         assert_eq!(&rt; answer, status);
         assert_eq!(&rt; out.bytes(), b"".as_slice());
         assert_eq!(&rt; err.bytes(), message.as_bytes());

@@ -1,4 +1,4 @@
-use crate::serial::run_serially;
+use crate::serial::{Serially, run_serially};
 use std::alloc::Global;
 use std::test::Fail;
 use syn_outer::{MemSink, SureSink, SureSource};
@@ -20,7 +20,7 @@ fn sink(alloc: Global) -> Result<SureSink, Fail> {
 
 fn replayed(alloc: Global, bytes: Vec<u8>, out: &mut SureSink, err: &mut SureSink) -> u8 {
     let mut src = SureSource::new(bytes);
-    run_replay(&run_serially, alloc, &mut src, out, err)
+    run_replay::<Serially, _, _, _, _>(&run_serially, alloc, &mut src, out, err)
 }
 
 #[test]
@@ -62,7 +62,7 @@ fn a_seed_is_summed_up(rt: HostRuntime) -> Result<(), Fail> {
     let alloc = rt.alloc();
     let (mut out, mut err) = (sink(alloc)?, sink(alloc)?);
     assert_eq!(rt;
-        run_bulk(&run_serially, alloc, 1, 1, 3, &mut out, &mut err),
+        run_bulk::<Serially, _, _, _>(&run_serially, alloc, 1, 1, 3, &mut out, &mut err),
         0
     );
     let expected =
@@ -70,7 +70,7 @@ fn a_seed_is_summed_up(rt: HostRuntime) -> Result<(), Fail> {
     assert_eq!(rt; out.bytes(), expected.as_slice());
     let mut out = sink(alloc)?;
     assert_eq!(rt;
-        run_bulk(&run_serially, alloc, 0, 1, 0, &mut out, &mut err),
+        run_bulk::<Serially, _, _, _>(&run_serially, alloc, 0, 1, 0, &mut out, &mut err),
         0
     );
     let expected =
@@ -86,7 +86,7 @@ fn a_sink_that_fails_is_told(rt: HostRuntime) -> Result<(), Fail> {
     let mut out = MemSink::open(alloc, 100, 16, fails).ok().ok_or("memory")?;
     let mut err = sink(alloc)?;
     assert_eq!(rt;
-        run_bulk(&run_serially, alloc, 1, 1, 3, &mut out, &mut err),
+        run_bulk::<Serially, _, _, _>(&run_serially, alloc, 1, 1, 3, &mut out, &mut err),
         4
     );
     assert_eq!(rt; out.bytes(), b"bulk seed 1 work".as_slice());

@@ -15,7 +15,7 @@ use hist_log::{Entry, Object};
 use policy_versions::{Published, Registry};
 use shfl_policy::{PolicySource, load};
 use std::alloc::Global;
-use syncord_replay::Run;
+use syncord_replay::{Manner, Run};
 use trace_text::{NoMemory, Trace, TraceAct, TraceCall};
 
 // Does a call on the directory, and appends what it was answered. An attachment is none.
@@ -105,10 +105,17 @@ fn nothing_published(alloc: Global) -> Result<Published, NoMemory>
     Ok(published)
 }
 
+/// By no lock.
+pub struct Serially;
+
+impl Manner for Serially {
+    ghost ran = { λ t history. Unit {0} };
+}
+
 /// Runs a trace that attaches nothing, and gives up on each other one.
 pub fn run_serially(alloc: Global, trace: &Trace) -> Result<Run, NoMemory>
     requires { IsRunnable trace.now }
-    ensures { IfOk result (IsRunOf trace.now) }
+    ensures { IfOk result (IsRunOf (λ t history. Unit {0}) trace.now) }
 {
     let calls = trace.calls.as_slice();
     if attaches(calls) {

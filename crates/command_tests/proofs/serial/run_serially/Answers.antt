@@ -20,5 +20,6 @@ returns c =
     let start : state_numbers c.in_ok-dir.dir ≡ state_numbers (beginning t) = ap state_numbers c.in_ok-dir.ensures in
     record {
       history = rw c.dir.view_is (is_history t (map done_of c.in_ok-history.history.items) _ (rw (start, c.as_slice-calls.ensures.value) at c.in_ok-history.ensures));
+      ran = tt;
       versions = search rules;
     }
