@@ -5,7 +5,9 @@
  *   crowd LOCK THREADS HOLD THINK MS    threads that take one lock again and again: holds a second, Jain's index of the threads' holds, the longest
  *                                       wait in milliseconds, and the processors used. HOLD and THINK are nanoseconds, by turns of a loop that is
  *                                       timed first
- * LOCK is shfl, shfl-read, mutex or rwlock-read. Status 1: two were in the section that may not be. */
+ *   cond LOCK PAIRS MS                  so many producers and as many consumers of a queue of 16 places, over the lock and two condition variables: items a
+ *                                       second, and the processors used. LOCK is shfl or mutex
+ * LOCK is shfl, shfl-read, mutex or rwlock-read. Status 1: two were in the section that may not be, or an item was lost. */
 #define _GNU_SOURCE
 #include <libshfl.h>
 #include <pthread.h>
@@ -109,6 +111,12 @@ static _Alignas(LINE) int going;
 static _Alignas(LINE) volatile uint64_t begun, ended;
 static bool torn;
 
+static double processor_of_thread(void) {
+    struct rusage used;
+    getrusage(RUSAGE_THREAD, &used);
+    return (double)(used.ru_utime.tv_sec + used.ru_stime.tv_sec) + (double)(used.ru_utime.tv_usec + used.ru_stime.tv_usec) * 1e-6;
+}
+
 static void *work(void *at) {
     struct worker *own = at;
     while (__atomic_load_n(&going, __ATOMIC_ACQUIRE) == 0) {}
@@ -127,9 +135,7 @@ static void *work(void *at) {
         if (waited > own->longest) own->longest = waited;
         turns(think);
     }
-    struct rusage used;
-    getrusage(RUSAGE_THREAD, &used);
-    own->processor = (double)(used.ru_utime.tv_sec + used.ru_stime.tv_sec) + (double)(used.ru_utime.tv_usec + used.ru_stime.tv_usec) * 1e-6;
+    own->processor = processor_of_thread();
     return NULL;
 }
 
@@ -165,11 +171,77 @@ static int crowd(int count, uint64_t ms) {
     return torn;
 }
 
+enum { PLACES = 16 };
+static _Alignas(LINE) shfl_cond_t our_conds[2];
+static _Alignas(LINE) pthread_cond_t conds[2] = {PTHREAD_COND_INITIALIZER, PTHREAD_COND_INITIALIZER};
+static _Alignas(LINE) int queued;
+
+static void await(int which) {
+    if (crowded == SHFL) shfl_cond_wait(&our_conds[which], &ours);
+    else pthread_cond_wait(&conds[which], &mutex);
+}
+
+static void call(int which, bool all) {
+    if (crowded == SHFL) all ? shfl_cond_broadcast(&our_conds[which]) : shfl_cond_signal(&our_conds[which]);
+    else all ? pthread_cond_broadcast(&conds[which]) : pthread_cond_signal(&conds[which]);
+}
+
+/* Producers (0) wait for places, consumers (1) for items. */
+static void hand_over(struct worker *own, int which) {
+    bool goes_on = true;
+    while (__atomic_load_n(&going, __ATOMIC_ACQUIRE) == 0) {}
+    while (goes_on) {
+        take(crowded);
+        while (queued == (which ? 0 : PLACES) && __atomic_load_n(&going, __ATOMIC_RELAXED) == 1) await(which);
+        goes_on = __atomic_load_n(&going, __ATOMIC_RELAXED) == 1;
+        if (goes_on) queued += which ? -1 : 1, own->holds++, call(!which, false);
+        give(crowded);
+    }
+    own->processor = processor_of_thread();
+}
+
+static void *produces(void *at) { return hand_over(at, 0), NULL; }
+static void *consumes(void *at) { return hand_over(at, 1), NULL; }
+
+static int cond(int pairs_of, uint64_t ms) {
+    uint64_t handed[2] = {0, 0};
+    double processor = 0;
+    for (int k = 0; k < 2 * pairs_of; k++)
+        if (pthread_create(&workers[k].thread, NULL, k % 2 ? consumes : produces, &workers[k])) return 2;
+    uint64_t began = now();
+    __atomic_store_n(&going, 1, __ATOMIC_RELEASE);
+    nanosleep(&(struct timespec){(time_t)(ms / 1000), (long)(ms % 1000 * 1000000)}, NULL);
+    take(crowded);
+    __atomic_store_n(&going, 2, __ATOMIC_RELEASE);
+    double took = (double)(now() - began) * 1e-9;
+    call(0, true), call(1, true);
+    give(crowded);
+    for (int k = 0; k < 2 * pairs_of; k++) {
+        pthread_join(workers[k].thread, NULL);
+        handed[k % 2] += workers[k].holds;
+        processor += workers[k].processor;
+    }
+    printf("%.0f %.2f\n", (double)handed[1] / took, processor / took);
+    return handed[0] != handed[1] + (uint64_t)queued;
+}
+
+static enum kind kind_of(const char *name) {
+    enum kind kind = 0;
+    while (kind < KINDS && strcmp(names[kind], name) != 0) kind++;
+    return kind;
+}
+
 int main(int n, char **word) {
+    if (n == 5 && strcmp(word[1], "cond") == 0) {
+        int pairs_of = atoi(word[3]);
+        crowded = kind_of(word[2]);
+        if ((crowded != SHFL && crowded != MUTEX) || pairs_of < 1 || pairs_of > MOST_THREADS / 2) return 2;
+        return cond(pairs_of, strtoull(word[4], NULL, 10));
+    }
     if (n == 2 && strcmp(word[1], "free") == 0) return alone();
     bool counts = n == 4 && strcmp(word[1], "pairs") == 0;
     if (!counts && (n != 7 || strcmp(word[1], "crowd") != 0)) return 2;
-    for (crowded = 0; crowded < KINDS && strcmp(names[crowded], word[2]) != 0; crowded++) {}
+    crowded = kind_of(word[2]);
     if (crowded == KINDS) return 2;
     if (counts) return beside_a_sleeper(pairs, strtoull(word[3], NULL, 10));
     int count = atoi(word[3]);

@@ -3,9 +3,9 @@
 # second by 4, 16 and 256 threads, holds of 0, 0.1, 1 and 10 microseconds and as long between two, with the longest wait, Jain's index and the
 # processors used. And a million locks drawn at random by one thread and by four, with what a lock takes of memory, the proved part alone too
 # (bench/many.c). The median and
-# the worst of the rounds. Words: libshfl.sh [ROUNDS [PART ..]]; a part is free, 4 (threads), 16, and these three where none is given; 256, many; park,
-# 256 threads in the form rw-park, 20 times as many rounds, of which each has half a minute, and how many didn't end or lost a count; or
-# instructions, how many valgrind counts in a free lock's lock and unlock, with the loop around them. 5 rounds where none are said. With
+# the worst of the rounds. Words: libshfl.sh [ROUNDS [PART ..]]; a part is free, 4 (threads), 16, and these three where none is given; 256, many; cond,
+# four producers and four consumers over condition variables; park, 256 threads in the form rw-park, 20 times as many rounds, of which each has half a minute,
+# and how many didn't end or lost a count; hang, the same of 64 threads in the usual form, briefer and 200 times as many rounds; or instructions, how many valgrind counts in a free lock's lock and unlock, with the loop around them. 5 rounds where none are said. With
 # LIBSHFL_PREFIX set what libshfl/install put there is timed; else it is built first.
 set -u
 top="$(cd "$(dirname "$(readlink -f "${BASH_SOURCE[0]}")")/.." && pwd)"
@@ -52,14 +52,29 @@ crowd() {
     done
 }
 
-park() {
-    local lock amiss=0 ours runs=$((20 * rounds))
-    for ((k = 0; k < runs; k++)); do
-        for lock in shfl mutex; do SHFL_FORM=rw-park timeout -k 1 30 "$room/libshfl" crowd "$lock" 256 100 100 200 >>"$room/park.$lock" || { [ "$lock" = mutex ] || amiss=$((amiss + 1)); }; done
+conds() {
+    local lock column ours
+    for ((k = 0; k < rounds; k++)); do
+        for lock in shfl mutex; do "$room/libshfl" cond "$lock" 4 300 >>"$room/cond.$lock" || echo "status $?" >&2; done
     done
-    for lock in shfl mutex; do awk '{ print $1 }' "$room/park.$lock" >"$room/park.$lock.1"; done
-    ours=($(told "$room/park.shfl.1" less) $(told "$room/park.mutex.1" less))
-    printf '%-26s %12s %12s %12s %12s %6s   %s\n' 'rw-park, 256 threads' shfl worst mutex worst ratio 'runs that hung or lost a count'
+    for lock in shfl mutex; do
+        for column in 1 2; do awk -v c="$column" '{ print $c }' "$room/cond.$lock" >"$room/cond.$lock.$column"; done
+    done
+    ours=($(told "$room/cond.shfl.1" less) $(told "$room/cond.mutex.1" less))
+    printf '%-26s %12s %12s %12s %12s %6s   %s\n' 'condition variables' shfl worst mutex worst ratio 'processors: shfl; mutex'
+    printf '%-26s %12s %12s %12s %12s %6s   %s; %s\n' '4 and 4 threads, items/s' "${ours[@]}" "$(awk -v a="${ours[0]}" -v b="${ours[2]}" 'BEGIN { printf "%.2f", a / b }')" \
+        $(for lock in shfl mutex; do told "$room/cond.$lock.2" more | cut -d ' ' -f 1; done)
+}
+
+# a form, so many threads, runs and milliseconds each
+hangs() {
+    local form="$1" threads="$2" runs="$3" ms="$4" lock amiss=0 ours
+    for ((k = 0; k < runs; k++)); do
+        for lock in shfl mutex; do SHFL_FORM="$form" timeout -k 1 30 "$room/libshfl" crowd "$lock" "$threads" 100 100 "$ms" >>"$room/$form.$lock" || { [ "$lock" = mutex ] || amiss=$((amiss + 1)); }; done
+    done
+    for lock in shfl mutex; do awk '{ print $1 }' "$room/$form.$lock" >"$room/$form.$lock.1"; done
+    ours=($(told "$room/$form.shfl.1" less) $(told "$room/$form.mutex.1" less))
+    printf '%-26s %12s %12s %12s %12s %6s   %s\n' "$form, $threads threads" shfl worst mutex worst ratio 'runs that hung or lost a count'
     printf '%-26s %12s %12s %12s %12s %6s   %s\n' 'hold and think 100 ns' "${ours[@]}" "$(awk -v a="${ours[0]}" -v b="${ours[2]}" 'BEGIN { printf "%.2f", a / b }')" "$amiss of $runs"
 }
 
@@ -97,7 +112,9 @@ for part in "${parts[@]}"; do
     free) alone ;;
     4 | 16 | 256) crowd "$part" ;;
     many) many ;;
-    park) park ;;
+    cond) conds ;;
+    park) hangs rw-park 256 "$((20 * rounds))" 200 ;;
+    hang) hangs rw 64 "$((200 * rounds))" 50 ;;
     instructions) instructions ;;
     *) echo "libshfl.sh: no part is called $part" >&2; exit 2 ;;
     esac

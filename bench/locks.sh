@@ -4,7 +4,8 @@
 # with holds of 0, 40 and 400 multiplications and as many between two. The forms with readers are taken by readers alone. The MCS
 # lock is a peer where libck-dev is installed. Not a part of the gate. Builds in a folder of its own, which it removes; the crates
 # are proved there first. Words: FOLDER PART ..; it builds in that folder, unless it did before, and keeps it, and times only these
-# parts: free, 4 (threads), 16; with no part all three, and with the part none it only builds.
+# parts: free, 4 (threads), 16, arena, which has one lock of an arena beside the lock of its own; with no part all four, and with the
+# part none it only builds.
 set -eu
 top="$(cd "$(dirname "$(readlink -f "${BASH_SOURCE[0]}")")/.." && pwd)"
 if [ $# = 0 ]; then
@@ -15,7 +16,7 @@ else
     room="$(cd "$1" && pwd)"
     shift
 fi
-parts=" ${*:-free 4 16} "
+parts=" ${*:-free 4 16 arena} "
 build() {
     bench="$(python3 -B "$top/bin/programs.py" "$room" locks)" || exit 1
     cc -O2 -pthread -o "$room/peers" "$top/bench/peers.c"
@@ -82,6 +83,38 @@ crowd() {
         crowd_row rw-park rwlock "$1" "$work"
     done
 }
+# Holds a second at one lock of an arena, beside those at a lock with words of its own, in turn.
+arena_row() {
+    local form="$1" threads="$2" work="$3" holds=2000
+    while [ "$(ours_of "$form" "$threads" "$work" "$holds")" -gt $((5 * holds)) ] && [ "$holds" -lt 60000000 ]; do
+        holds=$((holds * 2))
+    done
+    for ((turn = 0; turn < TURNS; turn++)); do
+        ours_of "$form" "$threads" "$work" "$holds" arena >>"$room/ours.now"
+        ours_of "$form" "$threads" "$work" "$holds" >>"$room/theirs.now"
+    done
+    compared "$form, $threads threads, work $work" -gr "$room/ours.now" "$room/theirs.now"
+    rm "$room/ours.now" "$room/theirs.now"
+}
+arena() {
+    row 'free lock, ns' arena worst alone worst ratio
+    for ((turn = 0; turn < TURNS; turn++)); do "$bench"; done >"$room/ours"
+    free_row_of_both
+    echo
+    row 'holds a second' arena worst alone worst ratio
+    for threads in 4 16; do
+        for work in 0 40 400; do
+            for form in spin park rw rw-park; do arena_row "$form" "$threads" "$work"; done
+        done
+    done
+}
+free_row_of_both() {
+    sed -n 's/^arena \([0-9.]*\) ns$/\1/p' "$room/ours" >"$room/ours.now"
+    sed -n 's/^attempt \([0-9.]*\) ns$/\1/p' "$room/ours" >"$room/theirs.now"
+    compared 'attempt' -g "$room/ours.now" "$room/theirs.now"
+    rm "$room/ours.now" "$room/theirs.now"
+}
 case "$parts" in *' free '*) free; echo ;; esac
 case "$parts" in *' 4 '*) crowd 4; echo ;; esac
-case "$parts" in *' 16 '*) crowd 16 ;; esac
+case "$parts" in *' 16 '*) crowd 16; echo ;; esac
+case "$parts" in *' arena '*) arena ;; esac

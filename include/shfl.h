@@ -18,6 +18,10 @@
 extern "C" {
 #endif
 
+#ifndef SHFL_VERSION
+#define SHFL_VERSION 100 /* 1.0 */
+#endif
+
 struct shfl_parking;
 
 /* A pass of a lock, or zero. C zeroes it before shfl_open, and reads and writes none of it; it may move an idle one, never copy it. */
@@ -33,15 +37,42 @@ struct shfl_pass {
 
 enum shfl_form { SHFL_SPIN, SHFL_RW, SHFL_PARK, SHFL_RW_PARK };
 
-/* What the next step asks: kind 0 nothing, 1 whether to skip the round, 2 whether the waiter joins the batch. The waiter is told by
- * its attributes, as shfl_attr packs them. */
+enum shfl_asked { SHFL_ASK_NOTHING, SHFL_ASK_SKIP, SHFL_ASK_SHOULD };
+enum shfl_watched { SHFL_WATCH_NOBODY, SHFL_WATCH_OWN_TURN, SHFL_WATCH_GROUPED, SHFL_WATCH_READY };
+
+/* What the next step asks: nothing, whether to skip the round, or whether the waiter joins the batch. The waiter is told by its
+ * attributes, as shfl_attr packs them. */
 struct shfl_ask { uint64_t waiter; uint16_t batch; uint8_t kind; };
 
-/* Whom the next step may wake: kind 0 nobody, 1 this pass looks whether it is its turn, 2 the pass whom is grouped, 3 it is the turn
- * of the pass whom. */
+/* Whom the next step may wake: nobody; nobody, but this pass looks whether it is its turn; the pass whom, which is grouped, or whose turn it
+ * is. */
 struct shfl_watch { uint32_t whom; uint8_t kind; };
 
-/* Why a policy isn't attached: fault 0 it is, 1 to 12 a fault of a program, 254 no such profile or no bytes, 255 no memory; hook 0 should, 1 skip. */
+/* As libshfl.h has them, for programs that include both. */
+#ifndef SHFL_HAS_FAULTS
+#define SHFL_HAS_FAULTS
+enum shfl_profile { SHFL_PROFILE_BASE = 1, SHFL_PROFILE_EXTENDED = 2 };
+enum shfl_hook { SHFL_HOOK_SHOULD, SHFL_HOOK_SKIP };
+enum shfl_fault_code {
+    SHFL_FAULT_NONE,
+    SHFL_FAULT_EMPTY,
+    SHFL_FAULT_LENGTH, /* no multiple of 8 bytes */
+    SHFL_FAULT_TOO_LONG, /* more than 4,096 bytes */
+    SHFL_FAULT_OPCODE, /* the profile doesn't have it */
+    SHFL_FAULT_REGISTER, /* above 9 */
+    SHFL_FAULT_FIELD, /* one that must be 0 */
+    SHFL_FAULT_HALF, /* of a wide load, at the end or as a jump's target */
+    SHFL_FAULT_JUMP, /* it doesn't lead forward */
+    SHFL_FAULT_LEAVES, /* a way leads out of the program */
+    SHFL_FAULT_NO_VALUE, /* a register is read that has none on some way */
+    SHFL_FAULT_POINTER, /* the context's is used as a number */
+    SHFL_FAULT_LOAD, /* outside the context, not aligned, or from a number */
+    SHFL_FAULT_NO_MEMORY = 255
+};
+#endif
+enum { SHFL_FAULT_ARGUMENT = 254 }; /* no such profile, or bytes at null */
+
+/* Why a policy isn't attached: the first fault of the first bad program, at a slot, and of the two about values of a register there. */
 struct shfl_verdict { uint32_t slot; uint8_t fault, hook, reg; };
 
 /* What came of a step. A loop may pause after the last three, and after no other. */
@@ -57,7 +88,7 @@ enum shfl_outcome {
  * (ENOMEM), and each handle is as it was. These three are calls of the library that the headers stand before: shfl_parking.h. */
 bool shfl_open(const uint64_t *attrs, size_t count, uint8_t form, uint16_t limit, struct shfl_pass *passes, size_t same_count);
 void shfl_close(struct shfl_pass *pass); /* the last one of a lock frees it; one that isn't idle leaves the others waiting for good */
-/* profile is 1 or 2; no bytes are no program, and then the pointer may be null. It takes memory. */
+/* profile is one of the two; no bytes are no program, and then the pointer may be null. It takes memory. */
 struct shfl_verdict shfl_attach(struct shfl_pass *pass, uint8_t profile, const uint8_t *should, size_t should_length,
                                 const uint8_t *skip, size_t skip_length);
 

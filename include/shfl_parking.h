@@ -102,11 +102,11 @@ static inline void shfl_queue_when(struct shfl_pass *pass, enum shfl_when when, 
     pass->queues = when == SHFL_QUEUE || (when == SHFL_BY_POLICY && pass->attached);
 }
 
-/* shfl_attach, which remembers whether there is a program. A profile that isn't there, and bytes that aren't, are fault 254. */
+/* shfl_attach, which remembers whether there is a program. A profile that isn't there, and bytes that aren't, are SHFL_FAULT_ARGUMENT. */
 static inline struct shfl_verdict shfl_attach_parking(struct shfl_pass *pass, uint8_t profile, const uint8_t *should,
                                                       size_t should_length, const uint8_t *skip, size_t skip_length) {
     static const uint8_t none = 0;
-    struct shfl_verdict verdict = {0, 254, 0, 0};
+    struct shfl_verdict verdict = {0, SHFL_FAULT_ARGUMENT, 0, 0};
     if (profile < 1 || profile > 2 || (!should && should_length) || (!skip && skip_length)) return verdict;
     verdict = shfl_attach(pass, profile, should ? should : &none, should_length, skip ? skip : &none, skip_length);
     if (verdict.fault == 0) {

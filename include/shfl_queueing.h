@@ -106,22 +106,22 @@ struct shfl_calls { struct shfl_watch last; bool grouped; struct shfl_batch batc
  * turns are fast, the one behind it is woken too, since the head comes too late to do so. */
 static inline void shfl_call(struct shfl_pass *pass, struct shfl_calls *calls, struct shfl_watch watch) {
     struct shfl_parking *parking = pass->parking;
-    if (calls->last.kind >= 2) shfl_ring(&shfl_place_of(parking, calls->last.whom)->asleep);
-    bool calls_it = watch.kind == 3 || (watch.kind == 2 && !calls->grouped);
+    if (calls->last.kind >= SHFL_WATCH_GROUPED) shfl_ring(&shfl_place_of(parking, calls->last.whom)->asleep);
+    bool calls_it = watch.kind == SHFL_WATCH_READY || (watch.kind == SHFL_WATCH_GROUPED && !calls->grouped);
     bool slept = calls_it && shfl_ring(&shfl_place_of(parking, watch.whom)->asleep);
-    if (watch.kind == 3 && shfl_turns_are_fast(parking)) {
+    if (watch.kind == SHFL_WATCH_READY && shfl_turns_are_fast(parking)) {
         if (slept) shfl_wake_ahead(parking, watch.whom, 1);
         pass->successor = watch.whom + 1;
         pass->shuffler = calls->grouped ? calls->batch.last + 1 : 0;
     }
     calls->last = watch;
-    if (!calls_it) calls->last.kind = 0;
-    if (watch.kind == 2) {
+    if (!calls_it) calls->last.kind = SHFL_WATCH_NOBODY;
+    if (watch.kind == SHFL_WATCH_GROUPED) {
         if (!calls->grouped) calls->batch.last = calls->batch.at = pass->me;
         shfl_move_behind(parking, &calls->batch, watch.whom);
         calls->grouped = true;
     }
-    if (watch.kind == 1) {
+    if (watch.kind == SHFL_WATCH_OWN_TURN) {
         if (calls->grouped) shfl_ring(&shfl_place_of(parking, calls->batch.last)->asleep);
         calls->grouped = false;
     }
@@ -136,16 +136,16 @@ static inline void shfl_drive_by(struct shfl_pass *pass, bool yields) {
         uint8_t outcome = shfl_advance(pass, pass->attached && shfl_answer(pass));
         if (outcome == SHFL_IN_VAIN || outcome == SHFL_IN_VAIN_OPEN) {
             if (outcome == SHFL_IN_VAIN_OPEN) shfl_disable_stealing(pass);
-            shfl_pause_looking(pass, &looks, watch.kind == 1, false);
+            shfl_pause_looking(pass, &looks, watch.kind == SHFL_WATCH_OWN_TURN, false);
             continue;
         }
         if (outcome == SHFL_WENT_ON) shfl_went_on(pass, &looks);
-        if (watch.kind == 2) looks.rounds = 0;
+        if (watch.kind == SHFL_WATCH_GROUPED) looks.rounds = 0;
         shfl_call(pass, &calls, watch);
         if (outcome == SHFL_RESTS) break;
         watch = shfl_watch(pass);
         /* the head goes on from its round to the lock word */
-        if (outcome == SHFL_GROUPED_NOBODY && watch.kind == 1) shfl_pause_looking(pass, &looks, true, true);
+        if (outcome == SHFL_GROUPED_NOBODY && watch.kind == SHFL_WATCH_OWN_TURN) shfl_pause_looking(pass, &looks, true, true);
     }
     uint32_t *own = shfl_sleeps_at(pass, true);
     if (!yields && shfl_load(own)) shfl_store(own, 0);

@@ -3,6 +3,7 @@
 #include <stdlib.h>
 #include <string.h>
 #include "inside.h"
+#include "races.h"
 
 /* Goes over to the class's policy as it is now, where the seat follows another one, or another seat of the thread did last. */
 static void follow(struct shfl_thread *me, struct shfl_seat *seat, struct shfl_class *its) {
@@ -40,6 +41,7 @@ static bool keep(struct shfl_programs *kept, const uint8_t *should, const uint8_
     size_t whole = (size_t)kept->should + kept->skip;
     kept->bytes = whole ? calloc(1, whole) : NULL;
     if (!kept->bytes) return whole == 0;
+    shfl_races_own(kept->bytes, whole);
     memcpy(kept->bytes, should, kept->should);
     memcpy(kept->bytes + kept->should, skip, kept->skip);
     return true;
@@ -73,25 +75,30 @@ size_t shfl_class_programs(unsigned class_of, struct shfl_programs *out, uint8_t
 /* Of a program that is too long the rest isn't looked at. */
 static size_t looked_at(size_t length) { return length < SHFL_PROGRAM_MOST ? length : SHFL_PROGRAM_MOST; }
 
+/* The class goes over to these programs, if they are accepted. */
+static int give_policy(struct shfl_class *its, struct shfl_programs *programs, const uint8_t *should, const uint8_t *skip, struct shfl_verdict *verdict) {
+    int error = shfl_open_process();
+    if (error) return error;
+    shfl_guard_lock(&shfl_process.is_loading);
+    *verdict = shfl_seat_attach(&shfl_process.loading, programs->profile, should, programs->should, skip, programs->skip);
+    if (verdict->fault == 0) error = keep(programs, should, skip) ? publish(its, programs) : ENOMEM;
+    else error = verdict->fault == SHFL_FAULT_NO_MEMORY ? ENOMEM : EINVAL;
+    shfl_seat_detach(&shfl_process.loading);
+    shfl_guard_unlock(&shfl_process.is_loading);
+    return error;
+}
+
 int shfl_class_policy(unsigned class_of, unsigned profile, const uint8_t *should, size_t should_length, const uint8_t *skip,
                       size_t skip_length, struct shfl_fault *fault) {
     static const uint8_t none;
     if (class_of >= SHFL_CLASSES || profile < 1 || profile > 2) return EINVAL;
     if ((!should && should_length) || (!skip && skip_length)) return EINVAL;
-    should_length = looked_at(should_length);
-    skip_length = looked_at(skip_length);
-    if (!should) should = &none;
-    if (!skip) skip = &none;
-    int error = shfl_open_process();
-    if (error) return error;
-    shfl_guard_lock(&shfl_process.is_loading);
-    struct shfl_verdict verdict = shfl_seat_attach(&shfl_process.loading, (uint8_t)profile, should, should_length, skip, skip_length);
-    struct shfl_programs programs = {NULL, (uint16_t)should_length, (uint16_t)skip_length, (uint8_t)profile};
-    if (verdict.fault == 0) error = keep(&programs, should, skip) ? publish(shfl_class_at(class_of), &programs) : ENOMEM;
-    else error = verdict.fault == 255 ? ENOMEM : EINVAL;
-    shfl_seat_detach(&shfl_process.loading);
-    shfl_guard_unlock(&shfl_process.is_loading);
-    if (fault) *fault = (struct shfl_fault){verdict.slot, verdict.fault, verdict.hook, verdict.reg};
+    struct shfl_programs programs = {NULL, (uint16_t)looked_at(should_length), (uint16_t)looked_at(skip_length), (uint8_t)profile};
+    struct shfl_verdict verdict = {0, 0, 0, 0};
+    shfl_races_look_away();
+    int error = give_policy(shfl_class_at(class_of), &programs, should ? should : &none, skip ? skip : &none, &verdict);
+    shfl_races_look_again();
+    if (fault && (!error || verdict.fault)) *fault = (struct shfl_fault){verdict.slot, verdict.fault, verdict.hook, verdict.reg};
     return error;
 }
 

@@ -1,8 +1,41 @@
 /* Condition variables, over a futex. Nothing of them is proved but that a waiter has the mutex when its call returns.
  *
  * A waiter reads the count of signals while it has the mutex, and sleeps only where the count is still the same; a signal after that read
- * changes it. So none is lost, unless 2^32 signals come between the read and the sleep. */
+ * changes it. So none is lost, unless 2^32 signals come between the read and the sleep.
+ *
+ * Of the word `waiting` the low half counts who waits, and the high half who of them was woken and is about to leave: fewer than 65,536, since each has a
+ * seat. Whoever destroys the condition variable waits for these, as POSIX allows a program to destroy one as soon as nobody sleeps there. */
 #include "inside.h"
+
+#define WOKEN 0x10000u
+
+static bool change(shfl_cond_t *cond, uint32_t *before, uint32_t waiting, uint32_t woken) {
+    uint32_t after = woken * WOKEN + waiting;
+    return __atomic_compare_exchange_n(&cond->waiting, before, after, false, __ATOMIC_SEQ_CST, __ATOMIC_SEQ_CST);
+}
+
+/* After this the condition variable's memory isn't touched. */
+static void leave(shfl_cond_t *cond, bool was_woken) {
+    uint32_t both = shfl_load(&cond->waiting), waiting, woken;
+    do {
+        waiting = both % WOKEN - 1;
+        woken = both / WOKEN;
+        if (woken > 0 && (was_woken || woken > waiting)) woken--;
+    } while (!change(cond, &both, waiting, woken));
+}
+
+/* Counts one more as woken, or all, before they are. False: nobody waits. */
+static bool is_to_wake(shfl_cond_t *cond, bool all) {
+    uint32_t both = shfl_load(&cond->waiting), waiting, woken;
+    do {
+        waiting = both % WOKEN;
+        woken = both / WOKEN;
+        if (waiting == 0) return false;
+        if (woken < waiting) woken = all ? waiting : woken + 1;
+    } while (!change(cond, &both, waiting, woken));
+    __atomic_fetch_add(&cond->signals, 1, __ATOMIC_SEQ_CST);
+    return true;
+}
 
 int shfl_cond_init(shfl_cond_t *cond) {
     if (!cond) return EINVAL;
@@ -33,7 +66,7 @@ static int wait_on(shfl_cond_t *cond, shfl_mutex_t *mutex, clockid_t clock, cons
     __atomic_fetch_add(&cond->waiting, 1, __ATOMIC_SEQ_CST);
     int error = shfl_mutex_unlock(mutex);
     int told = error ? error : sleep_on(&cond->signals, seen, clock, deadline);
-    __atomic_fetch_sub(&cond->waiting, 1, __ATOMIC_SEQ_CST);
+    leave(cond, told == 0 && shfl_load(&cond->signals) != seen);
     if (error) return error;
     error = shfl_mutex_lock(mutex);
     return error ? error : told;
@@ -53,21 +86,20 @@ int shfl_cond_timedwait(shfl_cond_t *cond, shfl_mutex_t *mutex, const struct tim
 
 int shfl_cond_signal(shfl_cond_t *cond) {
     if (!cond) return EINVAL;
-    if (shfl_load(&cond->waiting) == 0) return 0;
-    __atomic_fetch_add(&cond->signals, 1, __ATOMIC_SEQ_CST);
-    shfl_wake_one(&cond->signals);
+    if (is_to_wake(cond, false)) shfl_wake_one(&cond->signals);
     return 0;
 }
 
 int shfl_cond_broadcast(shfl_cond_t *cond) {
     if (!cond) return EINVAL;
-    if (shfl_load(&cond->waiting) == 0) return 0;
-    __atomic_fetch_add(&cond->signals, 1, __ATOMIC_SEQ_CST);
-    shfl_wake_all(&cond->signals);
+    if (is_to_wake(cond, true)) shfl_wake_all(&cond->signals);
     return 0;
 }
 
 int shfl_cond_destroy(shfl_cond_t *cond) {
+    static uint32_t never;
     if (!cond) return EINVAL;
-    return shfl_load(&cond->waiting) ? shfl_refuse(EBUSY, cond, "a condition variable is destroyed that somebody waits on") : 0;
+    for (uint32_t both; (both = shfl_load(&cond->waiting)) != 0; shfl_sleep(&never, 0, 50000))
+        if (both % WOKEN > both / WOKEN) return shfl_refuse(EBUSY, cond, "a condition variable is destroyed that somebody waits on");
+    return 0;
 }

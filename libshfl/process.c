@@ -156,14 +156,16 @@ SHFL_COLD int shfl_open_process(void) {
     return error;
 }
 
-/* The attributes that policies see, with the socket on which the thread runs now. */
+/* The attributes that policies see, with the socket on which the thread runs now. False, and nothing changes, where the thread is taking a lock. */
 bool shfl_set_attr(struct shfl_thread *me, uint16_t prio, uint16_t class_of, uint16_t kind) {
     unsigned cpu = 0, node = 0;
     if (syscall(SYS_getcpu, &cpu, &node, NULL)) node = 0;
+    uint64_t attr = (uint16_t)node | (uint64_t)prio << 16 | (uint64_t)class_of << 32 | (uint64_t)kind << 48;
+    if (!shfl_seat_set_attr(&me->seat, attr)) return false;
+    me->attr = attr;
     uint32_t before = __atomic_load_n(&me->mark, __ATOMIC_RELAXED), mark = (me->number + 1) << 16 | node % SHFL_MARK_WATCHED;
     while (!__atomic_compare_exchange_n(&me->mark, &before, mark | (before & SHFL_MARK_WATCHED), false, __ATOMIC_SEQ_CST, __ATOMIC_RELAXED)) {}
-    me->attr = (uint16_t)node | (uint64_t)prio << 16 | (uint64_t)class_of << 32 | (uint64_t)kind << 48;
-    return shfl_seat_set_attr(&me->seat, me->attr);
+    return true;
 }
 
 static struct shfl_thread *take_free(int *error) {

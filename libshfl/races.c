@@ -14,6 +14,10 @@ WEAK void __tsan_mutex_post_lock(void *lock, unsigned flags, int recursion);
 WEAK int __tsan_mutex_pre_unlock(void *lock, unsigned flags);
 WEAK void __tsan_mutex_post_unlock(void *lock, unsigned flags);
 WEAK void __tsan_mutex_destroy(void *lock, unsigned flags);
+WEAK void AnnotateIgnoreReadsBegin(const char *file, int line);
+WEAK void AnnotateIgnoreReadsEnd(const char *file, int line);
+WEAK void AnnotateIgnoreWritesBegin(const char *file, int line);
+WEAK void AnnotateIgnoreWritesEnd(const char *file, int line);
 
 /* drd understands helgrind's requests about locks. */
 #if __has_include(<valgrind/drd.h>) && __has_include(<valgrind/helgrind.h>)
@@ -61,6 +65,17 @@ int shfl_races_giving(uint32_t *word) {
 
 void shfl_races_given(uint32_t *word, int held) {
     if (held != 0 && __tsan_mutex_post_unlock) __tsan_mutex_post_unlock(word, flags_of(held == 2, false));
+}
+
+/* ThreadSanitizer sees the library's calls of the heap, and not how its threads come to meet there. */
+void shfl_races_look_away(void) {
+    if (AnnotateIgnoreReadsBegin) AnnotateIgnoreReadsBegin(__FILE__, __LINE__);
+    if (AnnotateIgnoreWritesBegin) AnnotateIgnoreWritesBegin(__FILE__, __LINE__);
+}
+
+void shfl_races_look_again(void) {
+    if (AnnotateIgnoreWritesEnd) AnnotateIgnoreWritesEnd(__FILE__, __LINE__);
+    if (AnnotateIgnoreReadsEnd) AnnotateIgnoreReadsEnd(__FILE__, __LINE__);
 }
 
 void shfl_races_ended(uint32_t *word) {

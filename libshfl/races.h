@@ -18,6 +18,9 @@ void shfl_races_given(uint32_t *word, int held);
 void shfl_races_ended(uint32_t *word);
 /* These bytes are the library's own, where threads meet in atomic operations. */
 void shfl_races_own(void *at, size_t size);
+/* From a call on that takes memory which another thread may free, or frees such, and after it. */
+void shfl_races_look_away(void);
+void shfl_races_look_again(void);
 #else
 static inline void shfl_races_taking(uint32_t *word, bool shared, bool tries) { (void)word, (void)shared, (void)tries; }
 static inline void shfl_races_taken(uint32_t *word, bool shared, bool tries, int error) { (void)word, (void)shared, (void)tries, (void)error; }
@@ -25,5 +28,7 @@ static inline int shfl_races_giving(uint32_t *word) { return (void)word, 0; }
 static inline void shfl_races_given(uint32_t *word, int held) { (void)word, (void)held; }
 static inline void shfl_races_ended(uint32_t *word) { (void)word; }
 static inline void shfl_races_own(void *at, size_t size) { (void)at, (void)size; }
+static inline void shfl_races_look_away(void) {}
+static inline void shfl_races_look_again(void) {}
 #endif
 #endif

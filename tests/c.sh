@@ -1,7 +1,7 @@
 #!/usr/bin/env bash
-# The C programs of examples/c: built over the static library, run exact in every form, and once under valgrind's memcheck where it is
-# there. A lock of 64 passes is measured, and must stay small. An argument is how often each is run (1 if left out). Where there is no C
-# compiler it says so, and passes.
+# The lines of docs/C.md, in an empty folder, and its program. The C programs of examples/c: built over the static library, run exact in every form, with
+# gcc's address and undefined-behaviour checks too, and once under valgrind's memcheck where it is there. A lock of 64 passes is measured, and must stay
+# small. An argument is how often each is run (1 if left out). Where there is no C compiler it says so, and passes.
 set -u
 top="$(cd "$(dirname "$(readlink -f "${BASH_SOURCE[0]}")")/.." && pwd)"
 times="${1:-1}"
@@ -14,6 +14,23 @@ archive="$top/crates/shfl_c/out/libshfl_c.a"
 
 programs=(counter map policy)
 failed=0
+
+# the document's lines, in a folder that has of the repository what they name; and its program, with the words around it that it leaves away
+mkdir "$room/words"
+ln -s "$top"/{bin,crates,include,examples} "$room/words"
+sed -n '/^## Build and link/,/^## /s/^    //p' "$top/docs/C.md" >"$room/lines"
+(cd "$room/words" && set -e && . "$room/lines") >"$room/got" 2>&1 || { echo "tests/c.sh: the lines of docs/C.md: $(tail -n 5 "$room/got")" >&2; failed=1; }
+[ "$(wc -l <"$room/lines")" -ge 3 ] && [ -x "$room/words/counter" ] || { echo "tests/c.sh: docs/C.md builds no counter" >&2; failed=1; }
+# (what stands before its second empty line is outside the functions)
+shown() { awk -v inside="$1" '/^```c/ { code = 1; next } /^```/ { code = 0 } code && !NF { empty++ } code && (empty >= 2) == inside' "$top/docs/C.md"; }
+{
+    printf '#include <stdlib.h>\n%s\nstatic int counter;\nint main(void) {\n    const int k = 1;\n' "$(shown 0)"
+    shown 1
+    printf '    return counter != 1;\n}\n'
+} >"$room/shown.c"
+"$cc" -std=gnu11 -O2 -Wall -Wextra -I "$top/include" "$room/shown.c" "$top/include/shfl_heap.c" "$archive" -o "$room/shown" -lpthread && "$room/shown" ||
+    { echo "tests/c.sh: the program of docs/C.md, status $?" >&2; failed=1; }
+
 for name in "${programs[@]}"; do
     "$cc" -std=gnu11 -O2 -Wall -Wextra -Werror -I "$top/include" "$top/examples/c/$name.c" "$top/include/shfl_heap.c" "$archive" \
         -o "$room/$name" -lpthread || exit 1
@@ -89,6 +106,18 @@ for name in "${programs[@]}"; do
         fi
     done
     echo "tests/c.sh: $name exact in $exact of $times"
+done
+
+# the headers with gcc's checks, which end a program at the first fault
+checks=(-O1 -g -fsanitize=address,undefined -fno-sanitize-recover=all)
+for name in "${programs[@]}"; do
+    "$cc" -std=gnu11 "${checks[@]}" -I "$top/include" "$top/examples/c/$name.c" "$top/include/shfl_heap.c" "$archive" -o "$room/$name.san" -lpthread || exit 1
+    if timeout 300 "$room/$name.san" 200 >"$room/got" 2>&1; then
+        echo "tests/c.sh: $name is checked by gcc"
+    else
+        echo "tests/c.sh: $name with gcc's checks, status $?: $(tail -n 20 "$room/got")" >&2
+        failed=1
+    fi
 done
 
 if command -v valgrind >/dev/null; then

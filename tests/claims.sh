@@ -1,10 +1,10 @@
 #!/usr/bin/env bash
 # What the documents name is there: each call, clause, type, definition and file in the tables of docs/CLAIMS.md and of the crates' READMEs;
 # in docs/DEFINITIONS.md each identifier and its place, and each term once; in the other documents each call `crate::function` with the clauses
-# that a line names behind it; each path from the top; README.md's lines of Rattle; each bench in bench/README.md. And each public call of a
-# crate is named in docs/CLAIMS.md or in the crate's README. A row names between backticks a call (`Type::method`, `crate::function`, or
-# alone), then clauses of it; where a row of a README begins empty, its calls are those above. The sources are read by their layout, which
-# the gate keeps. With --list it writes the public calls.
+# that a line names behind it; each path from the top; README.md's lines of Rattle; each bench in bench/README.md. Each crate's README points
+# to docs/CLAIMS.md, and each public call of a crate is named there or in that README. A row names between backticks a call (`Type::method`,
+# `crate::function`, or alone), then clauses of it; where a row of a README begins empty, its calls are those above. The sources are read by
+# their layout, which the gate keeps. With --list it writes the public calls.
 set -u
 top="$(cd "$(dirname "$(readlink -f "${BASH_SOURCE[0]}")")/.." && pwd)"
 cd "$top" || exit 1
@@ -29,11 +29,10 @@ while IFS= read -r line; do
     failed=1
 done < <(awk '/^```/ { code = $0 == "```rust"; next } code && !/^\/\//' README.md)
 
-for script in bench/*.sh bench/preload/run.sh; do
-    grep -qF "\`${script#bench/}\`" bench/README.md && continue
-    echo "bench/README.md: it doesn't name ${script#bench/}" >&2
-    failed=1
-done
+# a file names something
+names() { grep -qF -- "$2" "$1" || { echo "$1: it doesn't name $2" >&2; failed=1; }; }
+for script in bench/*.sh bench/preload/run.sh; do names bench/README.md "\`${script#bench/}\`"; done
+for file in "${readmes[@]}"; do names "$file" docs/CLAIMS.md; done
 
 others=(README.md bench/README.md examples/README.md)
 for file in docs/*.md; do

@@ -2,9 +2,8 @@
 # Compares what the built program does with each example: NAME.line with `line`, NAME.hex with `verify`, NAME.hex2 with
 # `verify 2`, NAME.trace with `replay` and with `shards`, NAME.pool with `pool`, NAME.bulk with `bulk` and the words in it. Beside
 # NAME.SUFFIX stand what it writes (.out), what it says on standard error (.err) and its status (.status); where one isn't there, nothing
-# is written, nothing is said, and the status is 0. What `replay` and `shards` write of several workers is judged by
-# tests/judge-replay.sh, and what `pool` writes by tests/judge-pool.sh, as is the report that stands beside such a trace, since two runs
-# may order their calls differently. Then the forms of each policy in examples/policies are compared (the C where a clang for BPF is
+# is written, nothing is said, and the status is 0. What `replay` and `shards` write of several workers, and what `pool` writes, is judged by
+# tests/judge.sh, as is the report that stands beside such a trace, since two runs may order their calls differently. Then the forms of each policy in examples/policies are compared (the C where a clang for BPF is
 # there), and that each example is in the index and each output belongs to one.
 set -u
 top="$(cd "$(dirname "$(readlink -f "${BASH_SOURCE[0]}")")/.." && pwd)"
@@ -43,12 +42,12 @@ for document in "$top"/examples/*.hex "$top"/examples/policies/*.hex; do compare
 for document in "$top"/examples/*.hex2; do compare "$document" verify 2; done
 # A trace of several workers that isn't refused: its report by a command, and the one that is stored.
 judge() {
-    local document="$1" command="$2" judge="$top/tests/judge-$3.sh" name
+    local document="$1" command="$2" judged="$3" name
     name="$(basename "$document")"
     if ! "$top/bin/syncord" "$command" <"$document" >"$got/out" 2>"$got/err" || [ -s "$got/err" ]; then
         echo "examples/$name: another status, or something was said; to run it again: bin/syncord $command <examples/$name" >&2
         failed=1
-    elif "$judge" "$document" "$got/out" && "$judge" "$document" "$document.out"; then
+    elif "$top/tests/judge.sh" "$judged" "$document" "$got/out" && "$top/tests/judge.sh" "$judged" "$document" "$document.out"; then
         echo "examples/$name: as it may be"
     else
         failed=1
@@ -80,7 +79,7 @@ for document in "$top"/examples/*.pool; do run_trace "$document" pool pool; done
 } >"$got/attachments.trace"
 for command in replay shards; do
     "$top/bin/syncord" "$command" <"$got/attachments.trace" >"$got/attachments.out" \
-        && "$top/tests/judge-replay.sh" "$got/attachments.trace" "$got/attachments.out" \
+        && "$top/tests/judge.sh" replay "$got/attachments.trace" "$got/attachments.out" \
         && grep -qx 'attaches 4096' "$got/attachments.out" && echo "a trace of 4,096 attachments by $command: as it may be" || failed=1
 done
 for document in "$top"/examples/*.bulk; do

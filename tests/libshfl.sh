@@ -1,11 +1,13 @@
 #!/usr/bin/env bash
-# libshfl as its document says: installed into an empty prefix, docs/LIBSHFL.md's program built by pkg-config's words alone, against the shared
-# library and the static one; each call and each error (tests/libshfl/posix.c), each argument that can't be (arguments.c), exact counts under 16 and 64 threads (storm.c), more locks than an arena has (growth.c), what
-# shfl_stat counts (counts.c), what a record has of a lock in each arena (records.c), the C++ classes (locks.cpp), the checked build's messages, and no visible name but those that begin with shfl_.
-# The preload library under programs that know pthread alone (pthreads.c, conditions.c, standard.cpp), which are first run with libc's own
-# locks, in an arena that is too small, in one that can't be, and with a malloc that takes a mutex (heap.c). Under valgrind where it is there, and with
-# gcc's address and undefined-behaviour checks; programs with a race and without one under ThreadSanitizer, helgrind and drd, as far as they are
-# there (races.c). First how long the library's functions are (functions.py). An argument is how many rounds each thread of a storm makes. Where there is no C compiler it says so, and passes.
+# libshfl as its document says: installed into an empty prefix by its words, docs/LIBSHFL.md's programs built by its words alone, against the shared
+# library and the static one; what is visible and has a manual page is what the header has. In both forms each call and each error (tests/libshfl/posix.c), each
+# argument that can't be (arguments.c), deadlines (times.c), that who waits sleeps (sleeps.c), threads' ends, cancellation and forks (lives.c), what shfl_stat counts (counts.c), policies of classes
+# (policies.c), what a record has of a lock in each arena (records.c), the C++ classes (locks.cpp); exact counts under 16 and 64 threads (storm.c), more locks than an
+# arena has (growth.c), each message of the checked build (misuse.c). The preload library, which has each of glibc's names, under programs that know pthread alone
+# (pthreads.c, libcs.c, errors.c, conditions.c, standard.cpp), which are first run with libc's own locks, in an arena that is too small, in one that can't be, and with a malloc
+# that takes a mutex (heap.c). Under valgrind's memcheck where it is there, and with gcc's address and undefined-behaviour checks, which end a program; programs with a
+# race and without one under ThreadSanitizer, helgrind and drd, as far as they are there (races.c). First how long the library's functions are (functions.py). An argument
+# is how many rounds each thread of a storm makes. Where there is no C compiler it says so, and passes.
 set -u
 top="$(cd "$(dirname "$(readlink -f "${BASH_SOURCE[0]}")")/.." && pwd)"
 rounds="${1:-2000}"
@@ -22,13 +24,31 @@ run() {
 }
 
 run "functions" python3 -B "$top/tests/libshfl/functions.py" "$top"/libshfl/*.[ch] "$top"/libshfl/preload/*.[ch]
+# the document's own lines, with another folder than /usr/local
+said() { sed -n "s,$1,\\1,p" "$top/docs/LIBSHFL.md"; }
+install="$(said '^    \(libshfl/install\) /usr/local$')" export="$(said '.*`\(export PKG_CONFIG_PATH=[^`]*\)`.*')" build="$(said '^    \(cc program\.c .*\)$')"
 for kind in "" checked; do
-    CHECKED="$kind" "$top/libshfl/install" "$room/prefix$kind" >"$room/got" 2>&1 || { complain "install: $(tail -n 20 "$room/got")"; exit 1; }
+    (cd "$top" && CHECKED="$kind" "./$install" "$room/prefix$kind") >"$room/got" 2>&1 || { complain "install: $(tail -n 20 "$room/got")"; exit 1; }
 done
-export PKG_CONFIG_PATH="$room/prefix/lib/pkgconfig" LD_LIBRARY_PATH="$room/prefix/lib"
+eval "${export//FOLDER/$room/prefix}"
+[ "$PKG_CONFIG_PATH" = "$room/prefix/lib/pkgconfig" ] && [ "$LD_LIBRARY_PATH" = "$room/prefix/lib" ] || complain "the document's line for another folder: $export"
+command -v pkg-config >/dev/null || build='cc program.c -I$room/prefix/include -L$room/prefix/lib -lshfl -pthread -o program'
 read -ra words <<<"$(pkg-config --cflags --libs shfl 2>/dev/null || echo "-I$room/prefix/include -L$room/prefix/lib -lshfl -pthread")"
-[ -z "$(nm -D --defined-only "$room/prefix/lib/libshfl.so.1" | awk '$2 != "A" && $3 !~ /^shfl_/')" ] || complain "libshfl.so.1 shows other names"
-[ -z "$(nm -g --defined-only "$room/prefix/lib/libshfl.a" | awk 'NF == 3 && $3 !~ /^shfl_/')" ] || complain "libshfl.a shows other names"
+for file in bin/shfl include/libshfl.h include/libshfl.hpp lib/libshfl.a lib/libshfl.so lib/libshfl.so.1 lib/libshfl_preload.so lib/pkgconfig/shfl.pc share/man/man1/shfl.1 \
+    share/man/man3/shfl.3 share/bash-completion/completions/shfl; do [ -s "$room/prefix/$file" ] || complain "$file isn't installed"; done
+
+# the header under each standard
+for std in c99 c11 gnu17 c++11 c++17 c++20; do
+    case "$std" in c++*) command -v c++ >/dev/null || continue; compiler=(c++ -x c++) ;; *) compiler=("$cc" -x c) ;; esac
+    echo '#include <libshfl.h>' | "${compiler[@]}" -std="$std" -pedantic -Wall -Wextra -Werror -I "$room/prefix/include" -fsyntax-only - || complain "libshfl.h under $std"
+done
+
+# what is visible, and has a manual page, is what the header has
+names_in() { sed -n 's/^int \(shfl_[a-z_]*\)(.*/\1/p' "$1" | sort; }
+names_in "$room/prefix/include/libshfl.h" >"$room/names"
+nm -D --defined-only "$room/prefix/lib/libshfl.so.1" | awk '$2 != "A" { sub(/@.*/, "", $3); print $3 }' | sort | diff "$room/names" - >&2 || complain "libshfl.so.1 shows other names than libshfl.h has"
+nm -g --defined-only "$room/prefix/lib/libshfl.a" | awk 'NF == 3 { print $3 }' | sort | diff "$room/names" - >&2 || complain "libshfl.a shows other names than libshfl.h has"
+names_in "$room/prefix/share/man/man3/shfl.3" | diff "$room/names" - >&2 || complain "shfl.3 has other calls than libshfl.h"
 
 # the document's programs, the first shared and static
 block() { awk -v wanted="$1" '/^```c/ { code = ++number == wanted; next } /^```/ { code = 0 } code' "$top/docs/LIBSHFL.md"; }
@@ -36,24 +56,27 @@ block 1 >"$room/program.c"
 block 2 >"$room/policy.c"
 "$cc" -Wall -Wextra -Werror "$room/policy.c" "${words[@]}" -o "$room/policy" || exit 1
 [ "$("$room/policy")" = "taken 1, found taken 0" ] || complain "the document's program with a policy"
-"$cc" -Wall -Wextra -Werror "$room/program.c" "${words[@]}" -o "$room/program" || exit 1
-[ "$("$room/program")" = 400000 ] || complain "the document's program"
+(cd "$room" && eval "${build/#cc/$cc}") && [ "$("$room/program")" = 400000 ] || complain "the document's program"
 "$cc" -I "$room/prefix/include" "$room/program.c" "$room/prefix/lib/libshfl.a" -lpthread -o "$room/static" || exit 1
 [ "$("$room/static")" = 400000 ] || complain "the document's program, static"
 
-for name in posix arguments storm counts records; do
+tests=(posix arguments times lives counts policies)
+for name in "${tests[@]}" sleeps storm records; do
     "$cc" -std=gnu11 -O2 -g -Wall -Wextra -Werror "$top/tests/libshfl/$name.c" "${words[@]}" -o "$room/$name" || exit 1
 done
-run "calls" "$room/posix"
-run "arguments" "$room/arguments"
-run "counts" "$room/counts"
+if command -v c++ >/dev/null; then
+    c++ -std=c++17 -O2 -g -Wall -Wextra -Werror "$top/tests/libshfl/locks.cpp" "${words[@]}" -o "$room/locks" || exit 1
+    tests+=(locks)
+fi
+# with three seats, where threads end
+seats() { [ "$1" != lives ] || echo SHFL_THREADS=3; }
+for form in rw rw-park; do
+    for name in "${tests[@]}" sleeps records; do run "$name, $form" env SHFL_FORM="$form" $(seats "$name") "$room/$name"; done
+done
 run "storm" "$room/storm" 16 "$rounds" 120
 run "storm" "$room/storm" 64 "$((rounds / 4))" 120
 run "storm in a small arena" env SHFL_LOCKS=8 SHFL_THREADS=66 "$room/storm" 64 100 120
 run "storm in another form" env SHFL_FORM=rw-park SHFL_LIMIT=2 "$room/storm" 16 "$((rounds / 4))" 120
-if command -v c++ >/dev/null; then
-    c++ -std=c++17 -O2 -g -Wall -Wextra -Werror "$top/tests/libshfl/locks.cpp" "${words[@]}" -o "$room/locks" && run "C++" "$room/locks" || failed=1
-fi
 
 # an arena that is too small, and one that can't be
 "$cc" -std=gnu11 -O2 -Wall -Wextra -Werror "$top/tests/libshfl/room.c" "${words[@]}" -o "$room/room" || exit 1
@@ -74,18 +97,23 @@ for form in rw rw-park; do run "growth, records, $form" env SHFL_FORM="$form" SH
 run "growth, storm" env SHFL_LOCKS=1 SHFL_THREADS=70 "$room/storm" 64 "$((rounds / 4))" 120
 
 # unmodified programs, by themselves and under the preload library
-shown="$(nm -D --defined-only "$room/prefix/lib/libshfl_preload.so" | awk '$3 !~ /^(__)?pthread_(mutex|rwlock|cond)_/')"
-[ -z "$shown" ] || complain "libshfl_preload.so shows other names: $shown"
-nm -D --undefined-only "$room/prefix/lib/libshfl_preload.so" | grep -E 'pthread_(mutex|rwlock|cond)_|alloc' && complain "libshfl_preload.so calls libc's locks or heap"
-for name in pthreads conditions errors; do "$cc" -std=gnu11 -O2 -g -Wall -Wextra -Werror "$top/tests/libshfl/$name.c" -pthread -o "$room/$name" || exit 1; done
-"$cc" -std=gnu11 -O2 -fno-builtin -Wall -Wextra -Werror -shared -fPIC "$top/tests/libshfl/heap.c" -pthread -o "$room/heap.so" || exit 1
 preload="$room/prefix/lib/libshfl_preload.so"
+# what glibc has of them, but for the making of a lock and for what only mutexes have that are libc's
+names_of() { nm -D --defined-only "$1" | sed -n 's/^[^ ]* [A-Z] \([^@]*\).*/\1/p' | sort -u; }
+names_of "$(ldd "$preload" | awk '$1 ~ /^libc\.so/ { print $3 }')" | grep -E '^(__)?pthread_(mutex|rwlock|cond)_' | grep -vE '_(init|consistent|consistent_np|getprioceiling|setprioceiling)$' >"$room/names"
+names_of "$preload" | diff "$room/names" - >&2 || complain "libshfl_preload.so has other names than glibc"
+nm -D --undefined-only "$preload" | grep -E 'pthread_(mutex|rwlock|cond)_|alloc' && complain "libshfl_preload.so calls libc's locks or heap"
+for name in pthreads libcs conditions errors; do "$cc" -std=gnu11 -O2 -g -Wall -Wextra -Werror "$top/tests/libshfl/$name.c" -pthread -o "$room/$name" || exit 1; done
+"$cc" -std=gnu11 -O2 -fno-builtin -Wall -Wextra -Werror -shared -fPIC "$top/tests/libshfl/heap.c" -pthread -o "$room/heap.so" || exit 1
 run "libc's locks" "$room/pthreads"
 run "libc's errors" "$room/errors"
+run "libc's own" "$room/libcs"
 run "libc's condition variables" "$room/conditions" "$((rounds / 8))"
 run "preloaded locks" env LD_PRELOAD="$preload" "$room/pthreads" preloaded
 run "preloaded errors" env LD_PRELOAD="$preload" "$room/errors" preloaded
+run "libc's own, preloaded" env LD_PRELOAD="$preload" "$room/libcs" preloaded
 run "preloaded condition variables" env LD_PRELOAD="$preload" "$room/conditions" "$((rounds / 8))" preloaded
+for name in pthreads libcs errors "conditions $((rounds / 8))"; do run "preloaded, rw-park" env SHFL_FORM=rw-park LD_PRELOAD="$preload" "$room/"$name preloaded; done
 run "preloaded with a malloc that takes a mutex" env LD_PRELOAD="$room/heap.so:$preload" "$room/pthreads" preloaded
 if command -v c++ >/dev/null; then
     c++ -std=c++17 -O2 -Wall -Wextra -Werror "$top/tests/libshfl/standard.cpp" -pthread -o "$room/standard" && run "libc's locks in C++" "$room/standard" &&
@@ -96,17 +124,22 @@ run "preloaded with an arena for each lock" env SHFL_LOCKS=1 SHFL_THREADS=128 SH
 run "preloaded with an arena for each lock" env SHFL_LOCKS=1 SHFL_THREADS=128 SHFL_ARENAS=256 LD_PRELOAD="$preload" "$room/conditions" "$((rounds / 8))" preloaded
 run "preloaded with four seats" env SHFL_THREADS=4 LD_PRELOAD="$preload" "$room/pthreads" preloaded
 
-# misuse ends a program of the checked build with a message
+# misuse ends a program of the checked build with its message and the lock's address, and a right one runs there as anywhere
 "$cc" -std=gnu11 -O2 -Wall -Wextra -Werror "$top/tests/libshfl/misuse.c" "${words[@]}" -o "$room/misuse" || exit 1
-for what in unlocks twice destroys ends; do
-    { LD_LIBRARY_PATH="$room/prefixchecked/lib" "$room/misuse" "$what" >"$room/got" 2>&1; } 2>/dev/null
-    [ $? -eq 134 ] && grep -q '^libshfl: .*0x' "$room/got" || complain "misuse, $what: $(cat "$room/got")"
-    "$room/misuse" "$what" >/dev/null 2>&1 || complain "misuse outside the checked build, $what"
+for what in $("$room/misuse"); do
+    { LD_LIBRARY_PATH="$room/prefixchecked/lib" "$room/misuse" "$what" >"$room/due" 2>"$room/got"; } 2>/dev/null
+    [ $? -eq 134 ] && cmp -s "$room/due" "$room/got" || complain "misuse, $what: $(cat "$room/got"), and due is $(cat "$room/due")"
+    "$room/misuse" "$what" >/dev/null 2>"$room/got" && [ ! -s "$room/got" ] || complain "misuse outside the checked build, $what: $(cat "$room/got")"
 done
+echo "tests/libshfl.sh: misuse: $("$room/misuse" | wc -l) calls are answered, and end a program of the checked build"
+for name in times policies "storm 16 $((rounds / 4)) 120"; do run "checked build" env LD_LIBRARY_PATH="$room/prefixchecked/lib" "$room/"$name; done
 
 if command -v valgrind >/dev/null; then
-    run "valgrind on the calls" valgrind -q --error-exitcode=9 --fair-sched=yes "$room/posix"
-    run "valgrind on a storm" valgrind -q --error-exitcode=9 --fair-sched=yes "$room/storm" 4 50 250
+    memcheck=(valgrind -q --error-exitcode=9 --fair-sched=yes --leak-check=full --show-leak-kinds=definite --errors-for-leak-kinds=definite)
+    for name in "${tests[@]}" records; do run "valgrind on $name" env $(seats "$name") "${memcheck[@]}" "$room/$name"; done
+    run "valgrind on a storm" "${memcheck[@]}" "$room/storm" 4 50 250
+    run "valgrind on locks of a further arena" env SHFL_LOCKS=1 SHFL_THREADS=16 "${memcheck[@]}" "$room/growth" further
+    run "valgrind on preloaded errors" env LD_PRELOAD="$preload" "${memcheck[@]}" "$room/errors" preloaded
 fi
 # programs without a race and with one, under those who look for races
 ANNOTATED=1 CFLAGS="-O1 -g" "$top/libshfl/install" "$room/prefixraces" >"$room/got" 2>&1 || complain "install for those who look for races: $(tail -n 5 "$room/got")"
@@ -134,13 +167,19 @@ if command -v valgrind >/dev/null && [ -e /usr/include/valgrind/helgrind.h ]; th
 fi
 export LD_LIBRARY_PATH="$room/prefix/lib"
 
-CFLAGS="-O1 -g -fsanitize=address,undefined" "$top/libshfl/install" "$room/prefixsan" >"$room/got" 2>&1 || complain "install with checks: $(tail -n 5 "$room/got")"
-for name in posix arguments storm counts; do
-    "$cc" -std=gnu11 -O1 -g -fsanitize=address,undefined -I "$room/prefixsan/include" "$top/tests/libshfl/$name.c" -L "$room/prefixsan/lib" \
-        -lshfl -pthread -o "$room/$name.san" || exit 1
-done
-run "checked by gcc" env LD_LIBRARY_PATH="$room/prefixsan/lib" "$room/posix.san"
-run "checked by gcc" env LD_LIBRARY_PATH="$room/prefixsan/lib" "$room/arguments.san"
-run "checked by gcc" env LD_LIBRARY_PATH="$room/prefixsan/lib" "$room/counts.san"
-run "checked by gcc" env LD_LIBRARY_PATH="$room/prefixsan/lib" "$room/storm.san" 16 "$((rounds / 4))" 120
+# gcc's checks end a program at the first fault that they find; the preload library has those that need no memory of their own
+checks=(-O1 -g -fsanitize=address,undefined -fno-sanitize-recover=all)
+CFLAGS="${checks[*]}" "$top/libshfl/install" "$room/prefixsan" >"$room/got" 2>&1 || complain "install with checks: $(tail -n 5 "$room/got")"
+checked() {
+    local name="$1" compiler=("$cc" -std=gnu11)
+    [ "$name" != locks ] || compiler=(c++ -std=c++17)
+    "${compiler[@]}" "${checks[@]}" -I "$room/prefixsan/include" "$top/tests/libshfl/$name".c* -L "$room/prefixsan/lib" -lshfl -pthread -o "$room/$name.san" || exit 1
+    run "checked by gcc, $name" env LD_LIBRARY_PATH="$room/prefixsan/lib" $(seats "$name") "${@:3}" "$room/$name.san" $2
+}
+for name in "${tests[@]}" records; do checked "$name" ''; done
+checked storm "16 $((rounds / 4)) 120"
+checked growth further SHFL_LOCKS=1 SHFL_THREADS=16
+checked growth bounded SHFL_LOCKS=3 SHFL_ARENAS=2 SHFL_THREADS=8
+CFLAGS="-O1 -g -fsanitize=undefined -fno-sanitize-recover=all" "$top/libshfl/install" "$room/prefixub" >"$room/got" 2>&1 || complain "install with checks: $(tail -n 5 "$room/got")"
+for name in pthreads libcs errors "conditions $((rounds / 8))"; do run "checked by gcc, preloaded" env LD_PRELOAD="$room/prefixub/lib/libshfl_preload.so" "$room/"$name preloaded; done
 exit "$failed"

@@ -86,7 +86,7 @@ refuse_threads() {
 }
 
 good() {
-    if [ "$1" = /dev/null ]; then cmp -s "$got/out" "$got/whole"; else "$top/tests/judge-${2/shards/replay}.sh" "$1" "$got/out"; fi
+    if [ "$1" = /dev/null ]; then cmp -s "$got/out" "$got/whole"; else "$top/tests/judge.sh" "${2/shards/replay}" "$1" "$got/out"; fi
 }
 
 cd "$top/examples" || exit 1

@@ -50,9 +50,11 @@ static bool refuses(const uint64_t *attrs, struct shfl_pass *passes) {
                 is_refused(NULL, 2, SHFL_RW, 1024, passes, 2) && is_refused(attrs, 2, SHFL_RW, 1024, NULL, 2);
     if (!well || !shfl_open(attrs, 1, SHFL_RW, 1, passes, 1) || shfl_open(attrs, 2, SHFL_RW, 1, passes, 2)) return false;
     static const uint8_t no[16] = {0xb7, 0, 0, 0, 0, 0, 0, 0, 0x95};
-    well = shfl_attach(passes, 0, no, 16, NULL, 0).fault == 254 && shfl_attach(passes, 3, no, 16, NULL, 0).fault == 254 &&
-           shfl_attach(passes, 1, NULL, 16, no, 16).fault == 254 && shfl_attach(passes, 1, no, 16, NULL, 16).fault == 254 &&
-           shfl_attach(passes, 1, no, 16, NULL, 0).fault == 0 && shfl_attach(passes, 2, NULL, 0, NULL, 0).fault == 0;
+    well = shfl_attach(passes, 0, no, 16, NULL, 0).fault == SHFL_FAULT_ARGUMENT && shfl_attach(passes, 3, no, 16, NULL, 0).fault == SHFL_FAULT_ARGUMENT &&
+           shfl_attach(passes, 1, NULL, 16, no, 16).fault == SHFL_FAULT_ARGUMENT && shfl_attach(passes, 1, no, 16, NULL, 16).fault == SHFL_FAULT_ARGUMENT &&
+           shfl_attach(passes, 1, no, 8, NULL, 0).fault == SHFL_FAULT_LEAVES && shfl_attach(passes, 1, no, 16, no, 9).fault == SHFL_FAULT_LENGTH &&
+           shfl_attach(passes, SHFL_PROFILE_BASE, no, 16, NULL, 0).fault == SHFL_FAULT_NONE &&
+           shfl_attach(passes, SHFL_PROFILE_EXTENDED, NULL, 0, NULL, 0).fault == SHFL_FAULT_NONE;
     shfl_close(passes);
     return well && in_use == 0;
 }

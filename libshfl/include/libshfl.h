@@ -9,13 +9,18 @@
 #define LIBSHFL_H
 #include <stddef.h>
 #include <stdint.h>
+#include <sys/types.h> /* clockid_t, under each standard */
 #include <time.h>
+
+struct timespec;
 
 #ifdef __cplusplus
 extern "C" {
 #endif
 
+#ifndef SHFL_VERSION
 #define SHFL_VERSION 100 /* 1.0 */
+#endif
 
 /* The words are the library's. A lock isn't copied, and stays where it is while it is in use. */
 typedef struct shfl_mutex { uint32_t number, class_of, words[2]; } shfl_mutex_t;
@@ -65,13 +70,15 @@ int shfl_cond_timedwait(shfl_cond_t *cond, shfl_mutex_t *mutex, const struct tim
 int shfl_cond_clockwait(shfl_cond_t *cond, shfl_mutex_t *mutex, clockid_t clock, const struct timespec *deadline);
 int shfl_cond_signal(shfl_cond_t *cond);
 int shfl_cond_broadcast(shfl_cond_t *cond);
-int shfl_cond_destroy(shfl_cond_t *cond); /* EBUSY: somebody waits */
+int shfl_cond_destroy(shfl_cond_t *cond); /* EBUSY: somebody waits who wasn't woken. Those who were may still be about to leave */
 
 /* What policies see of this thread: three numbers of 16 bits, 0 at first. Its socket is the system's, as it stood at this call or at the
  * thread's first. EBUSY: it is called from within a call. */
 int shfl_thread_attr(uint16_t prio, uint16_t class_of, uint16_t kind);
 
 /* The profiles of programs, the two that a policy has, and what one may be refused for. */
+#ifndef SHFL_HAS_FAULTS
+#define SHFL_HAS_FAULTS
 enum shfl_profile { SHFL_PROFILE_BASE = 1, SHFL_PROFILE_EXTENDED = 2 };
 enum shfl_hook { SHFL_HOOK_SHOULD, SHFL_HOOK_SKIP };
 enum shfl_fault_code {
@@ -90,13 +97,14 @@ enum shfl_fault_code {
     SHFL_FAULT_LOAD, /* outside the context, not aligned, or from a number */
     SHFL_FAULT_NO_MEMORY = 255
 };
+#endif
 
 /* Why a policy isn't attached: the first fault of the first bad program, at a slot, and of the two about values of a register there. */
 struct shfl_fault { uint32_t slot; uint8_t fault, hook, reg; };
 
 /* The policy of a class from now on, in place of the one before, also for threads that wait: the bytes of two programs of a profile,
  * of which either may be null and 0 bytes long, and then answers no. EINVAL: no such class or profile, or a program is refused, and
- * then `fault`, unless null, says for what. Threads that take a lock of a class with a policy queue after one attempt. */
+ * then `fault`, unless null, says for what; ENOMEM. Threads that take a lock of a class with a policy queue after one attempt. */
 int shfl_class_policy(unsigned class_of, unsigned profile, const uint8_t *should, size_t should_length, const uint8_t *skip,
                       size_t skip_length, struct shfl_fault *fault);
 int shfl_class_detach(unsigned class_of); /* the class has no policy from now on */

@@ -58,8 +58,13 @@ static inline bool shfl_is_ours(uint32_t *word) {
 static inline bool shfl_is_time(const struct timespec *t) { return t && t->tv_nsec >= 0 && t->tv_nsec <= 999999999; }
 static inline bool shfl_is_clock(clockid_t clock) { return clock == CLOCK_MONOTONIC || clock == CLOCK_REALTIME; }
 
-/* The name under which glibc's own libraries called it. */
-#define ALSO(name) extern __typeof__(name) __##name __attribute__((alias(#name), copy(name)))
+/* The name under which glibc's own libraries called it; gcc wants to hear that it is the same in all else. */
+#if __has_attribute(copy)
+#define COPIED(name) , copy(name)
+#else
+#define COPIED(name)
+#endif
+#define ALSO(name) extern __typeof__(name) __##name __attribute__((alias(#name) COPIED(name)))
 
 /* mutex.c, for cond.c: whether a mutex is libc's, which libc's condition variables can wait with; and how who waited has it again. */
 bool shfl_is_libcs_mutex(pthread_mutex_t *m);

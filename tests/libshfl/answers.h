@@ -1,6 +1,8 @@
-/* What the tests of pthread's calls share: a call's answer, and times. */
+/* What the tests share: a call's answer, in another thread too, and times. */
 #ifndef ANSWERS_H
 #define ANSWERS_H
+#include <pthread.h>
+#include <stdint.h>
 #include <stdio.h>
 #include <stdlib.h>
 #include <string.h>
@@ -11,6 +13,15 @@ static inline void is(const char *call, const char *file, int line, int told, in
     if (told == wanted) return;
     fprintf(stderr, "%s, line %d: %s is %d (%s), not %d\n", file, line, call, told, strerror(told), wanted);
     exit(1);
+}
+
+/* Runs a function in another thread, and answers what it returns. */
+static inline int beside(void *(*run)(void *), void *with) {
+    pthread_t thread;
+    void *told;
+    IS(pthread_create(&thread, NULL, run, with), 0);
+    IS(pthread_join(thread, &told), 0);
+    return (int)(intptr_t)told;
 }
 
 static inline double now(clockid_t clock) {

@@ -11,14 +11,6 @@
 static bool preloaded;
 static const struct timespec over = {1, 0}, before = {-1, 0}, bad = {0, 1000000000}, worse = {0, -1};
 
-static int beside(void *(*run)(void *), void *with) {
-    pthread_t thread;
-    void *told;
-    IS(pthread_create(&thread, NULL, run, with), 0);
-    IS(pthread_join(thread, &told), 0);
-    return (int)(intptr_t)told;
-}
-
 static void *other_turn(void *m) { return (void *)(intptr_t)(pthread_mutex_trylock(m) || pthread_mutex_unlock(m)); }
 static void *other_try(void *m) { return (void *)(intptr_t)pthread_mutex_trylock(m); }
 static void *other_unlock(void *m) { return (void *)(intptr_t)pthread_mutex_unlock(m); }
@@ -234,6 +226,43 @@ static void conditions(void) {
     IS(pthread_cond_destroy(&cond), 0);
 }
 
+static pthread_mutex_t gate = PTHREAD_MUTEX_INITIALIZER, again = PTHREAD_RECURSIVE_MUTEX_INITIALIZER_NP;
+static pthread_rwlock_t shared = PTHREAD_RWLOCK_INITIALIZER;
+static bool came, came_through;
+
+/* One that is to be cancelled, from its beginning on, waits for locks, and goes on each time. */
+static void *is_cancelled_later(void *at) {
+    struct timespec soon = in_ms(CLOCK_REALTIME, 20);
+    IS(pthread_cancel(pthread_self()), 0);
+    __atomic_store_n(&came, true, __ATOMIC_SEQ_CST);
+    IS(pthread_mutex_lock(&gate), 0);
+    IS(pthread_mutex_timedlock(&again, &soon), ETIMEDOUT);
+    IS(pthread_mutex_lock(&again), 0);
+    IS(pthread_rwlock_rdlock(&shared) || pthread_rwlock_unlock(&shared) || pthread_rwlock_wrlock(&shared) || pthread_rwlock_unlock(&shared), 0);
+    IS(pthread_mutex_unlock(&again) || pthread_mutex_unlock(&gate), 0);
+    came_through = true;
+    pthread_testcancel();
+    return at;
+}
+
+/* No lock is a point of cancellation. */
+static void cancellation(void) {
+    pthread_t thread;
+    void *told;
+    IS(pthread_mutex_lock(&gate) || pthread_mutex_lock(&again) || pthread_rwlock_wrlock(&shared), 0);
+    IS(pthread_create(&thread, NULL, is_cancelled_later, NULL), 0);
+    while (!__atomic_load_n(&came, __ATOMIC_SEQ_CST)) usleep(1000);
+    usleep(50000);
+    IS(pthread_mutex_unlock(&gate), 0);
+    usleep(50000);
+    IS(pthread_mutex_unlock(&again), 0);
+    usleep(50000);
+    IS(pthread_rwlock_unlock(&shared), 0);
+    IS(pthread_join(thread, &told), 0);
+    IS(told == PTHREAD_CANCELED && came_through, 1);
+    IS(pthread_mutex_destroy(&gate) || pthread_mutex_destroy(&again) || pthread_rwlock_destroy(&shared), 0);
+}
+
 int main(int count, char **words) {
     preloaded = count > 1 && strcmp(words[1], "preloaded") == 0;
     alarm(280);
@@ -242,6 +271,7 @@ int main(int count, char **words) {
     normal();
     rwlocks();
     conditions();
+    cancellation();
     puts("each form's errors are as POSIX words them");
     return 0;
 }

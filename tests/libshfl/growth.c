@@ -18,14 +18,6 @@
 static shfl_mutex_t many[MANY];
 static uint8_t has_number[4 * ARENA + 1], counted[MANY];
 
-static int beside(void *(*run)(void *), void *with) {
-    pthread_t thread;
-    void *told;
-    IS(pthread_create(&thread, NULL, run, with), 0);
-    IS(pthread_join(thread, &told), 0);
-    return (int)(intptr_t)told;
-}
-
 static void *other_try(void *m) { return (void *)(intptr_t)shfl_mutex_trylock(m); }
 static void *other_unlock(void *m) { return (void *)(intptr_t)shfl_mutex_unlock(m); }
 static void *other_destroy(void *m) { return (void *)(intptr_t)shfl_mutex_destroy(m); }

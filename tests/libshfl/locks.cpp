@@ -3,6 +3,7 @@
 #include <cstdlib>
 #include <libshfl.hpp>
 #include <thread>
+#include <type_traits>
 #include <vector>
 
 #define MUST(fact)                                                                    \
@@ -74,6 +75,69 @@ static void conditions() {
     other.join();
 }
 
+template <class Lock> constexpr bool is_a_lock = sizeof(Lock) == 16 && !std::is_copy_constructible_v<Lock> && !std::is_copy_assignable_v<Lock>;
+static_assert(is_a_lock<shfl::mutex> && is_a_lock<shfl::timed_mutex> && is_a_lock<shfl::shared_mutex> && is_a_lock<shfl::condition_variable>);
+
+// What another thread is answered.
+template <class Call> static bool beside(Call call) {
+    bool told = false;
+    std::thread([&] { told = call(); }).join();
+    return told;
+}
+
+static void tries() {
+    shfl::shared_mutex lock(3);
+    std::shared_lock reads(lock, std::try_to_lock);
+    MUST(reads.owns_lock() && beside([&] { return !lock.try_lock(); }));
+    MUST(beside([&] { return lock.try_lock_shared() && (lock.unlock_shared(), true); }));
+    reads.unlock();
+    std::unique_lock writes(lock, std::try_to_lock);
+    MUST(writes.owns_lock() && beside([&] { return !lock.try_lock_shared() && !lock.try_lock(); }));
+    struct shfl_stat it;
+    MUST(shfl_stat(lock.native_handle(), &it) == 0 && it.taken == 3 && it.contended == 3);
+}
+
+// One waits with each kind of condition variable, until one is notified.
+template <class Condition> static void is_notified() {
+    shfl::timed_mutex m;
+    Condition changed;
+    int turn = 0;
+    std::thread other([&] {
+        std::unique_lock held(m);
+        MUST(changed.wait_for(held, 60s, [&] { return turn == 1; }));
+        turn = 2;
+        changed.notify_one();
+    });
+    std::unique_lock held(m);
+    turn = 1;
+    changed.notify_one();
+    MUST(changed.wait_until(held, std::chrono::system_clock::now() + 60s, [&] { return turn == 2; }));
+    held.unlock();
+    other.join();
+}
+
+// Ends with its memory as soon as who waits was notified, and has yet to leave.
+static void ends_at_once() {
+    for (int r = 0; r < 50; r++) {
+        shfl::mutex m;
+        bool waits = false, may_go = false;
+        auto *changed = new shfl::condition_variable;
+        std::thread other([&] {
+            std::unique_lock held(m);
+            waits = true;
+            changed->wait(held, [&] { return may_go; });
+        });
+        while (!may_go) {
+            std::lock_guard held(m);
+            if (!waits) continue;
+            may_go = true;
+            changed->notify_all();
+            delete changed;
+        }
+        other.join();
+    }
+}
+
 static void errors() {
     shfl::mutex m;
     m.lock();
@@ -96,6 +160,10 @@ int main() {
     counts();
     times();
     conditions();
+    tries();
+    is_notified<shfl::condition_variable>();
+    is_notified<std::condition_variable_any>();
+    ends_at_once();
     errors();
     std::puts("the classes work with the standard's guards");
 }

@@ -5,33 +5,8 @@
 #include <stdio.h>
 #include <stdlib.h>
 #include <string.h>
-#include <sys/wait.h>
 #include <unistd.h>
-
-#define IS(call, wanted) is(#call, __LINE__, (call), (wanted))
-static void is(const char *call, int line, int told, int wanted) {
-    if (told == wanted) return;
-    fprintf(stderr, "posix.c, line %d: %s is %d (%s), not %d\n", line, call, told, strerror(told), wanted);
-    exit(1);
-}
-
-static struct timespec in_ms(clockid_t clock, long ms) {
-    struct timespec t;
-    clock_gettime(clock, &t);
-    t.tv_sec += ms / 1000;
-    t.tv_nsec += ms % 1000 * 1000000;
-    if (t.tv_nsec >= 1000000000) t.tv_sec++, t.tv_nsec -= 1000000000;
-    return t;
-}
-
-/* Runs a function in another thread, and answers what it returns. */
-static int beside(void *(*run)(void *), void *with) {
-    pthread_t thread;
-    void *told;
-    IS(pthread_create(&thread, NULL, run, with), 0);
-    IS(pthread_join(thread, &told), 0);
-    return (int)(intptr_t)told;
-}
+#include "answers.h"
 
 #define CALL(name, call, type) static void *name(void *at) { type *it = at; return (void *)(intptr_t)(call); }
 CALL(other_try, shfl_mutex_trylock(it), shfl_mutex_t)
@@ -271,22 +246,6 @@ static void classes(void) {
     IS(beside(own_attributes, NULL), 0);
 }
 
-/* The child of a fork may use locks that were free, and has those that its thread had. */
-static void forks(void) {
-    static shfl_mutex_t was_free, was_held;
-    int status;
-    IS(shfl_mutex_lock(&was_held), 0);
-    pid_t child = fork();
-    if (child == 0) {
-        IS(shfl_mutex_lock(&was_free), 0);
-        IS(shfl_mutex_unlock(&was_free), 0);
-        _exit(shfl_mutex_unlock(&was_held));
-    }
-    IS(waitpid(child, &status, 0) == child, 1);
-    IS(status, 0);
-    IS(shfl_mutex_unlock(&was_held), 0);
-}
-
 int main(void) {
     mutexes();
     rwlocks();
@@ -294,7 +253,6 @@ int main(void) {
     conditions();
     signals();
     classes();
-    forks();
     puts("each call, and each error, is as documented");
     return 0;
 }

@@ -1,4 +1,5 @@
-/* Programs for those who look for races: `races none` has none, in mutexes, locks for readers and writers, condition variables, tries and deadlines;
+/* Programs for those who look for races: `races none` has none, in mutexes, locks for readers and writers, condition variables, tries and deadlines, counts
+ * that are read and policies that are replaced meanwhile;
  * `races mutex`, `races reader` and `races handover` have one each, whatever the threads' times. */
 #include <errno.h>
 #include <libshfl.h>
@@ -49,6 +50,19 @@ static void *takes(void *at) {
     return NULL;
 }
 
+/* Meanwhile reads counts, and gives the locks' class policies. */
+static void *asks(void *none) {
+    static const uint8_t yes[16] = {0xb7, 0, 0, 0, 1, 0, 0, 0, 0x95};
+    struct shfl_stat it;
+    struct shfl_class_stat of;
+    for (int r = 0; r < ROUNDS; r++) {
+        must(shfl_class_policy(0, SHFL_PROFILE_BASE, yes, sizeof yes, NULL, 0, NULL), 0);
+        must(shfl_stat(&mutex, &it) || shfl_stat(&shared, &it) || shfl_class_stat(0, &of), 0);
+        must(of.attached == 1 && of.version > 0, 1);
+    }
+    return none;
+}
+
 /* A block of memory that one thread fills and another frees. */
 static void *gives(void *none) {
     long *block = malloc(sizeof *block);
@@ -57,6 +71,7 @@ static void *gives(void *none) {
     message = block;
     must(shfl_cond_signal(&filled), 0);
     must(shfl_mutex_unlock(&mutex), 0);
+    must(shfl_cond_broadcast(&filled), 0); /* as well without the mutex */
     return none;
 }
 
@@ -109,10 +124,11 @@ int main(int count, char **words) {
     if (strcmp(what, "handover") == 0) return run(gives_and_writes, takes_own, 2), 0;
     if (strcmp(what, "none") != 0) return 2;
     run(takes, takes, THREADS);
+    run(takes, asks, THREADS);
     run(gives, gets, 2);
-    must(counts[0] == THREADS * ROUNDS && counts[1] == THREADS * ((ROUNDS + 7) / 8), 1);
+    must(counts[0] == 3 * THREADS * ROUNDS / 2 && counts[1] == 3 * THREADS * ((ROUNDS + 7) / 8) / 2, 1);
     must(shfl_mutex_destroy(&mutex), 0);
-    must(shfl_rwlock_destroy(&shared), 0);
+    must(shfl_rwlock_destroy(&shared) || shfl_cond_destroy(&filled), 0);
     puts("no race");
     return 0;
 }

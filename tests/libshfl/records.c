@@ -1,4 +1,4 @@
-/* What a record at the control socket has of a lock, in the first arena and in further ones: records, with SHFL_LOCKS=1, so that each lock after the
+/* What a record at the control socket has of a lock, in the first arena and in further ones: records; and with SHFL_LOCKS=1, so that each lock after the
  * first has an arena of its own. The program asks itself. Its events are what its two threads did at that lock, in that order, and nothing of the
  * other locks'; and what is counted stays exact. */
 #include <errno.h>
@@ -133,15 +133,24 @@ static void use_shared(void) {
     end(record, "fRfWf", "mmmmm");
 }
 
+/* Where nothing is asked for there are as many locks and threads as the document says. */
+static void usual_numbers(void) {
+    if (getenv("SHFL_LOCKS") || getenv("SHFL_THREADS")) return;
+    ask("shfl 1 hello\n");
+    if (!strstr(reply, " of 65536\n") || !strstr(reply, " of 4096\n") || !strstr(reply, "\nlimit 1024\n")) fail("the usual numbers");
+}
+
 int main(void) {
     if (!mkdtemp(folder) || setenv("SHFL_CONTROL", folder, 1)) return 2;
     use_mutex(&first, 0, 0);
     use_mutex(&further, 1, UINT32_MAX);
     use_shared();
+    usual_numbers();
     IS(shfl_mutex_destroy(&further), 0);
     char name[sizeof folder + 32];
     snprintf(name, sizeof name, "%s/shfl-%ld", folder, (long)getpid());
     unlink(name);
     if (rmdir(folder)) perror(folder);
+    puts("a record has what happened at its lock");
     return 0;
 }

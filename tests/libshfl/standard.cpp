@@ -62,7 +62,7 @@ static void deadlines() {
     must(!told.wait_for(lock, 20ms, [] { return false; }), "wait_for");
     must(!told.wait_until(lock, std::chrono::system_clock::now() + 20ms, [] { return false; }), "wait_until");
     auto took = steady::now() - begin;
-    must(took >= 119ms && took < 10s, "the deadlines");
+    must(took >= 119ms && took < 4s, "the deadlines");
 }
 
 int main() {

@@ -117,6 +117,15 @@ static void run(void *(*first)(void *), void *(*second)(void *)) {
     free(all);
 }
 
+/* Nobody uses them any more, so each is free, and ends. */
+static void end_all(void) {
+    struct timespec over = {1, 0};
+    must(shfl_rwlock_tryrdlock(&shared) || shfl_rwlock_unlock(&shared) || shfl_rwlock_destroy(&shared), "the end of a lock for readers and writers");
+    for (int k = 0; k < LOCKS; k++) must(shfl_mutex_trylock(&mutexes[k]) || shfl_mutex_unlock(&mutexes[k]) || shfl_mutex_destroy(&mutexes[k]), "the end of a mutex");
+    must(shfl_mutex_timedlock(&gate, &over) || shfl_mutex_unlock(&gate) || shfl_mutex_destroy(&gate), "the end of the gate");
+    must(shfl_cond_destroy(&filled) || shfl_cond_destroy(&emptied), "the end of a condition variable");
+}
+
 int main(int count, char **words) {
     threads = count > 1 ? atoi(words[1]) : 16;
     rounds = count > 2 ? atoi(words[2]) : 5000;
@@ -125,6 +134,7 @@ int main(int count, char **words) {
     must(shfl_rwlock_init(&shared, 1), "init");
     run(take, take);
     run(produce, consume);
+    end_all();
     long sum = 0;
     for (int k = 0; k < LOCKS; k++) sum += counts[k];
     long wanted = (long)threads * rounds, half = (long)(threads / 2) * rounds;

@@ -18,7 +18,8 @@ const PLAIN: Attr = Attr {
 
 // Adds a number to the value of a mutex.
 fn add<Rt: Wait>(rt: &Rt, seat: &mut MutexSeat<u64>, lock: u32, more: u64) -> bool
-    ensures { result ≡ true → seat.new ≡ seat.old }
+    ensures { result ≡ true
+        → (seat.new.arena ≡ seat.old.arena) × (seat.new.held ≡ seat.old.held) }
 {
     let Ok(value) = seat.take(rt, lock, &mut Never) else {
         return false;

@@ -2,6 +2,10 @@
 #![tactic(auto)]
 
 #[cfg(test)]
+mod attrs;
+#[cfg(test)]
 mod cell;
 #[cfg(test)]
 mod copies;
+#[cfg(test)]
+mod register;

@@ -2,8 +2,9 @@
 ghost use Rattle.std.specs.Prelude.{IfOk};
 ghost use Rattle.syncord_pool.specs.Runs.{MayRun, IsRunOf};
 
+use crate::outcomes::{Outcome, bytes_of, sink};
 use std::alloc::Global;
-use std::test::Fail;
+use std::process::Abort;
 use syn_outer::{SureSink, SureSource};
 use syncord_pool::{PoolManner, PoolRun, run_pool};
 use trace_text::{NoMemory, Trace};
@@ -34,25 +35,25 @@ const ATTACHED: &str =
 const BAD_ATTACH: &str =
     "syncord-trace 1\nworker 0 0 0 0\npolicy none - -\ncalls\n0 attach none\n1 attach none\n";
 
+// A function that may abort can't hand on another one.
+fn given_up(alloc: Global, bytes: Vec<u8>, out: &mut SureSink, err: &mut SureSink) -> u8 {
+    let mut src = SureSource::new(bytes);
+    run_pool::<Unpooled, _, _, _, _>(&gives_up, alloc, &mut src, out, err)
+}
+
+fn pooled(rt: &impl Abort, alloc: Global, input: &str) -> Outcome {
+    let mut out = sink(rt, alloc, 100);
+    let mut err = sink(rt, alloc, 100);
+    let bytes = bytes_of(rt, alloc, input.as_bytes());
+    let status = given_up(alloc, bytes, &mut out, &mut err);
+    Outcome { status, out, err }
+}
+
 #[test]
-fn bad_lines_are_told(rt: HostRuntime) -> Result<(), Fail> {
+fn bad_lines_are_told(rt: HostRuntime) {
     let alloc = rt.alloc();
-    let cases = [
-        ("", 1, "syncord: line 1: fault 2\n"),
-        (ATTACHED, 1, "syncord: line 6: fault 17\n"),
-        (BAD_ATTACH, 1, "syncord: line 6: fault 11\n"),
-        (TWO_MAKES, 5, ""),
-    ];
-    for (input, status, message) in cases {
-        let mut src = SureSource::new(Vec::from_slice(alloc, input.as_bytes())?);
-        let mut out = SureSink::open(alloc, 100).ok().ok_or("memory")?;
-        let mut err = SureSink::open(alloc, 100).ok().ok_or("memory")?;
-        let answer = run_pool::<Unpooled, _, _, _, _>(
-            &gives_up, alloc, &mut src, &mut out, &mut err,
-        );
-        assert_eq!(&rt; answer, status);
-        assert_eq!(&rt; out.bytes(), b"".as_slice());
-        assert_eq!(&rt; err.bytes(), message.as_bytes());
-    }
-    Ok(())
+    pooled(&rt, alloc, "").refuses(&rt, 1, "syncord: line 1: fault 2\n");
+    pooled(&rt, alloc, ATTACHED).refuses(&rt, 1, "syncord: line 6: fault 17\n");
+    pooled(&rt, alloc, BAD_ATTACH).refuses(&rt, 1, "syncord: line 6: fault 11\n");
+    pooled(&rt, alloc, TWO_MAKES).refuses(&rt, 5, "");
 }

@@ -1,19 +1,14 @@
 //! Traces that are run by threads with a lock for each directory.
 use crate::checks::same;
 use crate::threads::{
-    ATTACHED, FOUR_WORKERS, GROUPED, is_by, is_grouped, is_of_four, nobody_gave_up, queue_gate,
+    ATTACHED, FOUR_WORKERS, GROUPED, Way, groups, is_by, is_of_four, nobody_gave_up, run_text,
     wait_for,
 };
 use dir_table::DirReply;
-use shfl_workers::{Outcome, run_shards};
-use std::alloc::Global;
-use std::process::Abort;
 use std::sync::Wait;
 use std::sync::atomic::{AtomicU64, Ordering};
 use std::test::Fail;
-use std::thread::Threads;
 use syn_outer::{Gate, OpenGate, Point};
-use trace_text::read_trace;
 
 /// Two workers, each of whom makes a name in a directory of its own.
 pub(crate) const TWO_SHARDS: &[u8] =
@@ -50,21 +45,10 @@ impl Gate for ShardGate {
     }
 }
 
-// Runs the trace that the text is, behind the gate.
-fn run_text<G: Gate + Sync, R: Threads + Wait + Sync>(
-    rt: &R,
-    alloc: Global,
-    text: &[u8],
-    gate: &G,
-) -> Result<Outcome, Fail> {
-    let trace = read_trace(alloc, text)?;
-    Ok(run_shards(rt, alloc, &trace, gate)?)
-}
-
 #[test]
 fn two_shards(rt: HostRuntime) -> Result<(), Fail> {
     let gate = shard_gate();
-    let outcome = run_text(&rt, rt.alloc(), TWO_SHARDS, &gate)?;
+    let outcome = run_text(&rt, rt.alloc(), TWO_SHARDS, Way::Shards, &gate)?;
     nobody_gave_up(&rt, &gate.gave_up);
     is_by(&rt, rt.alloc(), &outcome, &[1, 0]);
     same(&rt, &outcome.dir.count(0), &DirReply::Number(1));
@@ -74,31 +58,20 @@ fn two_shards(rt: HostRuntime) -> Result<(), Fail> {
 
 #[test]
 fn four_workers_share_shards(rt: HostRuntime) -> Result<(), Fail> {
-    is_of_four(&rt, &run_text(&rt, rt.alloc(), FOUR_WORKERS, &OpenGate)?);
-    Ok(())
-}
-
-/// The run of the trace that the text is: nobody gives up, and the queue is grouped.
-fn groups<R: Abort + Threads + Wait + Sync>(
-    rt: &R,
-    alloc: Global,
-    text: &[u8],
-    published: &[(u64, u32)],
-) -> Result<(), Fail> {
-    let gate = queue_gate(5);
-    let outcome = run_text(rt, alloc, text, &gate)?;
-    nobody_gave_up(rt, &gate.gave_up);
-    is_grouped(rt, alloc, &outcome, published);
+    is_of_four(
+        &rt,
+        &run_text(&rt, rt.alloc(), FOUR_WORKERS, Way::Shards, &OpenGate)?,
+    );
     Ok(())
 }
 
 // Each worker's own attributes are asked about, and the policy is the trace's.
 #[test]
 fn grouped_order_in_a_shard(rt: HostRuntime) -> Result<(), Fail> {
-    groups(&rt, rt.alloc(), GROUPED, &[])
+    groups(&rt, rt.alloc(), GROUPED, Way::Shards, &[])
 }
 
 #[test]
 fn attached_order_in_a_shard(rt: HostRuntime) -> Result<(), Fail> {
-    groups(&rt, rt.alloc(), ATTACHED, &[(1, 1)])
+    groups(&rt, rt.alloc(), ATTACHED, Way::Shards, &[(1, 1)])
 }

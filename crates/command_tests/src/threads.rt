@@ -2,7 +2,7 @@
 use crate::checks::same;
 use dir_table::{Dir, DirReply};
 use rw_cell::RwCell;
-use shfl_workers::{Outcome, do_writes_prevail, run_on, run_trace};
+use shfl_workers::{Outcome, do_writes_prevail, run_on, run_shards, run_trace};
 use std::alloc::Global;
 use std::process::Abort;
 use std::sync::Wait;
@@ -24,6 +24,10 @@ pub(crate) const GROUPED: &[u8] =
 /// The same with that policy attached by worker 0, before its call.
 pub(crate) const ATTACHED: &[u8] =
     b"syncord-trace 1\nworker 0 0 0 0\nworker 0 0 0 0\nworker 1 0 0 0\nworker 0 0 0 0\nworker 1 0 0 0\npolicy none - -\npolicy socket 61120000000000006111040000000000b7000000010000001d21010000000000b7000000000000009500000000000000 -\ncalls\n0 attach socket\n0 make 0 a\n1 make 0 b\n2 make 0 c\n3 make 0 d\n4 make 0 e\n";
+
+/// The same with the other policy attached behind that call.
+const REPLACED: &[u8] =
+    b"syncord-trace 1\nworker 0 0 0 0\nworker 0 0 0 0\nworker 1 0 0 0\nworker 0 0 0 0\nworker 1 0 0 0\npolicy none - -\npolicy socket 61120000000000006111040000000000b7000000010000001d21010000000000b7000000000000009500000000000000 -\ncalls\n0 attach socket\n0 make 0 a\n0 attach none\n1 make 0 b\n2 make 0 c\n3 make 0 d\n4 make 0 e\n";
 
 /// Four workers on two sockets, each of whom makes a name, looks for it and counts; worker 3 drops what it made.
 pub(crate) const FOUR_WORKERS: &[u8] =
@@ -111,26 +115,32 @@ pub(crate) fn queue_gate(workers: usize) -> QueueGate {
     }
 }
 
-// Runs the trace that the text is, behind the gate.
-fn run_text<G: Gate + Sync, R: Threads + Wait + Sync>(
-    rt: &R,
-    alloc: Global,
-    text: &[u8],
-    gate: &G,
-) -> Result<Outcome, Fail> {
-    let trace = read_trace(alloc, text)?;
-    Ok(run_trace(rt, alloc, &trace, gate)?)
+/// By what a test runs a trace.
+#[derive(Clone, Copy)]
+pub(crate) enum Way {
+    /// One directory where writes prevail, else a copy for each worker.
+    ByCalls,
+    /// A copy of the directory for each worker, whatever the calls are.
+    Copies,
+    /// A lock for each directory.
+    Shards,
 }
 
-// The same with a copy of the directory for each worker, whatever the calls are.
-fn run_text_on_copies<G: Gate + Sync, R: Threads + Wait + Sync>(
+/// Runs the trace that the text is in this way, behind the gate.
+pub(crate) fn run_text<G: Gate + Sync, R: Threads + Wait + Sync>(
     rt: &R,
     alloc: Global,
     text: &[u8],
+    way: Way,
     gate: &G,
 ) -> Result<Outcome, Fail> {
     let trace = read_trace(alloc, text)?;
-    Ok(run_on::<RwCell<Dir>, G, R>(rt, alloc, &trace, gate)?)
+    let outcome = match way {
+        Way::ByCalls => run_trace(rt, alloc, &trace, gate)?,
+        Way::Copies => run_on::<RwCell<Dir>, G, R>(rt, alloc, &trace, gate)?,
+        Way::Shards => run_shards(rt, alloc, &trace, gate)?,
+    };
+    Ok(outcome)
 }
 
 /// Nobody gave up.
@@ -148,39 +158,21 @@ pub(crate) fn is_by(rt: &impl Abort, alloc: Global, outcome: &Outcome, due: &[u3
 }
 
 /// The queue was ordered by the policy that prefers the own socket, and so much was published.
-pub(crate) fn is_grouped(
-    rt: &impl Abort,
-    alloc: Global,
-    outcome: &Outcome,
-    published: &[(u64, u32)],
-) {
+fn is_grouped(rt: &impl Abort, alloc: Global, outcome: &Outcome, published: &[(u64, u32)]) {
     is_by(rt, alloc, outcome, &[0, 1, 3, 2, 4]);
     same(rt, &outcome.versions.rows(), &published);
 }
 
 /// The run of the trace that the text is: nobody gives up, and the queue is grouped.
-fn groups<R: Abort + Threads + Wait + Sync>(
+pub(crate) fn groups<R: Abort + Threads + Wait + Sync>(
     rt: &R,
     alloc: Global,
     text: &[u8],
+    way: Way,
     published: &[(u64, u32)],
 ) -> Result<(), Fail> {
     let gate = queue_gate(5);
-    let outcome = run_text(rt, alloc, text, &gate)?;
-    nobody_gave_up(rt, &gate.gave_up);
-    is_grouped(rt, alloc, &outcome, published);
-    Ok(())
-}
-
-/// The same with a copy of the directory for each worker.
-fn groups_on_copies<R: Abort + Threads + Wait + Sync>(
-    rt: &R,
-    alloc: Global,
-    text: &[u8],
-    published: &[(u64, u32)],
-) -> Result<(), Fail> {
-    let gate = queue_gate(5);
-    let outcome = run_text_on_copies(rt, alloc, text, &gate)?;
+    let outcome = run_text(rt, alloc, text, way, &gate)?;
     nobody_gave_up(rt, &gate.gave_up);
     is_grouped(rt, alloc, &outcome, published);
     Ok(())
@@ -188,22 +180,28 @@ fn groups_on_copies<R: Abort + Threads + Wait + Sync>(
 
 #[test]
 fn grouped_order(rt: HostRuntime) -> Result<(), Fail> {
-    groups(&rt, rt.alloc(), GROUPED, &[])
+    groups(&rt, rt.alloc(), GROUPED, Way::ByCalls, &[])
 }
 
 #[test]
 fn attached_order(rt: HostRuntime) -> Result<(), Fail> {
-    groups(&rt, rt.alloc(), ATTACHED, &[(1, 1)])
+    groups(&rt, rt.alloc(), ATTACHED, Way::ByCalls, &[(1, 1)])
 }
 
 #[test]
 fn grouped_order_on_copies(rt: HostRuntime) -> Result<(), Fail> {
-    groups_on_copies(&rt, rt.alloc(), GROUPED, &[])
+    groups(&rt, rt.alloc(), GROUPED, Way::Copies, &[])
 }
 
 #[test]
 fn attached_order_on_copies(rt: HostRuntime) -> Result<(), Fail> {
-    groups_on_copies(&rt, rt.alloc(), ATTACHED, &[(1, 1)])
+    groups(&rt, rt.alloc(), ATTACHED, Way::Copies, &[(1, 1)])
+}
+
+// The waiters queue while worker 0 makes its call, before it attaches the second policy.
+#[test]
+fn a_policy_is_attached_behind_the_call_before_it(rt: HostRuntime) -> Result<(), Fail> {
+    groups(&rt, rt.alloc(), REPLACED, Way::ByCalls, &[(1, 1), (2, 0)])
 }
 
 /// Lets each of two workers hold the lock until the other one holds it too.
@@ -240,7 +238,7 @@ impl Gate for ReadersGate {
 #[test]
 fn readers_hold_at_once(rt: HostRuntime) -> Result<(), Fail> {
     let gate = readers_gate();
-    let outcome = run_text(&rt, rt.alloc(), TWO_READERS, &gate)?;
+    let outcome = run_text(&rt, rt.alloc(), TWO_READERS, Way::ByCalls, &gate)?;
     nobody_gave_up(&rt, &gate.gave_up);
     same(&rt, &outcome.history.len(), &2);
     same(&rt, &outcome.dir.count(0), &DirReply::Number(0));
@@ -269,13 +267,18 @@ pub(crate) fn is_of_four(rt: &impl Abort, outcome: &Outcome) {
 
 #[test]
 fn four_workers_have_copies(rt: HostRuntime) -> Result<(), Fail> {
-    let outcome = run_text_on_copies(&rt, rt.alloc(), FOUR_WORKERS, &OpenGate)?;
-    is_of_four(&rt, &outcome);
+    is_of_four(
+        &rt,
+        &run_text(&rt, rt.alloc(), FOUR_WORKERS, Way::Copies, &OpenGate)?,
+    );
     Ok(())
 }
 
 #[test]
 fn four_workers_share_a_directory(rt: HostRuntime) -> Result<(), Fail> {
-    is_of_four(&rt, &run_text(&rt, rt.alloc(), FOUR_WORKERS, &OpenGate)?);
+    is_of_four(
+        &rt,
+        &run_text(&rt, rt.alloc(), FOUR_WORKERS, Way::ByCalls, &OpenGate)?,
+    );
     Ok(())
 }

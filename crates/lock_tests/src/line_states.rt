@@ -1,11 +1,13 @@
-ghost use Rattle.std.specs.Prelude.{◌≡◌, ◌<◌, List, [], Some, None, true, if◌then◌else◌, length};
+//! States of the line, the steps that change them, and the policies that need no program.
+mod recorder;
+
+ghost use Rattle.std.specs.Prelude.{◌≡◌, ◌<◌, true, length};
 ghost use Rattle.shfl_line.specs.Steps.{NamesBelow};
 
 use crate::checks::{holds, same};
 use shfl_line::*;
 use std::alloc::Global;
 use std::process::Abort;
-use std::sync::Wait;
 
 // Whether each pass that the event names is one of so many.
 fn is_named(event: &LineEvent, passes: usize) -> bool
@@ -224,88 +226,6 @@ fn policies_answer_by_the_socket_or_always_alike(rt: HostRuntime) {
     holds(&rt, Always.should(&here, &there, 1));
     holds(&rt, !Never.should(&here, &here, 1));
     holds(&rt, !Always.skip(&here, 1));
-}
-
-// A policy that keeps what it is told, until it has no memory for more.
-#[derive(Drop)]
-struct Recorder {
-    told: Vec<Told>,
-    lost: bool,
-    asking: bool,
-}
-
-impl Chooser for Recorder {
-    ghost home = { λ _. [] };
-
-    ghost in_round = { λ s. s.asking };
-
-    ghost told = { λ s. if s.lost then None else Some s.told.items };
-
-    fn may_move_waiters(&self) -> bool {
-        true
-    }
-
-    fn begin<Rt: Wait>(&mut self, _rt: &Rt) {
-        self.asking = true;
-        match self.told.push(Told::Begun) {
-            Ok(()) => {}
-            Err(_) => self.lost = true,
-        }
-    }
-
-    fn skip(&mut self, anchor: &Attr, batch: u16) -> bool {
-        let answer = Answer {
-            anchor: *anchor,
-            waiter: None,
-            batch,
-            answer: false,
-        };
-        match self.told.push(Told::Answered(answer)) {
-            Ok(()) => {}
-            Err(_) => self.lost = true,
-        }
-        false
-    }
-
-    fn should(&mut self, anchor: &Attr, waiter: &Attr, batch: u16) -> bool {
-        let answer = Answer {
-            anchor: *anchor,
-            waiter: Some(*waiter),
-            batch,
-            answer: true,
-        };
-        match self.told.push(Told::Answered(answer)) {
-            Ok(()) => {}
-            Err(_) => self.lost = true,
-        }
-        true
-    }
-
-    fn end(&mut self) {
-        self.asking = false;
-        match self.told.push(Told::Ended) {
-            Ok(()) => {}
-            Err(_) => self.lost = true,
-        }
-    }
-}
-
-#[test]
-fn a_policy_tells_its_round(rt: HostRuntime) {
-    let mut policy = Recorder {
-        told: Vec::new(rt.alloc()),
-        lost: false,
-        asking: false,
-    };
-    let here = Attr::unpack(1);
-    policy.begin(&rt);
-    holds(&rt, !policy.skip(&here, 1));
-    holds(&rt, policy.should(&here, &here, 2));
-    policy.end();
-    same(&rt, &policy.told.len(), &4);
-    holds(&rt, matches!(policy.told.first(), Some(Told::Begun)));
-    holds(&rt, matches!(policy.told.last(), Some(Told::Ended)));
-    holds(&rt, !policy.asking);
 }
 
 #[test]

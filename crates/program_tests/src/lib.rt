@@ -10,6 +10,8 @@ mod checks;
 #[cfg(test)]
 mod instructions;
 #[cfg(test)]
+mod places;
+#[cfg(test)]
 mod policies;
 #[cfg(test)]
 mod running;

@@ -1,23 +1,25 @@
 //! Registries, their publishers and their users.
-ghost use Rattle.std.specs.Prelude.{◌≡◌, ◌+◌, ◌<◌, ◌≤◌, All, length, vec_len, IfOk, true};
+mod staying;
+mod threads;
+
+ghost use Rattle.std.specs.Prelude.{◌≡◌, ◌+◌, ◌<◌, ◌≤◌, length, vec_len, IfOk};
 ghost use Rattle.policy_versions.specs.Models.{IsClosed, next_version};
 
 use crate::checks::{holds, same};
 use bpf_isa::Profile;
-use policy_versions::{
-    Lost, Place, Publisher, Registry, Right, SlotTurns, Turns, Using, VersionPass,
-};
+use policy_versions::{Lost, Place, Publisher, Registry, Right, SlotTurns, Turns, VersionPass};
 use shfl_policy::{Policy, PolicySource, load};
 use std::alloc::Global;
 use std::fmt::Write;
 use std::process::Abort;
 use std::sync::Wait;
 use std::test::Fail;
-use std::thread;
-use std::thread::Threads;
+
+/// The word of an instance that one user has entered.
+const ONE_USER: u64 = 5;
 
 /// Policies without programs, named by their places.
-fn policies(alloc: Global, count: u32) -> Result<Vec<Policy>, Fail>
+pub(crate) fn policies(alloc: Global, count: u32) -> Result<Vec<Policy>, Fail>
     ensures { IfOk result (λ v. vec_len v ≡ count) }
 {
     let mut policies = Vec::new(alloc);
@@ -73,7 +75,7 @@ fn publish_up_to(
     }
 }
 
-/// One refused publication: the word that was found has readers, and the instance comes back.
+/// One refused publication: the word that was found has a reader, and the instance comes back.
 fn refuse_one(rt: &impl Abort, alloc: Global, registry: &Registry, publisher: &mut Publisher)
     requires registry { publisher.old.registry ≡ registry.now }
     requires declared { 0 < length registry.now.declared }
@@ -84,8 +86,8 @@ fn refuse_one(rt: &impl Abort, alloc: Global, registry: &Registry, publisher: &m
     match publisher.try_publish(registry, &mut SlotTurns::new(), instance) {
         Ok(_) => panic!(rt; "published over a user"),
         Err(refused) => {
-            holds(rt, refused.word % 0x1_0000_0000 / 4 > 0);
-            same(rt, &refused.loaded, &refused.word);
+            same(rt, &refused.word, &ONE_USER);
+            same(rt, &refused.loaded, &ONE_USER);
             same(rt, &refused.instance.which(), &0);
         }
     }
@@ -123,154 +125,6 @@ fn a_place_in_use_is_not_filled(rt: HostRuntime) -> Result<(), Fail> {
         panic!(rt; "no pass")
     };
     one_user_stays(&rt, alloc, &registry, &mut publisher, &mut pass);
-    Ok(())
-}
-
-/// A user that stays in its version.
-struct Staying<'r> {
-    pass: VersionPass,
-    held: Using<'r>,
-    ghost opened: { pass.is_open ≡ true },
-    ghost of_table: { pass.registry.table ≡ held.registry.table },
-    ghost of_user: { held.user ≡ pass.user },
-}
-
-/// The user leaves.
-fn leave_one(registry: &Registry, staying: Staying<'_>)
-    requires { staying.held.registry ≡ registry.now }
-{
-    let Staying { mut pass, held } = staying;
-    pass.leave(registry, held);
-}
-
-/// Every version is in use. The place of the next one is free only once the user of the eighth last has left; the user of the last one
-/// stays in its version all the while.
-fn leave_in_order(
-    rt: &impl Abort,
-    alloc: Global,
-    registry: &Registry,
-    publisher: &mut Publisher,
-    first: Staying<'_>,
-    fourth: Staying<'_>,
-    last: Staying<'_>,
-)
-    requires registry { publisher.old.registry ≡ registry.now }
-    requires declared { 0 < length registry.now.declared }
-    requires rows { length publisher.old.rows ≡ 7 }
-    requires first { first.held.registry ≡ registry.now }
-    requires fourth { fourth.held.registry ≡ registry.now }
-    requires last { last.held.registry ≡ registry.now }
-    ensures registry { publisher.new.registry ≡ registry.now }
-{
-    refuse_one(rt, alloc, registry, publisher);
-    leave_one(registry, fourth);
-    refuse_one(rt, alloc, registry, publisher);
-    leave_one(registry, first);
-    publish_one(rt, alloc, registry, publisher, 8);
-    same(rt, &last.held.version(), &7);
-    same(rt, &last.held.policy(registry).name(), &0);
-    leave_one(registry, last);
-}
-
-/// The next user enters the current version.
-fn stay<'r, R: Abort + Wait>(
-    rt: &R,
-    registry: &'r Registry,
-    passes: &mut Vec<VersionPass>,
-    version: u64,
-) -> Staying<'r>
-    requires { All (IsClosed registry.now) passes.old.items }
-    ensures passes { All (IsClosed registry.now) passes.new.items }
-    ensures held { result.held.registry ≡ registry.now }
-{
-    let Some(mut pass) = passes.pop() else {
-        panic!(rt; "no pass")
-    };
-    let held = pass.enter(rt, registry);
-    same(rt, &held.version(), &version);
-    Staying { pass, held }
-}
-
-/// The users of versions 4 to 7 enter, with those of the first and the fourth version inside.
-fn hold_last<R: Abort + Wait>(
-    rt: &R,
-    alloc: Global,
-    registry: &Registry,
-    publisher: &mut Publisher,
-    passes: &mut Vec<VersionPass>,
-    first: Staying<'_>,
-    fourth: Staying<'_>,
-)
-    requires registry { publisher.old.registry ≡ registry.now }
-    requires declared { 0 < length registry.now.declared }
-    requires rows { length publisher.old.rows ≡ 4 }
-    requires passes { All (IsClosed registry.now) passes.old.items }
-    requires first { first.held.registry ≡ registry.now }
-    requires fourth { fourth.held.registry ≡ registry.now }
-{
-    let fifth = stay(rt, registry, passes, 4);
-    publish_one(rt, alloc, registry, publisher, 5);
-    let sixth = stay(rt, registry, passes, 5);
-    publish_one(rt, alloc, registry, publisher, 6);
-    let seventh = stay(rt, registry, passes, 6);
-    publish_one(rt, alloc, registry, publisher, 7);
-    let last = stay(rt, registry, passes, 7);
-    leave_in_order(rt, alloc, registry, publisher, first, fourth, last);
-    leave_one(registry, fifth);
-    leave_one(registry, sixth);
-    leave_one(registry, seventh);
-}
-
-/// The users of the first four versions enter.
-fn hold_each<R: Abort + Wait>(
-    rt: &R,
-    alloc: Global,
-    registry: &Registry,
-    publisher: &mut Publisher,
-    passes: &mut Vec<VersionPass>,
-)
-    requires registry { publisher.old.registry ≡ registry.now }
-    requires declared { 0 < length registry.now.declared }
-    requires rows { length publisher.old.rows ≡ 0 }
-    requires passes { All (IsClosed registry.now) passes.old.items }
-{
-    let first = stay(rt, registry, passes, 0);
-    publish_one(rt, alloc, registry, publisher, 1);
-    let second = stay(rt, registry, passes, 1);
-    publish_one(rt, alloc, registry, publisher, 2);
-    let third = stay(rt, registry, passes, 2);
-    publish_one(rt, alloc, registry, publisher, 3);
-    let fourth = stay(rt, registry, passes, 3);
-    publish_one(rt, alloc, registry, publisher, 4);
-    hold_last(rt, alloc, registry, publisher, passes, first, fourth);
-    leave_one(registry, second);
-    leave_one(registry, third);
-}
-
-#[test]
-fn all_eight_places_in_use(rt: HostRuntime) -> Result<(), Fail> {
-    let alloc = rt.alloc();
-    let (registry, mut publisher, mut passes) = Registry::open(alloc, policies(alloc, 1)?, 8)?;
-    hold_each(&rt, alloc, &registry, &mut publisher, &mut passes);
-    Ok(())
-}
-
-/// Two users are in one version at once.
-fn share_one<R: Abort + Wait>(rt: &R, registry: &Registry, passes: &mut Vec<VersionPass>)
-    requires { All (IsClosed registry.now) passes.old.items }
-{
-    let one = stay(rt, registry, passes, 0);
-    let other = stay(rt, registry, passes, 0);
-    same(rt, &one.held.which(), &other.held.which());
-    leave_one(registry, other);
-    leave_one(registry, one);
-}
-
-#[test]
-fn two_users_are_in_one_version(rt: HostRuntime) -> Result<(), Fail> {
-    let alloc = rt.alloc();
-    let (registry, _publisher, mut passes) = Registry::open(alloc, policies(alloc, 1)?, 2)?;
-    share_one(&rt, &registry, &mut passes);
     Ok(())
 }
 
@@ -361,84 +215,5 @@ fn a_use_names_its_version_and_its_policy(rt: HostRuntime) -> Result<(), Fail> {
         panic!(rt; "no pass")
     };
     follow(&rt, alloc, &registry, &mut publisher, &mut pass);
-    Ok(())
-}
-
-/// Enters and leaves many times: each policy is the declared one that the use names, and versions never fall.
-fn use_often<R: Abort + Wait>(rt: &R, registry: &Registry, pass: &mut VersionPass)
-    requires { IsClosed registry.now pass.old }
-{
-    let mut last = 0;
-    for _ in 0..2_000u32 {
-        let held = pass.enter(rt, registry);
-        let version = held.version();
-        let name = held.policy(registry).name();
-        let which = held.which();
-        pass.leave(registry, held);
-        holds(rt, version >= last);
-        same(rt, &name, &which);
-        last = version;
-    }
-}
-
-fn run_users<R: Abort + Threads + Wait + Sync>(
-    rt: &R,
-    registry: &Registry,
-    passes: &mut [VersionPass],
-)
-    requires { All (IsClosed registry.now) passes.old }
-{
-    let job = |_user: usize, pass: &mut VersionPass|
-        requires { IsClosed registry.now pass.now }
-    {
-        use_often(rt, registry, pass);
-    };
-    thread::for_each_mut(rt, passes, 4, &job);
-}
-
-/// All 4,096 publications, of the two policies in turn.
-fn publish_all<R: Abort + Wait>(
-    rt: &R,
-    alloc: Global,
-    registry: &Registry,
-    publisher: &mut Publisher,
-)
-    requires registry { publisher.old.registry ≡ registry.now }
-    requires declared { length registry.now.declared ≡ 2 }
-    requires rows { length publisher.old.rows ≡ 0 }
-{
-    for version in 1..4_097u64 {
-        let instance = registry
-            .instance(alloc, (version % 2) as u32)
-            .expect(rt, "memory");
-        let published = publisher.publish(rt, registry, instance);
-        same(rt, &published, &version);
-    }
-}
-
-fn run_all<R: Abort + Threads + Wait + Sync>(
-    rt: &R,
-    alloc: Global,
-    registry: &Registry,
-    publisher: &mut Publisher,
-    passes: &mut [VersionPass],
-)
-    requires registry { publisher.old.registry ≡ registry.now }
-    requires declared { length registry.now.declared ≡ 2 }
-    requires rows { length publisher.old.rows ≡ 0 }
-    requires passes { All (IsClosed registry.now) passes.old }
-{
-    let mut users = ||
-        requires { All (IsClosed registry.now) passes.now }
-    { run_users(rt, registry, passes) };
-    let mut publications = || publish_all(rt, alloc, registry, publisher);
-    let _ = thread::join_mut(rt, &mut users, &mut publications);
-}
-
-#[test]
-fn versions_never_fall(rt: HostRuntime) -> Result<(), Fail> {
-    let alloc = rt.alloc();
-    let (registry, mut publisher, mut passes) = Registry::open(alloc, policies(alloc, 2)?, 4)?;
-    run_all(&rt, alloc, &registry, &mut publisher, passes.as_mut_slice());
     Ok(())
 }

@@ -1,12 +1,12 @@
 -- What a seat that waits has asked, and its chooser was told.
-use Rattle.std.proofs.Common.{◌≡◌, ℕ, Bool, true, false, List, ◌++◌, flat_map, refl, sym, ap, ◌∙◌, subst, ⊎_elim, Result, Ok, Err, is_ok, not, IfOk, IfErr}
+use Rattle.std.proofs.Common.{◌≡◌, ℕ, Bool, true, false, List, ◌++◌, flat_map, refl, sym, ap, ◌∙◌, subst, ⊎_elim, not}
 use Rattle.std.specs.Prelude.{Option}
 use Rattle.shfl_line.specs.declared.words.Attr.{Attr}
 use Rattle.shfl_line.specs.declared.choosers.Told.{Told}
 use Rattle.shfl_line.specs.declared.events.Mode.{Mode}
 use Rattle.shfl_line.specs.declared.events.Mode.TheVariants.{Write, Read}
 use Rattle.shfl_line.specs.Policies.{Adds}
-use Rattle.shfl_line.proofs.Rounds.{AsksSoFar, SoFar, asks-first, asks-more, asks-nothing, asks-whole}
+use Rattle.shfl_line.proofs.Rounds.{AsksSoFar, SoFar, asks-first, asks-more, asks-whole}
 use Rattle.shfl_core.specs.declared.phase.Ask.{Ask}
 use Rattle.shfl_core.specs.declared.phase.Ask.TheVariants.{Nothing, Skip, Should}
 use Rattle.shfl_core.specs.declared.phase.PassState.{PassState}
@@ -17,11 +17,11 @@ use Rattle.shfl_core.specs.Waiting.{ask}
 use Rattle.shfl_core.proofs.Rounds.{told-step}
 use Rattle.shfl_laws.proofs.laws.MoveLaws.{resting-is}
 use Rattle.shfl_arena.specs.SeatModels.{SeatModel, entering}
-use Rattle.shfl_arena.specs.SeatSteps.{TakesStep, WinsAttempt, LosesAttempt}
+use Rattle.shfl_arena.specs.SeatSteps.{TakesStep}
 use Rattle.shfl_arena.specs.SeatViews.{decision_on, step_decisions}
-use Rattle.shfl_arena.specs.Waits.{AsksInRounds, WaitsFor, answers_of}
+use Rattle.shfl_arena.specs.Waits.{AsksInRounds, TriedInVain, WaitsFor, answers_of}
 use Rattle.shfl_arena.proofs.Threads.{still-is}
-use Rattle.shfl_arena.proofs.WaitSteps.{waits-begin}
+use Rattle.shfl_arena.proofs.WaitSteps.{waits-after, waits-first}
 
 -- one ask has one answer
 answers-entry : (anchor : Attr) (choice : Bool) (a : Ask) → flat_map (answers_of anchor) (decision_on choice a) ≡ answer_of anchor a choice
@@ -40,19 +40,17 @@ module _ {X : Type 0} (anchor : Attr) where
   abbrev pub AsksMeanwhile : SeatModel X → SeatModel X → Option (List Told) → Option (List Told) → Type 0
   AsksMeanwhile old now told told' = AsksSoFar (answers_of anchor) (is_round now.own.phase) old.decisions now.decisions told told'
 
-  begun : (lock : ℕ) (mode : Mode) (word : ℕ) (old mid new : SeatModel X) (told : Option (List Told)) → LosesAttempt {X = X} lock mode word old mid
+  begun : (lock : ℕ) (mode : Mode) (old mid new : SeatModel X) (told : Option (List Told)) → mid.decisions ≡ old.decisions
       → new ≡ record mid { lock = lock; own = entering mid.own.reg.me mode } → AsksMeanwhile old new told told
-  begun lock mode word old mid new told l e = subst (λ b. AsksSoFar (answers_of anchor) b old.decisions new.decisions told told)
+  begun lock mode old mid new told same e = subst (λ b. AsksSoFar (answers_of anchor) b old.decisions new.decisions told told)
       (sym (ap (λ (z : SeatModel X). is_round z.own.phase) e ∙ entering-out mid.own.reg.me mode))
-      (asks-first (answers_of anchor) old.decisions new.decisions told (ap (λ (z : SeatModel X). z.decisions) e ∙ ap (λ (z : SeatModel X). z.decisions) l.after))
+      (asks-first (answers_of anchor) old.decisions new.decisions told (ap (λ (z : SeatModel X). z.decisions) e ∙ same))
 
-  -- a seat that was refused, and then began to take the lock
-  pub begins-to-wait : {T : Type 0} (lock : ℕ) (mode : Mode) (old mid new : SeatModel X) (told : Option (List Told)) (r : Result T ℕ) (began : Bool) → is_ok r ≡ false
-      → IfErr r (λ word. LosesAttempt {X = X} lock mode word old mid) → began ≡ not (moving mid.own) → (began ≡ true → new ≡ record mid { lock = lock; own = entering mid.own.reg.me mode })
-      → WaitsFor {X = X} lock mode old new × AsksMeanwhile old new told told
-  begins-to-wait lock mode old mid new told (Ok x) began lost l answer after = absurd (cc)
-  begins-to-wait lock mode old mid new told (Err word) began lost l answer after = let e = after (answer ∙ ap (λ (z : SeatModel X). not (moving z.own)) l.after) in
-      (waits-begin lock mode old mid new word l e, begun lock mode word old mid new told l e)
+  -- a seat that tried in vain, and then began to take the lock
+  pub begins-to-wait : (lock : ℕ) (mode : Mode) (attempts : ℕ) (old mid new : SeatModel X) (told : Option (List Told)) (began : Bool) → TriedInVain {X = X} attempts old mid
+      → began ≡ not (moving mid.own) → (began ≡ true → new ≡ record mid { lock = lock; own = entering mid.own.reg.me mode }) → WaitsFor {X = X} lock mode old new × AsksMeanwhile old new told told
+  begins-to-wait lock mode attempts old mid new told began v answer after = let e = after (answer ∙ ap not v.rests) in
+      (waits-after lock mode attempts old mid new v (waits-first lock mode mid new e), begun lock mode old mid new told v.decisions e)
 
   pub asks-step : (old now new : SeatModel X) (choice : Bool) (a b c : Option (List Told)) → AsksMeanwhile old now a b → TakesStep {X = X} now choice new → Adds b c (step_told anchor now.arena.rules now.own choice)
       → AsksMeanwhile old new a c
@@ -66,9 +64,3 @@ module _ {X : Type 0} (anchor : Attr) where
   pub asks-done : (old now : SeatModel X) (a b : Option (List Told)) → moving now.own ≡ false → AsksMeanwhile old now a b → AsksInRounds anchor old.decisions now.decisions a b
   asks-done old now a b still s = asks-whole (answers_of anchor) old.decisions now.decisions a b
       (subst (λ z. AsksSoFar (answers_of anchor) z old.decisions now.decisions a b) (still-out now.own still) s)
-
-  -- a seat whose attempt took the lock asked nothing
-  pub asks-won : {T E : Type 0} (lock : ℕ) (mode : Mode) (old new : SeatModel X) (told : Option (List Told)) (r : Result T E) → is_ok r ≡ true → IfOk r (λ _. WinsAttempt {X = X} lock mode old new)
-      → AsksInRounds anchor old.decisions new.decisions told told
-  asks-won lock mode old new told (Ok x) won a = asks-nothing (answers_of anchor) old.decisions new.decisions told (ap (λ (z : SeatModel X). z.decisions) a.after)
-  asks-won lock mode old new told (Err y) won a = absurd (cc)

@@ -1,5 +1,5 @@
 -- A seat that waits goes on waiting by each step, until it holds the lock.
-use Rattle.std.proofs.Common.{◌≡◌, ◌≢◌, ℕ, ◌==◌, Bool, true, false, cond, List, ◌∷◌, refl, sym, ap, ◌∙◌, subst, ⊎_elim, arith}
+use Rattle.std.proofs.Common.{◌≡◌, ◌≢◌, ◌≤◌, ◌+◌, ℕ, ◌==◌, Bool, true, false, cond, List, ◌∷◌, refl, sym, ap, ◌∙◌, subst, ⊎_elim, arith}
 use Rattle.std.specs.Prelude.{Option, Some, None}
 use Rattle.shfl_line.specs.declared.events.Mode.{Mode}
 use Rattle.shfl_line.specs.declared.events.Mode.TheVariants.{Write, Read}
@@ -17,8 +17,8 @@ use Rattle.shfl_laws.proofs.laws.MoveLaws.{resting-is}
 use Rattle.shfl_arena.specs.Threads.{mode_held, resting}
 use Rattle.shfl_arena.specs.ValueMoves.{writes, MovesValue}
 use Rattle.shfl_arena.specs.SeatModels.{SeatModel, entering}
-use Rattle.shfl_arena.specs.SeatSteps.{TakesStep, WinsAttempt, LosesAttempt}
-use Rattle.shfl_arena.specs.Waits.{WaitsFor}
+use Rattle.shfl_arena.specs.SeatSteps.{TakesStep, WinsAttempt, LosesAttempt, attempt_steps}
+use Rattle.shfl_arena.specs.Waits.{TriedInVain, WaitsFor}
 use Rattle.shfl_arena.proofs.Threads.{still-is}
 use Rattle.shfl_arena.proofs.ValueMoves.{frees-writer}
 
@@ -83,17 +83,17 @@ module _ {X : Type 0} (lock : ℕ) (mode : Mode) (old : SeatModel X) where
   entering-on k Write = (refl, refl, refl)
   entering-on k Read = (refl, refl, refl)
 
-  -- a seat that was refused, and then began to take the lock
-  pub waits-begin : (mid new : SeatModel X) (word : ℕ) → LosesAttempt {X = X} lock mode word old mid → new ≡ record mid { lock = lock; own = entering mid.own.reg.me mode } → WaitsFor {X = X} lock mode old new
-  waits-begin mid new word l e = let p = entering-on mid.own.reg.me mode in record {
-    arena = ap (λ (z : SeatModel X). z.arena) e ∙ ap (λ (z : SeatModel X). z.arena) l.after;
-    number = ap (λ (z : SeatModel X). z.own.reg.me) e ∙ ap (λ (z : SeatModel X). z.own.reg.me) l.after;
+  -- a seat that begins to take the lock
+  pub waits-first : (new : SeatModel X) → new ≡ record old { lock = lock; own = entering old.own.reg.me mode } → WaitsFor {X = X} lock mode old new
+  waits-first new e = let p = entering-on old.own.reg.me mode in record {
+    arena = ap (λ (z : SeatModel X). z.arena) e;
+    number = ap (λ (z : SeatModel X). z.own.reg.me) e;
     lock_is = ap (λ (z : SeatModel X). z.lock) e;
     mode_is = ap (λ (z : SeatModel X). z.own.reg.mode) e;
     goes_on = ap (λ (z : SeatModel X). is_ending z.own.phase) e ∙ p.0;
     here = λ g. absurd (let z : moving new.own ≡ true = ap (λ (z : SeatModel X). moving z.own) e ∙ p.1 in cc);
-    elsewhere = λ i d. ap (λ (z : SeatModel X). mode_held i z.holds) e ∙ ap (λ (z : SeatModel X). mode_held i z.holds) l.after;
-    value = let same : new.values ≡ old.values = ap (λ (z : SeatModel X). z.values) e ∙ ap (λ (z : SeatModel X). z.values) l.after in
+    elsewhere = λ i d. ap (λ (z : SeatModel X). mode_held i z.holds) e;
+    value = let same : new.values ≡ old.values = ap (λ (z : SeatModel X). z.values) e in
         let still : writes new.own ≡ false = ap (λ (z : SeatModel X). writes z.own) e ∙ p.2 in record {
           stays = λ _. same;
           none = λ _. same;
@@ -126,3 +126,38 @@ module _ {X : Type 0} (lock : ℕ) (mode : Mode) (old : SeatModel X) where
 
       else : (l : ℕ) → l ≢ lock → (lock == l) ≡ false
       else l d = grind (arith, nat_tests)
+
+two-steps : (m : Mode) → attempt_steps m ≤ 2
+two-steps Write = omega arith
+two-steps Read = omega arith
+
+module _ {X : Type 0} (lock : ℕ) (mode : Mode) (attempts : ℕ) (old tried new : SeatModel X) (v : TriedInVain {X = X} attempts old tried) where
+  -- one more try in vain
+  pub tried-more : (word : ℕ) → LosesAttempt {X = X} lock mode word tried new → TriedInVain {X = X} (attempts + 1) old new
+  tried-more word l = record {
+    arena = ap (λ (z : SeatModel X). z.arena) l.after ∙ v.arena;
+    number = ap (λ (z : SeatModel X). z.own.reg.me) l.after ∙ v.number;
+    rests = ap (λ (z : SeatModel X). moving z.own) l.after;
+    holds = ap (λ (z : SeatModel X). z.holds) l.after ∙ v.holds;
+    steps = (let a = v.steps in let b : new.steps_taken ≡ tried.steps_taken + attempt_steps mode = ap (λ (z : SeatModel X). z.steps_taken) l.after in let d = two-steps mode in omega arith);
+    decisions = ap (λ (z : SeatModel X). z.decisions) l.after ∙ v.decisions;
+    values = ap (λ (z : SeatModel X). z.values) l.after ∙ v.values;
+  }
+
+  -- what waits after tries in vain waits from before them
+  pub waits-after : WaitsFor {X = X} lock mode tried new → WaitsFor {X = X} lock mode old new
+  waits-after w = record {
+    arena = w.arena ∙ v.arena;
+    number = w.number ∙ v.number;
+    lock_is = w.lock_is;
+    mode_is = w.mode_is;
+    goes_on = w.goes_on;
+    here = w.here;
+    elsewhere = λ l d. w.elsewhere l d ∙ ap (mode_held l) v.holds;
+    value = subst (λ (z : ℕ × List (ℕ × Option X)). MovesValue {V = X} z.0 lock false (writes new.own) z.1 new.values)
+        (λ j. ((ap (λ z. z.table.slots) v.arena) j, v.values j)) w.value;
+  }
+
+  -- a try that took the lock
+  pub tried-won : WinsAttempt {X = X} lock mode tried new → WaitsFor {X = X} lock mode old new × (moving new.own ≡ false)
+  tried-won a = let w = waits-won lock mode tried new a in (waits-after w.0, w.1)

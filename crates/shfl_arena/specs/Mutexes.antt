@@ -22,4 +22,6 @@ pub record Unlocks {X : Type 0} (lock : ℕ) (old new : SeatModel X) : Type 0 wh
   pub rests : moving new.own ≡ false
   pub here : mode_held lock new.holds ≡ None
   pub elsewhere : (l : ℕ) → l ≢ lock → mode_held l new.holds ≡ mode_held l old.holds
+  -- it asked nothing
+  pub decisions : new.decisions ≡ old.decisions
   pub values : new.values ≡ rest old.values

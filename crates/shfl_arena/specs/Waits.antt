@@ -1,5 +1,5 @@
 -- A seat that waits for a lock, and what it asks meanwhile.
-use Rattle.std.specs.Prelude.{◌≡◌, ◌≢◌, ℕ, ◌+◌, false, List, Option, Some, None}
+use Rattle.std.specs.Prelude.{◌≡◌, ◌≢◌, ◌≤◌, ℕ, ◌+◌, ◌*◌, Bool, cond, false, List, Option, Some, None}
 use Rattle.shfl_line.specs.declared.words.Attr.{Attr}
 use Rattle.shfl_line.specs.declared.choosers.Answer.{Answer}
 use Rattle.shfl_line.specs.declared.choosers.Told.{Told}
@@ -9,6 +9,7 @@ use Rattle.shfl_line.specs.Line.{is_write}
 use Rattle.shfl_core.specs.Asking.{answer_of}
 use Rattle.shfl_core.specs.Plan.{moving}
 use Rattle.shfl_laws.specs.Holds.{is_ending}
+use Rattle.shfl_arena.specs.declared.trying.TheConstants.{FEW_ATTEMPTS}
 use Rattle.shfl_arena.specs.declared.view.Decision.{Decision}
 use Rattle.shfl_arena.specs.Threads.{mode_held}
 use Rattle.shfl_arena.specs.SeatModels.{SeatModel}
@@ -21,6 +22,20 @@ answers_of anchor d = answer_of anchor d.ask d.choice
 -- what the seat asked since, the chooser was told, in rounds, and nothing else
 abbrev pub AsksInRounds : Attr → List Decision → List Decision → Option (List Told) → Option (List Told) → Type 0
 AsksInRounds anchor old new told told' = AsksBy (answers_of anchor) old new told told'
+
+-- how many attempts a seat makes at most before it queues, where the chooser may move waiters up or may not
+abbrev pub attempts_before : Bool → ℕ
+attempts_before moves_waiters = cond moves_waiters 1 FEW_ATTEMPTS
+
+-- a seat that tried so often at most to take a lock without queueing, by two steps at most each, and holds what it held
+pub record TriedInVain {X : Type 0} (attempts : ℕ) (old now : SeatModel X) : Type 0 where
+  pub arena : now.arena ≡ old.arena
+  pub number : now.own.reg.me ≡ old.own.reg.me
+  pub rests : moving now.own ≡ false
+  pub holds : now.holds ≡ old.holds
+  pub steps : now.steps_taken ≤ old.steps_taken + attempts * 2
+  pub decisions : now.decisions ≡ old.decisions
+  pub values : now.values ≡ old.values
 
 -- a seat that began to take the lock in a mode, and made some steps since
 pub record WaitsFor {X : Type 0} (lock : ℕ) (mode : Mode) (old now : SeatModel X) : Type 0 where

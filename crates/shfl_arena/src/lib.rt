@@ -15,6 +15,7 @@ mod plays;
 mod seats;
 pub mod shape;
 mod standing;
+mod trying;
 mod values;
 pub mod view;
 mod waiting;
@@ -27,5 +28,6 @@ pub use laws::{
 pub use performing::perform;
 pub use seats::ArenaSeat;
 pub use shape::Shape;
+pub use trying::FEW_ATTEMPTS;
 pub use view::{Decision, ThreadView};
 pub use waiting::{free, wait_for};

@@ -6,6 +6,7 @@ ghost use Rattle.shfl_core.specs.Plan as plan;
 ghost use Rattle.shfl_arena.specs.Mutexes.{Locks, Unlocks};
 ghost use Rattle.shfl_arena.specs.Threads.{mode_held};
 ghost use Rattle.shfl_arena.specs.ValueMoves.{IsOutInFront};
+ghost use Rattle.shfl_arena.specs.Waits.{AsksInRounds};
 
 use crate::arena::Arena;
 use crate::seats::ArenaSeat;
@@ -31,6 +32,8 @@ impl<V: Drop> ArenaSeat<V> {
         requires free { mode_held lock self.old.holds ≡ None }
         ensures home { C.home chooser.new ≡ C.home chooser.old }
         ensures locked { Locks lock self.old self.new }
+        ensures asked { AsksInRounds anchor.now self.old.decisions self.new.decisions
+            (C.told chooser.old) (C.told chooser.new) }
     {
         wait_for(rt, arena, self, lock, Mode::Write, anchor, chooser);
         self.take_value(arena, lock)
@@ -45,6 +48,7 @@ impl<V: Drop> ArenaSeat<V> {
         requires free { mode_held lock self.old.holds ≡ None }
         ensures locked { IfSome result (λ _. Locks lock self.old self.new) }
         ensures rests { plan.moving self.new.own ≡ false }
+        ensures asked { self.new.decisions ≡ self.old.decisions }
         ensures holds { IsNone result → self.new.holds ≡ self.old.holds }
         ensures values { IsNone result → self.new.values ≡ self.old.values }
     {

@@ -28,6 +28,16 @@ const FEWEST_LOOKS: u32 = 16;
 
 const DOUBLINGS: u32 = 4;
 
+/// Whether waiters sleep in the lock's form.
+pub(crate) fn sleeps(form: Form) -> bool {
+    matches!(form, Form::Park | Form::RwPark)
+}
+
+/// Sleeps for so many microseconds, on a word that nobody else knows.
+pub(crate) fn nap<Rt: Wait>(rt: &Rt, micros: u32) {
+    AtomicU64::new(0).park_timeout(rt, 0, Duration::from_micros(u64::from(micros)));
+}
+
 // Lets others go on between two looks, where so many were in vain. Nobody wakes a seat that naps.
 fn look_away<Rt: Wait>(rt: &Rt, may_nap: bool, looks: u32) {
     if looks < LOOKS {
@@ -36,8 +46,7 @@ fn look_away<Rt: Wait>(rt: &Rt, may_nap: bool, looks: u32) {
         thread::yield_now();
     } else {
         let longer = (looks - NAPS).saturating_mul(LONGER).saturating_add(LONGER);
-        let micros = u64::from(longer.min(LONGEST));
-        AtomicU64::new(0).park_timeout(rt, 0, Duration::from_micros(micros));
+        nap(rt, longer.min(LONGEST));
     }
 }
 
@@ -55,7 +64,7 @@ pub(crate) struct Pauses {
 impl Pauses {
     pub(crate) fn new(form: Form) -> Pauses {
         Pauses {
-            sleeps: matches!(form, Form::Park | Form::RwPark),
+            sleeps: sleeps(form),
             looks: 0,
             rounds: 0,
         }

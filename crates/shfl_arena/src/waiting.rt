@@ -14,6 +14,7 @@ use crate::arena::Arena;
 use crate::outcomes::{Outcome, outcome_of};
 use crate::pausing::Pauses;
 use crate::seats::ArenaSeat;
+use crate::trying::{attempts_before, try_first};
 use shfl_core::{Ask, Nap, Phase};
 use shfl_line::{Attr, Chooser, Mode};
 use std::sync::Wait;
@@ -85,10 +86,11 @@ fn keep_disabled<V: Drop>(arena: &Arena<V>, seat: &mut ArenaSeat<V>, lock: u32, 
     }
 }
 
-/// Takes a lock that the seat doesn't hold, in a mode, and waits until it holds the lock and owes no step. It tries once without
-/// queueing, and then queues. The chooser answers what the steps ask: it is opened before a round's first question, and closed after the
-/// round's last step. `anchor` has the attributes of the thread. A step that looked in vain is followed by a pause, and no other but the
-/// last of a round that moved nobody; at the queue's head a look in vain that finds stealing enabled disables it.
+/// Takes a lock that the seat doesn't hold, in a mode, and waits until it holds the lock and owes no step. It tries without queueing, once
+/// where the chooser may move waiters up and else a few times (`FEW_ATTEMPTS`), and then queues; while it tries it asks nothing. The
+/// chooser answers what the steps ask: it is opened before a round's first question, and closed after the round's last step. `anchor`
+/// has the attributes of the thread. A step that looked in vain is followed by a pause, and no other but the last of a round that moved
+/// nobody; at the queue's head a look in vain that finds stealing enabled disables it.
 pub fn wait_for<V: Drop, C: Chooser, Rt: Wait>(
     rt: &Rt,
     arena: &Arena<V>,
@@ -109,7 +111,8 @@ pub fn wait_for<V: Drop, C: Chooser, Rt: Wait>(
     ensures asked { AsksInRounds anchor.now seat.old.decisions seat.new.decisions
         (C.told chooser.old) (C.told chooser.new) }
 {
-    if seat.attempt(arena, lock, mode).is_ok() {
+    let attempts = attempts_before(chooser.may_move_waiters());
+    if try_first(rt, arena, seat, lock, mode, attempts) {
         return;
     }
     let _ = seat.acquire(lock, mode);

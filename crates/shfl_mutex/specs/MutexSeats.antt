@@ -1,6 +1,8 @@
 -- A seat that locks mutexes, as clauses see it.
 use Rattle.std.specs.Prelude.{◌≡◌, ℕ, ◌≤◌, true, false, List, length}
+use Rattle.shfl_line.specs.declared.words.Attr.{Attr}
 use Rattle.shfl_core.specs.Plan.{moving}
+use Rattle.shfl_arena.specs.declared.view.Decision.{Decision}
 use Rattle.shfl_arena.specs.SeatModels.{ArenaId, SeatModel}
 use Rattle.shfl_arena.specs.Threads.{mode_held}
 use Rattle.shfl_mutex.specs.Held.{AreApart, AreBelow, hold_in, is_among, values_out}
@@ -13,6 +15,9 @@ pub record MutexSeatModel : Type 0 where
   -- how many mutexes there are, and how many of them it may lock at the same time
   pub locks : ℕ
   pub most : ℕ
+  -- the thread's attributes, and what it has asked policies at any of them, with the answers
+  pub attr : Attr
+  pub decisions : List Decision
   -- those that it has locked, the one taken last in front
   pub held : List ℕ
 

@@ -73,6 +73,7 @@ impl<T: Drop> Mutexes<T> {
         requires { IsNewAt self.now.id seat }
         ensures ok { IfOk result (λ s. (s.arena ≡ self.now.id)
             × (s.locks ≡ self.now.id.shape.locks) × (s.held ≡ []) × (s.most ≡ most)) }
+        ensures asks { IfOk result (λ s. (s.attr ≡ attr) × (s.decisions ≡ seat.decisions)) }
         ensures err { IfErr result (λ s. s ≡ seat) }
     {
         MutexSeat::new(alloc, &self.arena, self.locks, seat, attr, most)

@@ -1,6 +1,7 @@
 //! A thread's right to lock mutexes.
 ghost use Rattle.std.specs.Prelude.{◌≡◌, ◌↔◌, ◌<◌, ◌≤◌, ◌∷◌, [], IfOk, IfErr, IsOk, IfSome, IsNone, true, false, Some, Err, length};
 ghost use Rattle.shfl_arena.specs.SeatModels.{IsNewAt};
+ghost use Rattle.shfl_arena.specs.Waits.{AsksInRounds};
 ghost use Rattle.shfl_mutex.specs.Held.{is_among};
 ghost use Rattle.shfl_mutex.specs.MutexSeats.{Refuses};
 
@@ -46,6 +47,8 @@ impl<'a, T: Drop> Model for MutexSeat<'a, T> {
       arena = s.arena.now.id;
       locks = s.locks;
       most = s.most;
+      attr = s.attr;
+      decisions = s.seat.decisions;
       held = reverse s.held.items;
     } };
 
@@ -67,6 +70,7 @@ impl<'a, T: Drop> MutexSeat<'a, T> {
         requires locks { locks ≡ arena.now.id.shape.locks }
         ensures ok { IfOk result (λ s. (s.arena ≡ arena.now.id) × (s.locks ≡ locks)
             × (s.held ≡ []) × (s.most ≡ most)) }
+        ensures asks { IfOk result (λ s. (s.attr ≡ attr) × (s.decisions ≡ seat.decisions)) }
         ensures err { IfErr result (λ s. s ≡ seat) }
     {
         let Ok(held) = Vec::with_capacity(alloc, most) else {
@@ -131,8 +135,11 @@ impl<'a, T: Drop> MutexSeat<'a, T> {
     ) -> Result<T, LockError>
         ensures home { C.home chooser.new ≡ C.home chooser.old }
         ensures held { IfOk result (λ _. self.new ≡ record self.old {
+          decisions = self.new.decisions;
           held = lock ∷ self.old.held;
         }) }
+        ensures asked { AsksInRounds self.old.attr self.old.decisions self.new.decisions
+            (C.told chooser.old) (C.told chooser.new) }
         ensures refused { IfErr result (λ e. Refuses self.old lock e) }
         ensures unchanged { IfErr result (λ _. self.new ≡ self.old) }
     {
@@ -194,8 +201,11 @@ impl<'a, T: Drop> MutexSeat<'a, T> {
         ensures home { C.home chooser.new ≡ C.home chooser.old }
         ensures lock { IfOk result (λ g. g.lock ≡ lock) }
         ensures held { IfOk result (λ g. g.seat.now ≡ record self.old {
+          decisions = g.seat.now.decisions;
           held = lock ∷ self.old.held;
         }) }
+        ensures asked { IfOk result (λ g. AsksInRounds self.old.attr self.old.decisions
+            g.seat.now.decisions (C.told chooser.old) (C.told chooser.new)) }
         ensures same_reference { IfOk result (λ g. g.seat.ghost_name ≡ self.entry.ghost_name) }
         ensures refused { IfErr result (λ e. Refuses self.old lock e) }
     {

@@ -1,7 +1,9 @@
 -- A seat that locks values to read and to write them, as clauses see it.
 use Rattle.std.specs.Prelude.{◌≡◌, ℕ, ◌<◌, ◌≤◌, true, false, List, length, None, IsSome}
+use Rattle.shfl_line.specs.declared.words.Attr.{Attr}
 use Rattle.shfl_line.specs.declared.events.Mode.{Mode}
 use Rattle.shfl_core.specs.Plan.{moving, shares}
+use Rattle.shfl_arena.specs.declared.view.Decision.{Decision}
 use Rattle.shfl_arena.specs.SeatModels.{ArenaId, SeatModel}
 use Rattle.shfl_arena.specs.Threads.{mode_held}
 use Rattle.shfl_rwlock.specs.declared.refusals.LockError.{LockError}
@@ -12,6 +14,9 @@ pub record RwSeatModel : Type 0 where
   -- how many locks there are, and how many of them it may have at the same time
   pub locks : ℕ
   pub most : ℕ
+  -- the thread's attributes, and what it has asked policies at any of them, with the answers
+  pub attr : Attr
+  pub decisions : List Decision
   -- those that it has, each with its mode, the one taken last in front
   pub held : List (ℕ × Mode)
 

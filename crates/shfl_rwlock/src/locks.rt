@@ -100,6 +100,7 @@ impl<T: Drop> RwLocks<T> {
         requires { IsNewAt self.now.id seat }
         ensures ok { IfOk result (λ s. (s.locks ≡ self.now.id.shape.locks) × (s.held ≡ [])
             × (s.most ≡ most)) }
+        ensures asks { IfOk result (λ s. (s.attr ≡ attr) × (s.decisions ≡ seat.decisions)) }
         ensures err { IfErr result (λ s. s ≡ seat) }
     {
         RwSeat::new(

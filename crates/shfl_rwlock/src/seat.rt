@@ -2,6 +2,7 @@
 ghost use Rattle.std.specs.Prelude.{◌≡◌, ◌≢◌, ◌<◌, ◌≤◌, ◌∷◌, [], IfOk, IfErr, IfSome, IsNone, true, false, None, length};
 ghost use Rattle.shfl_arena.specs.SeatModels.{IsNewAt};
 ghost use Rattle.shfl_arena.specs.Threads.{mode_held};
+ghost use Rattle.shfl_arena.specs.Waits.{AsksInRounds};
 ghost use Rattle.shfl_core.specs.Plan.{shares};
 ghost use Rattle.shfl_line.specs.declared.events.Mode.{Mode};
 ghost use Rattle.shfl_line.specs.declared.events.Mode.TheVariants.{Read, Write};
@@ -38,6 +39,8 @@ impl<'a, T: Drop> Model for RwSeat<'a, T> {
     ghost view = { λ s. record {
       locks = s.locks;
       most = s.most;
+      attr = s.attr;
+      decisions = s.seat.decisions;
       held = reverse s.held.items;
     } };
 
@@ -75,6 +78,7 @@ impl<'a, T: Drop> RwSeat<'a, T> {
         requires values { length values.now ≡ locks }
         ensures ok { IfOk result (λ s. (s.locks ≡ locks) × (s.held ≡ [])
             × (s.most ≡ most)) }
+        ensures asks { IfOk result (λ s. (s.attr ≡ attr) × (s.decisions ≡ seat.decisions)) }
         ensures err { IfErr result (λ s. s ≡ seat) }
     {
         let Ok(held) = Vec::with_capacity(alloc, most) else {
@@ -128,7 +132,12 @@ impl<'a, T: Drop> RwSeat<'a, T> {
     fn take<C: Chooser, Rt: Wait>(&mut self, rt: &Rt, lock: u32, mode: Mode, chooser: &mut C)
         requires { MayLock self.old lock }
         ensures home { C.home chooser.new ≡ C.home chooser.old }
-        ensures held { self.new ≡ record self.old { held = (lock, mode) ∷ self.old.held } }
+        ensures held { self.new ≡ record self.old {
+          decisions = self.new.decisions;
+          held = (lock, mode) ∷ self.old.held;
+        } }
+        ensures asked { AsksInRounds self.old.attr self.old.decisions self.new.decisions
+            (C.told chooser.old) (C.told chooser.new) }
     {
         let attr = self.attr;
         wait_for(rt, self.arena, &mut self.seat, lock, mode, &attr, chooser);
@@ -172,8 +181,11 @@ impl<'a, T: Drop> RwSeat<'a, T> {
         ensures home { C.home chooser.new ≡ C.home chooser.old }
         ensures lock { IfOk result (λ g. g.hold.lock ≡ lock) }
         ensures held { IfOk result (λ g. g.hold.seat.now ≡ record self.old {
+          decisions = g.hold.seat.now.decisions;
           held = (lock, Read) ∷ self.old.held;
         }) }
+        ensures asked { IfOk result (λ g. AsksInRounds self.old.attr self.old.decisions
+            g.hold.seat.now.decisions (C.told chooser.old) (C.told chooser.new)) }
         ensures same_reference { IfOk result (λ g.
             g.hold.seat.ghost_name ≡ self.entry.ghost_name) }
         ensures allowed { IfOk result (λ _. MayLock self.old lock) }
@@ -200,8 +212,11 @@ impl<'a, T: Drop> RwSeat<'a, T> {
         ensures home { C.home chooser.new ≡ C.home chooser.old }
         ensures lock { IfOk result (λ g. g.hold.lock ≡ lock) }
         ensures held { IfOk result (λ g. g.hold.seat.now ≡ record self.old {
+          decisions = g.hold.seat.now.decisions;
           held = (lock, Write) ∷ self.old.held;
         }) }
+        ensures asked { IfOk result (λ g. AsksInRounds self.old.attr self.old.decisions
+            g.hold.seat.now.decisions (C.told chooser.old) (C.told chooser.new)) }
         ensures same_reference { IfOk result (λ g.
             g.hold.seat.ghost_name ≡ self.entry.ghost_name) }
         ensures allowed { IfOk result (λ _. MayLock self.old lock) }

@@ -12,7 +12,15 @@ mod draws;
 #[cfg(test)]
 mod driven;
 #[cfg(test)]
+mod head;
+#[cfg(test)]
+mod orders;
+#[cfg(test)]
 mod rounds;
+#[cfg(test)]
+mod signs;
+#[cfg(test)]
+mod straight;
 #[cfg(test)]
 mod threads;
 #[cfg(test)]

@@ -4,6 +4,7 @@ ghost use Rattle.shfl_core.specs.Waiting.{MayUse};
 ghost use Rattle.shfl_table.specs.PassModel.{IsIdleAt};
 
 use crate::driven::PLAIN;
+use crate::signs::{await_sign, nap};
 use shfl_line::{Attr, Chooser, Form, Mode, NoMemory};
 use shfl_table::{Pass, Queueing, SharedBoard, free, open, wait_by};
 use std::alloc::Global;
@@ -12,7 +13,6 @@ use std::sync::atomic::{AtomicU64, Ordering};
 use std::test::Fail;
 use std::thread;
 use std::thread::Threads;
-use std::time::Duration;
 use syn_outer::OpenGate;
 
 /// How long the holder stays, and how many rounds the waiters may begin meanwhile.
@@ -62,21 +62,6 @@ impl<'a> Chooser for Counting<'a> {
     }
 
     fn end(&mut self) {}
-}
-
-/// Sleeps for so many microseconds, on a word that nobody else knows.
-fn nap<R: Wait>(rt: &R, micros: u32) {
-    AtomicU64::new(0).park_timeout(rt, 0, Duration::from_micros(u64::from(micros)));
-}
-
-/// Waits until the sign is at least so high, for a while at most.
-fn await_sign<R: Wait>(rt: &R, sign: &AtomicU64, least: u64) {
-    for _ in 0..10_000 {
-        if sign.load(Ordering::SeqCst) >= least {
-            return;
-        }
-        nap(rt, 100);
-    }
 }
 
 /// Holds the lock for long, while the others wait, and counts the rounds that they begin.

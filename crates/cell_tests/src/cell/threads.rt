@@ -2,10 +2,11 @@
 ghost use Rattle.std.specs.Prelude.{◌≡◌, ◌≤◌, ◌<◌, All, length, IfOk, vec_len};
 ghost use Rattle.shfl_cell.specs.Cells.{number, AreInOrder};
 
-use super::register::{Register, call_of, is_whole};
+use crate::attrs::of_four_sockets;
+use crate::register::{Mix, Register, call_of, is_whole};
 use hist_log::Entry;
 use shfl_cell::{CellPass, ShflCell};
-use shfl_line::{Always, Attr, BySocket, Chooser, Form, Never, NoMemory};
+use shfl_line::{Always, BySocket, Chooser, Form, Never, NoMemory};
 use std::alloc::Global;
 use std::sync::Wait;
 use std::test::Fail;
@@ -32,7 +33,13 @@ fn work<C: Chooser, G: Gate, Rt: Wait>(
         if pass.left() == 0 {
             return;
         }
-        let _ = cell.apply(rt, pass, chooser, gate, &call_of(worker, before));
+        let _ = cell.apply(
+            rt,
+            pass,
+            chooser,
+            gate,
+            &call_of(Mix::Writes, worker, before),
+        );
     }
 }
 
@@ -74,16 +81,6 @@ fn close_in_order(
     cell.close(passes)
 }
 
-// A pass of a socket.
-fn of_socket(socket: u16) -> Attr {
-    Attr {
-        socket,
-        prio: 0,
-        class: 0,
-        kind: 0,
-    }
-}
-
 // Whether the history of sixteen passes of four sockets that call in threads is legal and has all calls in order.
 fn runs<C: Chooser + Copy + Sync, R: Threads + Wait + Sync>(
     rt: &R,
@@ -91,24 +88,23 @@ fn runs<C: Chooser + Copy + Sync, R: Threads + Wait + Sync>(
     form: Form,
     chooser: C,
 ) -> Result<bool, NoMemory> {
-    let (first, second) = (of_socket(0), of_socket(1));
-    let (third, fourth) = (of_socket(2), of_socket(3));
-    let attrs = [
-        first, second, third, fourth, first, second, third, fourth, first, second, third, fourth,
-        first, second, third, fourth,
-    ];
     let calls = [CALLS; 16];
     let register = Register {
         value: 0,
         spare: 16 * CALLS,
     };
     let (cell, mut passes) = ShflCell::<Register>::open(
-        alloc, register, &attrs, form, 1024, &calls,
+        alloc,
+        register,
+        &of_four_sockets(),
+        form,
+        1024,
+        &calls,
     )?;
     work_all(rt, &cell, &chooser, CALLS, &mut passes);
     let (register, entries) = close_in_order(cell, passes);
     let last = entries.last().map_or(0, |entry| entry.call);
-    Ok(register.value == last && is_whole(&entries, 16, CALLS))
+    Ok(register.value == last && is_whole(&entries, Mix::Writes, 16, CALLS))
 }
 
 #[test]

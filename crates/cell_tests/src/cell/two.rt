@@ -2,7 +2,8 @@
 ghost use Rattle.std.specs.Prelude.{◌≡◌, ◌<◌, All, [], IfOk};
 
 use super::marks::TwoMarks;
-use super::register::Register;
+use crate::attrs::PLAIN;
+use crate::register::Register;
 use shfl_cell::{CellPass, ShflCell};
 use shfl_line::{Answer, Attr, Chooser, Form, Never, NoMemory, Told};
 use std::alloc::Global;
@@ -11,13 +12,6 @@ use std::sync::atomic::{AtomicU64, Ordering};
 use std::test::Fail;
 use std::thread;
 use std::thread::Threads;
-
-const ATTR: Attr = Attr {
-    socket: 0,
-    prio: 0,
-    class: 0,
-    kind: 0,
-};
 
 /// A policy that keeps what it was told; its answers are no.
 #[derive(Drop)]
@@ -170,29 +164,14 @@ fn wait_behind<R: Wait>(
     }
 }
 
-fn overlap_all<R: Threads + Wait + Sync>(
-    rt: &R,
-    cell: &ShflCell<Register>,
-    gate: &TwoMarks,
-    shown: &Shown,
-    passes: &mut [CellPass<Register>],
-)
-    requires cell { All (λ p. (p.cell ≡ cell.now.id) × (1 < p.left)) passes.old }
-{
-    let job = |_place: usize, pass: &mut CellPass<Register>|
-        requires { (pass.now.cell ≡ cell.now.id) × (1 < pass.now.left) }
-    {
-        overlap(rt, cell, gate, shown, pass);
-    };
-    thread::for_each_mut(rt, passes, 2, &job);
-}
-
-fn wait_all<R: Threads + Wait + Sync>(
+// Each pass acts in a thread of its own: the second waits behind the first, or tries beside it.
+fn act_all<R: Threads + Wait + Sync>(
     rt: &R,
     alloc: Global,
     cell: &ShflCell<Register>,
     gate: &TwoMarks,
     shown: &Shown,
+    waits: bool,
     passes: &mut [CellPass<Register>],
 )
     requires cell { All (λ p. (p.cell ≡ cell.now.id) × (1 < p.left)) passes.old }
@@ -200,7 +179,11 @@ fn wait_all<R: Threads + Wait + Sync>(
     let job = |_place: usize, pass: &mut CellPass<Register>|
         requires { (pass.now.cell ≡ cell.now.id) × (1 < pass.now.left) }
     {
-        wait_behind(rt, alloc, cell, gate, shown, pass);
+        if waits {
+            wait_behind(rt, alloc, cell, gate, shown, pass);
+        } else {
+            overlap(rt, cell, gate, shown, pass);
+        }
     };
     thread::for_each_mut(rt, passes, 2, &job);
 }
@@ -210,14 +193,14 @@ fn two_passes(alloc: Global) -> Result<(ShflCell<Register>, Vec<CellPass<Registe
     ensures { IfOk result (λ r. All (λ p. (p.cell ≡ r.0.id) × (1 < p.left)) r.1.items) }
 {
     let register = Register { value: 0, spare: 4 };
-    ShflCell::<Register>::open(alloc, register, &[ATTR, ATTR], Form::Spin, 1024, &[2, 2])
+    ShflCell::<Register>::open(alloc, register, &[PLAIN, PLAIN], Form::Spin, 1024, &[2, 2])
 }
 
 #[test]
 fn a_try_beside_a_holder_is_told_the_lock_word(rt: HostRuntime) -> Result<(), Fail> {
     let (cell, mut passes) = two_passes(rt.alloc())?;
     let (gate, shown) = (TwoMarks::new(1), Shown::new());
-    overlap_all(&rt, &cell, &gate, &shown, &mut passes);
+    act_all(&rt, rt.alloc(), &cell, &gate, &shown, false, &mut passes);
     assert_eq!(rt; gate.late.count(), 0);
     assert_eq!(rt; shown.word.load(Ordering::SeqCst), 1);
     assert_eq!(rt; shown.place.load(Ordering::SeqCst), 1);
@@ -229,7 +212,7 @@ fn a_try_beside_a_holder_is_told_the_lock_word(rt: HostRuntime) -> Result<(), Fa
 fn the_policy_of_a_waiter_is_asked_once_whether_to_skip(rt: HostRuntime) -> Result<(), Fail> {
     let (cell, mut passes) = two_passes(rt.alloc())?;
     let (gate, shown) = (TwoMarks::new(2), Shown::new());
-    wait_all(&rt, rt.alloc(), &cell, &gate, &shown, &mut passes);
+    act_all(&rt, rt.alloc(), &cell, &gate, &shown, true, &mut passes);
     assert_eq!(rt; gate.late.count(), 0);
     assert_eq!(rt; shown.heard.load(Ordering::SeqCst), 3);
     assert_eq!(rt; shown.batch.load(Ordering::SeqCst), 1);

@@ -1,9 +1,11 @@
 //! A writer that holds the lock while another pass tries.
 ghost use Rattle.std.specs.Prelude.{◌≡◌, ◌<◌, All};
 
-use super::register::{LOOK, Register, open};
+use super::opening::open;
+use crate::attrs::PLAIN;
+use crate::register::{LOOK, Register};
 use rw_cell::{RwCell, RwPass};
-use shfl_line::{Attr, Form, Never};
+use shfl_line::{Form, Never};
 use std::sync::Wait;
 use std::sync::atomic::{AtomicU64, Ordering};
 use std::test::Fail;
@@ -11,17 +13,10 @@ use std::thread;
 use std::thread::Threads;
 use syn_outer::{Gate, Point};
 
-const ATTR: Attr = Attr {
-    socket: 0,
-    prio: 0,
-    class: 0,
-    kind: 0,
-};
-
 // How often a wait looks. After one that ends so, no wait waits any more.
 const LOOKS: u32 = 100_000_000;
 
-/// Pass 0 holds the lock from the first mark on, until pass 1 has tried.
+/// Pass 0 holds the lock from the first mark on, until pass 1 has tried or joined the queue.
 #[derive(Drop)]
 struct Trial {
     held: AtomicU64,
@@ -54,10 +49,14 @@ impl Trial {
 }
 
 impl Gate for Trial {
-    fn at<Rt: Wait>(&self, _rt: &Rt, _worker: u32, point: Point) {
-        if point == Point::Holding {
-            self.held.store(1, Ordering::SeqCst);
-            self.wait(&self.tried);
+    fn at<Rt: Wait>(&self, _rt: &Rt, worker: u32, point: Point) {
+        match (worker, point) {
+            (0, Point::Holding) => {
+                self.held.store(1, Ordering::SeqCst);
+                self.wait(&self.tried);
+            }
+            (1, Point::Queued) => self.tried.store(1, Ordering::SeqCst),
+            _ => {}
         }
     }
 }
@@ -81,10 +80,31 @@ fn overlap<Rt: Wait>(rt: &Rt, cell: &RwCell<Register>, trial: &Trial, pass: &mut
     trial.tried.store(1, Ordering::SeqCst);
 }
 
+// Pass 0 writes; pass 1 reads what it wrote, and keeps it.
+fn wait_behind<Rt: Wait>(
+    rt: &Rt,
+    cell: &RwCell<Register>,
+    trial: &Trial,
+    pass: &mut RwPass<Register>,
+)
+    requires cell { pass.old.cell ≡ cell.now.id }
+    requires left { 1 < pass.old.left }
+{
+    if pass.number() == 0 {
+        let _ = cell.write(rt, pass, &mut Never, trial, &7);
+        return;
+    }
+    trial.wait(&trial.held);
+    let (value, _) = cell.read(rt, pass, &mut Never, trial, &LOOK);
+    trial.read_word.store(u64::from(value), Ordering::SeqCst);
+}
+
+// Both at once; `waits` says whether pass 1 waits for the lock, and else it tries.
 fn overlap_all<R: Threads + Wait + Sync>(
     rt: &R,
     cell: &RwCell<Register>,
     trial: &Trial,
+    waits: bool,
     passes: &mut [RwPass<Register>],
 )
     requires cell { All (λ p. (p.cell ≡ cell.now.id) × (1 < p.left)) passes.old }
@@ -92,18 +112,33 @@ fn overlap_all<R: Threads + Wait + Sync>(
     let job = |_place: usize, pass: &mut RwPass<Register>|
         requires { (pass.now.cell ≡ cell.now.id) × (1 < pass.now.left) }
     {
-        overlap(rt, cell, trial, pass);
+        if waits {
+            wait_behind(rt, cell, trial, pass);
+        } else {
+            overlap(rt, cell, trial, pass);
+        }
     };
     thread::for_each_mut(rt, passes, 2, &job);
 }
 
 #[test]
 fn a_try_beside_a_writer_is_told_the_lock_word(rt: HostRuntime) -> Result<(), Fail> {
-    let (cell, mut passes) = open(rt.alloc(), &[ATTR, ATTR], Form::Rw, &[2, 2])?;
+    let (cell, mut passes) = open(rt.alloc(), &[PLAIN, PLAIN], Form::Rw, &[2, 2])?;
     let trial = Trial::new();
-    overlap_all(&rt, &cell, &trial, &mut passes);
+    overlap_all(&rt, &cell, &trial, false, &mut passes);
     assert_eq!(rt; trial.late.load(Ordering::SeqCst), 0);
     assert_eq!(rt; trial.read_word.load(Ordering::SeqCst), 1);
     assert_eq!(rt; trial.write_word.load(Ordering::SeqCst), 1);
+    Ok(())
+}
+
+// It doesn't try on and on while another pass holds the lock.
+#[test]
+fn a_reader_queues_behind_a_writer(rt: HostRuntime) -> Result<(), Fail> {
+    let (cell, mut passes) = open(rt.alloc(), &[PLAIN, PLAIN], Form::Rw, &[2, 2])?;
+    let trial = Trial::new();
+    overlap_all(&rt, &cell, &trial, true, &mut passes);
+    assert_eq!(rt; trial.late.load(Ordering::SeqCst), 0);
+    assert_eq!(rt; trial.read_word.load(Ordering::SeqCst), 7);
     Ok(())
 }

@@ -3,10 +3,12 @@ ghost use Rattle.std.specs.Prelude.{◌≡◌, ◌<◌, true, All, length, vec_l
 ghost use Rattle.shfl_core.specs.Plan.{shares};
 ghost use Rattle.rw_cell.specs.RwCells.{number, AreInOrder, IsPassOf, StaysPass};
 
-use super::register::{LOOK, Register, call_of, is_whole, open};
+use super::opening::open;
+use crate::attrs::of_four_sockets;
+use crate::register::{LOOK, Mix, Register, call_of, is_whole};
 use hist_log::{Entry, merge};
 use rw_cell::{RwCell, RwPass};
-use shfl_line::{Always, Attr, BySocket, Chooser, Form, Never, NoMemory};
+use shfl_line::{Always, BySocket, Chooser, Form, Never, NoMemory};
 use std::alloc::Global;
 use std::sync::Wait;
 use std::test::Fail;
@@ -52,7 +54,7 @@ fn work<C: Chooser, Rt: Wait>(
         if pass.left() == 0 {
             return;
         }
-        call_once(rt, cell, chooser, call_of(worker, before), pass);
+        call_once(rt, cell, chooser, call_of(Mix::Looks, worker, before), pass);
     }
 }
 
@@ -101,16 +103,6 @@ fn close_in_order(
     Ok((copies, last, entries))
 }
 
-// The attributes of a pass of a socket.
-fn of_socket(socket: u16) -> Attr {
-    Attr {
-        socket,
-        prio: 0,
-        class: 0,
-        kind: 0,
-    }
-}
-
 // Whether the merged history of sixteen passes that call in threads is legal and has all calls in
 // order, and each copy has the number that was put last.
 fn runs<C: Chooser + Copy + Sync, R: Threads + Wait + Sync>(
@@ -121,13 +113,11 @@ fn runs<C: Chooser + Copy + Sync, R: Threads + Wait + Sync>(
 ) -> Result<bool, NoMemory>
     requires { shares form ≡ true }
 {
-    let (a, b, c, d) = (of_socket(0), of_socket(1), of_socket(2), of_socket(3));
-    let attrs = [a, b, c, d, a, b, c, d, a, b, c, d, a, b, c, d];
     let calls = [CALLS; 16];
-    let (cell, mut passes) = open(alloc, &attrs, form, &calls)?;
+    let (cell, mut passes) = open(alloc, &of_four_sockets(), form, &calls)?;
     work_all(rt, &cell, &chooser, CALLS, &mut passes);
     let (copies, last, entries) = close_in_order(alloc, cell, passes)?;
-    Ok(copies.iter().all(|copy| copy.value == last) && is_whole(&entries, 16, CALLS))
+    Ok(copies.iter().all(|copy| copy.value == last) && is_whole(&entries, Mix::Looks, 16, CALLS))
 }
 
 #[test]

@@ -1,19 +1,14 @@
 //! Two passes that call in turn, on one thread.
 ghost use Rattle.std.specs.Prelude.{◌≡◌, ◌<◌, All, length};
 
-use super::register::{LOOK, Register, open};
+use super::opening::open;
+use crate::attrs::PLAIN;
+use crate::register::{LOOK, Register};
 use rw_cell::{RwCell, RwPass};
-use shfl_line::{Attr, Form, Never};
+use shfl_line::{Form, Never};
 use std::sync::Wait;
 use std::test::Fail;
 use syn_outer::OpenGate;
-
-const ATTR: Attr = Attr {
-    socket: 0,
-    prio: 0,
-    class: 0,
-    kind: 0,
-};
 
 // The first pass writes and the second reads: what each was answered, and at which place.
 fn write_and_read<Rt: Wait>(
@@ -45,7 +40,7 @@ fn try_both(cell: &RwCell<Register>, passes: &mut [RwPass<Register>]) -> Option<
 
 #[test]
 fn a_read_sees_the_write_of_another_pass(rt: HostRuntime) -> Result<(), Fail> {
-    let (cell, mut passes) = open(rt.alloc(), &[ATTR, ATTR], Form::RwPark, &[2, 2])?;
+    let (cell, mut passes) = open(rt.alloc(), &[PLAIN, PLAIN], Form::RwPark, &[2, 2])?;
     let told = write_and_read(&rt, &cell, &mut passes);
     assert_eq!(rt; told, [(0, 0), (7, 1)]);
     Ok(())
@@ -53,7 +48,7 @@ fn a_read_sees_the_write_of_another_pass(rt: HostRuntime) -> Result<(), Fail> {
 
 #[test]
 fn tries_at_a_free_lock_succeed(rt: HostRuntime) -> Result<(), Fail> {
-    let (cell, mut passes) = open(rt.alloc(), &[ATTR, ATTR], Form::Rw, &[2, 2])?;
+    let (cell, mut passes) = open(rt.alloc(), &[PLAIN, PLAIN], Form::Rw, &[2, 2])?;
     assert_eq!(rt; try_both(&cell, &mut passes), Some([(0, 0), (7, 1)]));
     assert_eq!(rt; passes[0].left(), 1);
     Ok(())

@@ -1,19 +1,20 @@
 use Rattle.std.proofs.Common.{◌∙◌, refl, subst, sym}
+use Rattle.shfl_line.proofs.Rounds.{asks-nothing}
 use Rattle.shfl_arena.specs.SeatModels.{SeatModel}
-use Rattle.shfl_arena.specs.Waits.{WaitsFor}
+use Rattle.shfl_arena.specs.Waits.{WaitsFor, answers_of}
 use Rattle.shfl_arena.proofs.WaitSteps.{waits-more}
-use Rattle.shfl_arena.proofs.Asked.{AsksMeanwhile, asks-done, asks-step, asks-won, begins-to-wait}
+use Rattle.shfl_arena.proofs.Asked.{AsksMeanwhile, asks-done, asks-step, begins-to-wait}
 use Rattle.shfl_arena.proofs.waiting.wait_for.Goals as goal
 
-pub returns-then-is_ok-clause-asked : goal.returns-then-is_ok-clause-asked
-returns-then-is_ok-clause-asked g c = asks-won c.args.anchor.now c.args.lock c.args.mode c.args.seat.now c.attempt.new.self (g.C.Chooser.told c.args.chooser.now) c.attempt.result (sym c.is_ok.ensures.value ∙ c.if-is_ok.true) c.attempt.ensures.ok
+pub returns-then-try_first-clause-asked : goal.returns-then-try_first-clause-asked
+returns-then-try_first-clause-asked g c = asks-nothing (answers_of c.args.anchor.now) c.args.seat.now.decisions c.try_first.new.seat.decisions (g.C.Chooser.told c.args.chooser.now) c.try_first.ensures.asked
 
 pub returns-then-not-moving-clause-asked : goal.returns-then-not-moving-clause-asked
 returns-then-not-moving-clause-asked g c = asks-done c.args.anchor.now c.args.seat.now c.loop.seat _ _ (sym c.moving.ensures ∙ c.if-not-moving.true) c.loop.invariant.4
 
 pub loop-init : goal.loop-init
-loop-init g c = let b = begins-to-wait c.args.anchor.now c.args.lock c.args.mode c.args.seat.now c.attempt.new.self c.acquire.new.self (g.C.Chooser.told c.args.chooser.now) c.attempt.result c.acquire.result
-    (sym c.is_ok.ensures.value ∙ c.if-is_ok.false) c.attempt.ensures.err c.acquire.ensures.answer c.acquire.ensures.after in (tt, tt, b.0, refl, b.1)
+loop-init g c = let b = begins-to-wait c.args.anchor.now c.args.lock c.args.mode c.attempts_before-attempts.result c.args.seat.now c.try_first.new.seat c.acquire.new.self (g.C.Chooser.told c.args.chooser.now) c.acquire.result
+    (c.try_first.ensures.lost c.if-try_first.false) c.acquire.ensures.answer c.acquire.ensures.after in (tt, tt, b.0, refl, b.1)
 
 pub loop-preserved : goal.loop-preserved
 loop-preserved g c = let i = c.loop.invariant in let s = c.step_on-outcome.ensures in let told = g.C.Chooser.told in let now = c.step_on-outcome.new.seat in (

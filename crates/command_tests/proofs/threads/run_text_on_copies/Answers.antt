@@ -1,8 +1,0 @@
-use Rattle.trace_text.proofs.Runnable.{few_attaches, fits_accepted}
-use Rattle.command_tests.proofs.threads.run_text_on_copies.Goals as goal
-
-pub run_on-requires-clause-attaches : goal.run_on-requires-clause-attaches
-run_on-requires-clause-attaches g c κs within = few_attaches c.in_ok-trace.trace c.in_ok-trace.ensures.found.1.calls.1
-
-pub run_on-requires-clause-accepted : goal.run_on-requires-clause-accepted
-run_on-requires-clause-accepted g c κs within = fits_accepted c.in_ok-trace.trace c.in_ok-trace.ensures.found.1

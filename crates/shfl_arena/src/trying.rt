@@ -1,0 +1,76 @@
+//! The tries that a seat makes before it queues.
+ghost use Rattle.std.specs.Prelude.{◌≡◌, ◌<◌, true, false, None};
+ghost use Rattle.shfl_core.specs.Plan as plan;
+ghost use Rattle.shfl_core.specs.Waiting.{MayUse};
+ghost use Rattle.shfl_arena.specs.Threads.{mode_held};
+ghost use Rattle.shfl_arena.specs.Waits.{TriedInVain, WaitsFor, attempts_before};
+
+use crate::arena::Arena;
+use crate::pausing::{nap, sleeps};
+use crate::seats::ArenaSeat;
+use shfl_line::{Form, Mode};
+use std::sync::Wait;
+use std::{hint, thread};
+
+/// How many attempts a seat makes at most before it queues, where the chooser moves nobody up.
+pub const FEW_ATTEMPTS: u32 = 32;
+
+// So often the pause after an attempt is spent spinning, each time twice as long, up to eight times the first; then others go on. In a
+// form whose waiters sleep it naps from then on, for so many microseconds.
+const SPINNING: u32 = 10;
+
+const FIRST_PAUSE: u32 = 20;
+
+const AWAKE: u32 = 12;
+
+const NAP: u32 = 50;
+
+/// How many attempts a seat makes at most before it queues, where the chooser may move waiters up or may not.
+#[inline(always)]
+pub(crate) fn attempts_before(moves_waiters: bool) -> u32
+    ensures { result ≡ attempts_before moves_waiters }
+{
+    if moves_waiters { 1 } else { FEW_ATTEMPTS }
+}
+
+// Lets others go on after this attempt.
+fn back_off<Rt: Wait>(rt: &Rt, form: Form, tried: u32) {
+    if tried < SPINNING {
+        for _ in 0..FIRST_PAUSE << tried.min(3) {
+            hint::spin_loop();
+        }
+    } else if tried < AWAKE || !sleeps(form) {
+        thread::yield_now();
+    } else {
+        nap(rt, NAP);
+    }
+}
+
+/// Makes at most so many attempts to take a lock without queueing: whether the seat holds it. Each attempt fails while stealing is
+/// disabled, as it is while others queue.
+pub(crate) fn try_first<V: Drop, Rt: Wait>(
+    rt: &Rt,
+    arena: &Arena<V>,
+    seat: &mut ArenaSeat<V>,
+    lock: u32,
+    mode: Mode,
+    attempts: u32,
+) -> bool
+    requires arena { seat.old.arena ≡ arena.now.id }
+    requires rests { plan.moving seat.old.own ≡ false }
+    requires lock { lock < seat.old.arena.shape.locks }
+    requires mode { MayUse seat.old.arena.rules.form mode }
+    requires free { mode_held lock seat.old.holds ≡ None }
+    ensures waited { result ≡ true → WaitsFor lock mode seat.old seat.new }
+    ensures rests { plan.moving seat.new.own ≡ false }
+    ensures lost { result ≡ false → TriedInVain attempts seat.old seat.new }
+    ensures asked { seat.new.decisions ≡ seat.old.decisions }
+{
+    for tried in 0..attempts {
+        if seat.attempt(arena, lock, mode).is_ok() {
+            return true;
+        }
+        back_off(rt, seat.form(), tried);
+    }
+    false
+}
