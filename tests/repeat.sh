@@ -1,6 +1,6 @@
 #!/usr/bin/env bash
 # Runs the tests of a crate whose names contain a word so many times: tests/repeat.sh CRATE WORD COUNT, as
-#     tests/repeat.sh command_tests order 1000
+#     tests/repeat.sh worker_tests order 1000
 # No part of the gate: it looks for schedules of threads that a single run doesn't meet. The first run that fails, that doesn't end in
 # 60 seconds, or that prints something else than the first did is shown, with status 1. The crate's tests are built (and proved) where
 # they aren't yet, or where a source is newer.

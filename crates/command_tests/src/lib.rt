@@ -1,12 +1,10 @@
-//! Tests of the workers of a trace, and of each command from bytes to bytes.
+//! Tests of each command from bytes to bytes.
 #![tactic(auto)]
 
 #[cfg(test)]
 mod asm;
 #[cfg(test)]
 mod checks;
-#[cfg(test)]
-mod choosers;
 #[cfg(test)]
 mod endings;
 #[cfg(test)]
@@ -16,17 +14,9 @@ mod outcomes;
 #[cfg(test)]
 mod pool;
 #[cfg(test)]
-mod reached;
-#[cfg(test)]
 mod replay;
 #[cfg(test)]
 mod serial;
-#[cfg(test)]
-mod shards;
-#[cfg(test)]
-mod takers;
-#[cfg(test)]
-mod threads;
 #[cfg(test)]
 mod verify;
 #[cfg(test)]

@@ -63,6 +63,7 @@ fn pass_all<Rt: Wait, G: Gate + Sync>(rt: &Rt, gate: &G) {
     for point in [
         Point::BeforeCall,
         Point::Queued,
+        Point::GivesWay,
         Point::Holding,
         Point::AfterCall,
     ] {

@@ -1,9 +1,10 @@
 //! A thread's right to lock mutexes.
-ghost use Rattle.std.specs.Prelude.{◌≡◌, ◌↔◌, ◌<◌, ◌≤◌, ◌∷◌, [], IfOk, IfErr, IsOk, IfSome, IsNone, true, false, Some, Err, length};
+ghost use Rattle.std.specs.Prelude.{◌≡◌, ◌≢◌, ◌↔◌, ◌<◌, ◌≤◌, ◌∷◌, [], IfOk, IfErr, IsOk, IfSome, IsNone, true, false, Some, Err, length};
 ghost use Rattle.shfl_arena.specs.SeatModels.{IsNewAt};
 ghost use Rattle.shfl_arena.specs.Waits.{AsksInRounds};
 ghost use Rattle.shfl_mutex.specs.Held.{is_among};
 ghost use Rattle.shfl_mutex.specs.MutexSeats.{Refuses};
+ghost use Rattle.shfl_mutex.specs.declared.seat.LockError.TheVariants.{Busy};
 
 use crate::guard::MutexGuard;
 use shfl_arena::{Arena, ArenaSeat};
@@ -110,6 +111,7 @@ impl<'a, T: Drop> MutexSeat<'a, T> {
     // Why it may not lock this mutex, if it may not.
     fn refusal(&self, lock: u32) -> Option<LockError>
         ensures some { IfSome result (λ e. Refuses self.now lock e) }
+        ensures not_busy { IfSome result (λ e. e ≢ Busy) }
         ensures inside { IsNone result → lock < self.now.locks }
         ensures free { IsNone result → is_among lock self.now.held ≡ false }
         ensures room { IsNone result → length self.now.held < self.now.most }
@@ -141,6 +143,8 @@ impl<'a, T: Drop> MutexSeat<'a, T> {
         ensures asked { AsksInRounds self.old.attr self.old.decisions self.new.decisions
             (C.told chooser.old) (C.told chooser.new) }
         ensures refused { IfErr result (λ e. Refuses self.old lock e) }
+        ensures not_busy { IfErr result (λ e. e ≢ Busy) }
+        ensures unasked { IfErr result (λ _. C.told chooser.new ≡ C.told chooser.old) }
         ensures unchanged { IfErr result (λ _. self.new ≡ self.old) }
     {
         if let Some(refusal) = self.refusal(lock) {
@@ -208,6 +212,8 @@ impl<'a, T: Drop> MutexSeat<'a, T> {
             g.seat.now.decisions (C.told chooser.old) (C.told chooser.new)) }
         ensures same_reference { IfOk result (λ g. g.seat.ghost_name ≡ self.entry.ghost_name) }
         ensures refused { IfErr result (λ e. Refuses self.old lock e) }
+        ensures not_busy { IfErr result (λ e. e ≢ Busy) }
+        ensures unasked { IfErr result (λ _. C.told chooser.new ≡ C.told chooser.old) }
     {
         let value = self.take(rt, lock, chooser)?;
         Ok(MutexGuard::new(self, lock, value))

@@ -191,6 +191,7 @@ impl<'a, T: Drop> RwSeat<'a, T> {
         ensures allowed { IfOk result (λ _. MayLock self.old lock) }
         ensures refused { IfErr result (λ e. Refuses self.old lock e) }
         ensures not_busy { IfErr result (λ e. e ≢ Busy) }
+        ensures unasked { IfErr result (λ _. C.told chooser.new ≡ C.told chooser.old) }
     {
         if let Some(refusal) = self.refusal(lock) {
             return Err(refusal);
@@ -222,6 +223,7 @@ impl<'a, T: Drop> RwSeat<'a, T> {
         ensures allowed { IfOk result (λ _. MayLock self.old lock) }
         ensures refused { IfErr result (λ e. Refuses self.old lock e) }
         ensures not_busy { IfErr result (λ e. e ≢ Busy) }
+        ensures unasked { IfErr result (λ _. C.told chooser.new ≡ C.told chooser.old) }
     {
         if let Some(refusal) = self.refusal(lock) {
             return Err(refusal);

@@ -9,6 +9,7 @@ use std::sync::Wait;
 use std::sync::atomic::AtomicU64;
 use std::time::Duration;
 use std::{hint, thread};
+use syn_outer::{Gate, Point};
 
 // How often a waiter looks again at once, in the queue, where more than so many wait there, and at its head; then it sleeps.
 const SPINS: u32 = 100;
@@ -75,8 +76,15 @@ impl Pauses {
 
     // Sleeps, unless a wake came since it was announced; where it wasn't, that comes first, and the waiter looks once more before. Who was
     // woken stays awake for a while.
-    fn sleep<V: Kept + Drop, Rt: Wait>(&mut self, rt: &Rt, board: &SharedBoard<V>, pass: &Pass<V>) {
+    fn sleep<V: Kept + Drop, G: Gate, Rt: Wait>(
+        &mut self,
+        rt: &Rt,
+        board: &SharedBoard<V>,
+        pass: &Pass<V>,
+        gate: &G,
+    ) {
         let Some(sleeper) = board.sleepers.get(pass.number() as usize) else {
+            gate.at(rt, pass.number(), Point::GivesWay);
             thread::yield_now();
             return;
         };
@@ -96,6 +104,7 @@ impl Pauses {
                 longer
             };
             self.sleeps = self.sleeps.saturating_add(1);
+            gate.at(rt, pass.number(), Point::GivesWay);
             if sleeper.sleep_at_most(rt, micros) {
                 self.looks = 0;
                 self.woken = true;
@@ -105,11 +114,12 @@ impl Pauses {
     }
 
     // Lets others go on between two looks. Who has the lock word and waits for its successor's link gives its processor away last.
-    fn look_again<V: Kept + Drop, Rt: Wait>(
+    fn look_again<V: Kept + Drop, G: Gate, Rt: Wait>(
         &mut self,
         rt: &Rt,
         board: &SharedBoard<V>,
         pass: &Pass<V>,
+        gate: &G,
     ) {
         let looks = self.looks;
         self.looks = looks.saturating_add(1);
@@ -126,18 +136,20 @@ impl Pauses {
         if looks < spins {
             hint::spin_loop();
         } else if matches!(pass.phase(), Phase::Late) {
+            gate.at(rt, pass.number(), Point::GivesWay);
             thread::yield_now();
         } else {
-            self.sleep(rt, board, pass);
+            self.sleep(rt, board, pass, gate);
         }
     }
 
     // Pauses after a round that moved nobody, longer each time. The head goes on: it looks for the lock.
-    fn after_round<V: Kept + Drop, Rt: Wait>(
+    fn after_round<V: Kept + Drop, G: Gate, Rt: Wait>(
         &mut self,
         rt: &Rt,
         board: &SharedBoard<V>,
         pass: &Pass<V>,
+        gate: &G,
     ) {
         if !matches!(pass.phase(), Phase::Look) {
             return;
@@ -149,17 +161,19 @@ impl Pauses {
                 hint::spin_loop();
             }
         } else {
-            self.sleep(rt, board, pass);
+            self.sleep(rt, board, pass, gate);
         }
     }
 
     /// What comes between a step and the next one. Only a step that looked in vain is followed by a pause, and a round that moved nobody.
-    pub(crate) fn after<V: Kept + Drop, Rt: Wait>(
+    /// The gate is told before the waiter yields or sleeps.
+    pub(crate) fn after<V: Kept + Drop, G: Gate, Rt: Wait>(
         &mut self,
         rt: &Rt,
         board: &SharedBoard<V>,
         pass: &Pass<V>,
         outcome: Outcome,
+        gate: &G,
     ) {
         match outcome {
             Outcome::Resting => {}
@@ -170,8 +184,8 @@ impl Pauses {
                     self.sleeps = 0;
                 }
             }
-            Outcome::InVain | Outcome::InVainOpen => self.look_again(rt, board, pass),
-            Outcome::GroupedNobody => self.after_round(rt, board, pass),
+            Outcome::InVain | Outcome::InVainOpen => self.look_again(rt, board, pass, gate),
+            Outcome::GroupedNobody => self.after_round(rt, board, pass, gate),
         }
     }
 

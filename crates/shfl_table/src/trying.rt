@@ -11,6 +11,7 @@ use crate::pausing::{nap, sleeps};
 use shfl_line::Mode;
 use std::sync::Wait;
 use std::{hint, thread};
+use syn_outer::{Gate, Point};
 
 // So often the pause after an attempt is spent spinning, each time twice as long, up to eight times the first; then others go on. In a
 // form whose waiters sleep it naps from then on, for so many microseconds.
@@ -23,12 +24,15 @@ const AWAKE: u32 = 12;
 const NAP: u32 = 50;
 
 // Lets others go on after this attempt.
-fn back_off<V: Kept, Rt: Wait>(rt: &Rt, pass: &Pass<V>, tried: u32) {
+fn back_off<V: Kept + Drop, G: Gate, Rt: Wait>(rt: &Rt, pass: &Pass<V>, tried: u32, gate: &G) {
     if tried < SPINNING {
         for _ in 0..FIRST_PAUSE << tried.min(3) {
             hint::spin_loop();
         }
-    } else if tried < AWAKE || !sleeps(pass) {
+        return;
+    }
+    gate.at(rt, pass.number(), Point::GivesWay);
+    if tried < AWAKE || !sleeps(pass) {
         thread::yield_now();
     } else {
         nap(rt, NAP);
@@ -37,12 +41,13 @@ fn back_off<V: Kept, Rt: Wait>(rt: &Rt, pass: &Pass<V>, tried: u32) {
 
 /// Makes at most so many attempts to take the lock without queueing: whether the pass holds it. Each attempt fails while stealing is
 /// disabled, as it is while others queue.
-pub(crate) fn try_first<V: Kept + Drop, Rt: Wait>(
+pub(crate) fn try_first<V: Kept + Drop, G: Gate, Rt: Wait>(
     rt: &Rt,
     board: &SharedBoard<V>,
     pass: &mut Pass<V>,
     mode: Mode,
     attempts: u32,
+    gate: &G,
 ) -> bool
     requires board { pass.old.board ≡ board.now.id }
     requires mode { MayUse pass.old.board.rules.form mode }
@@ -57,7 +62,7 @@ pub(crate) fn try_first<V: Kept + Drop, Rt: Wait>(
         if pass.attempt(board, mode).is_ok() {
             return true;
         }
-        back_off(rt, pass, tried);
+        back_off(rt, pass, tried, gate);
     }
     false
 }

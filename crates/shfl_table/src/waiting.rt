@@ -70,17 +70,19 @@ fn tell_gate<G: Gate, Rt: Wait>(rt: &Rt, gate: &G, worker: u32, before: Phase, n
 }
 
 // Sleeps where the wakeup flag was looked for and not found, and wakes the pass whose flag was set.
-fn park_or_wake<V: Kept + Drop, Rt: Wait>(
+fn park_or_wake<V: Kept + Drop, G: Gate, Rt: Wait>(
     rt: &Rt,
     board: &SharedBoard<V>,
     pass: &Pass<V>,
     before: Nap,
+    gate: &G,
 )
     requires board { pass.now.board ≡ board.now.id }
 {
     match before {
         Nap::Hear => {
             if matches!(pass.nap(), Nap::Hear) {
+                gate.at(rt, pass.number(), Point::GivesWay);
                 pass.sleep(rt, board);
             }
         }
@@ -151,7 +153,7 @@ fn step_on<V: Kept + Drop, C: Chooser, G: Gate, Rt: Wait>(
     close_round(chooser, ends_round(before, nap));
     tell_gate(rt, gate, pass.number(), before, nap);
     rouse_other(board, before, nap, pass);
-    park_or_wake(rt, board, pass, nap);
+    park_or_wake(rt, board, pass, nap, gate);
     outcome
 }
 
@@ -169,7 +171,7 @@ fn keep_disabled<V: Kept + Drop>(board: &SharedBoard<V>, pass: &mut Pass<V>, out
 /// Takes the lock in a mode, and waits until the pass holds it and owes no step. `queueing` says how often it tries before it joins the
 /// queue; while it tries it asks nothing. The chooser answers what the steps ask: it is opened before a round's first question, and
 /// closed after the round's last step. `anchor` has the attributes of the pass. The gate is told when the pass has joined the queue,
-/// and after each round. A step that looked in vain is followed by a pause, and no other but the last of a round that moved nobody: the
+/// after each round, and before it gives its processor away. A step that looked in vain is followed by a pause, and no other but the last of a round that moved nobody: the
 /// pass spins, and then sleeps until it is made ready, or finds the lock freed, or for a while.
 pub fn wait_by<V: Kept + Drop, C: Chooser, G: Gate, Rt: Wait>(
     rt: &Rt,
@@ -196,7 +198,7 @@ pub fn wait_by<V: Kept + Drop, C: Chooser, G: Gate, Rt: Wait>(
         (C.told chooser.old) (C.told chooser.new) }
 {
     let attempts = attempts_before(queueing, chooser.may_move_waiters());
-    if try_first(rt, board, pass, mode, attempts) {
+    if try_first(rt, board, pass, mode, attempts, gate) {
         return;
     }
     let _ = pass.acquire(mode);
@@ -209,7 +211,7 @@ pub fn wait_by<V: Kept + Drop, C: Chooser, G: Gate, Rt: Wait>(
         }
         let outcome = step_on(rt, board, pass, anchor, chooser, gate);
         keep_disabled(board, pass, outcome);
-        pauses.after(rt, board, pass, outcome);
+        pauses.after(rt, board, pass, outcome, gate);
     }
     unreachable!()
 }

@@ -8,6 +8,8 @@ pub enum Point {
     BeforeCall,
     /// It waits in the queue.
     Queued,
+    /// It looked in vain, and is about to give its processor away: it yields, or sleeps.
+    GivesWay,
     /// It holds the lock.
     Holding,
     /// It has freed the lock.

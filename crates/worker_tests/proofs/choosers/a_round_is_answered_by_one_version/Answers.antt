@@ -1,6 +1,6 @@
 use Rattle.std.proofs.Common.{sym, ◌∙◌}
 use Rattle.policy_versions.proofs.Indexed.{fresh_closed, closed_last}
-use Rattle.command_tests.proofs.choosers.a_round_is_answered_by_one_version.Goals as goal
+use Rattle.worker_tests.proofs.choosers.a_round_is_answered_by_one_version.Goals as goal
 
 pub follow-requires-clause-pass : goal.follow-requires-clause-pass
 follow-requires-clause-pass g c =

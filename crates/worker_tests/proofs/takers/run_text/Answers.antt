@@ -1,7 +1,7 @@
 use Rattle.std.proofs.Common.{refl}
 use Rattle.syncord_pool.specs.Runs.{MayRun}
 use Rattle.trace_text.proofs.Runnable.{fits_accepted}
-use Rattle.command_tests.proofs.takers.run_text.Goals as goal
+use Rattle.worker_tests.proofs.takers.run_text.Goals as goal
 
 pub run_by_takers-requires-after_bounds : goal.run_by_takers-requires-after_bounds
 run_by_takers-requires-after_bounds g c κs within =

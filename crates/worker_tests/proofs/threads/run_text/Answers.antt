@@ -1,5 +1,5 @@
 use Rattle.trace_text.proofs.Runnable.{few_attaches, fits_accepted}
-use Rattle.command_tests.proofs.threads.run_text.Goals as goal
+use Rattle.worker_tests.proofs.threads.run_text.Goals as goal
 
 pub run_trace-requires-clause-attaches : goal.run_trace-requires-clause-attaches
 run_trace-requires-clause-attaches g c κs within = few_attaches c.in_ok-trace.trace c.in_ok-trace.ensures.found.1.calls.1

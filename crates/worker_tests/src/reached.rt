@@ -1,15 +1,25 @@
 //! Which run of a trace each word reaches.
 use crate::checks::same;
-use crate::outcomes::{sink, source};
 use crate::shards::{TWO_SHARDS, shard_gate};
 use crate::threads::{TWO_READERS, nobody_gave_up, readers_gate};
-use crate::words::words_of;
 use std::alloc::Global;
 use std::process::Abort;
 use std::sync::Wait;
 use std::thread::Threads;
-use syn_outer::Gate;
+use syn_outer::{Gate, SureSink, SureSource};
 use syncord_app::syncord;
+
+// The word, as the program has it.
+fn only_word(rt: &impl Abort, alloc: Global, word: &str) -> Vec<String> {
+    let text = String::from_str(alloc, word).expect(rt, "memory");
+    let mut words = Vec::new(alloc);
+    words.push(text).ok().expect(rt, "memory");
+    words
+}
+
+fn sink(rt: &impl Abort, alloc: Global) -> SureSink {
+    SureSink::open(alloc, 4096).ok().expect(rt, "memory")
+}
 
 // The status of this word on the trace that the text is, behind the gate.
 fn status_of<G: Gate + Sync, R: Abort + Threads + Wait + Sync>(
@@ -19,10 +29,11 @@ fn status_of<G: Gate + Sync, R: Abort + Threads + Wait + Sync>(
     text: &[u8],
     gate: &G,
 ) -> u8 {
-    let words = words_of(rt, alloc, &[word]);
-    let mut src = source(rt, alloc, text);
-    let mut out = sink(rt, alloc, 4096);
-    let mut err = sink(rt, alloc, 100);
+    let words = only_word(rt, alloc, word);
+    let bytes = Vec::from_slice(alloc, text).expect(rt, "memory");
+    let mut src = SureSource::new(bytes);
+    let mut out = sink(rt, alloc);
+    let mut err = sink(rt, alloc);
     syncord(rt, alloc, &words, &mut src, &mut out, &mut err, gate)
 }
 
