@@ -2,19 +2,13 @@
 ghost use Rattle.std.specs.Prelude.{◌≡◌, All, IfSome, true, vec_len};
 ghost use Rattle.shfl_arena.specs.SeatModels.{IsNewAt};
 
+use shared_tests::PLAIN;
 use shfl_arena::ArenaSeat;
-use shfl_line::{Attr, Form, Never};
+use shfl_line::{Form, Never};
 use shfl_mutex::{MutexSeat, Mutexes};
 use std::alloc::Global;
 use std::sync::Wait;
 use std::test::Fail;
-
-const PLAIN: Attr = Attr {
-    socket: 0,
-    prio: 0,
-    class: 0,
-    kind: 0,
-};
 
 // Adds a number to the value of a mutex.
 fn add<Rt: Wait>(rt: &Rt, seat: &mut MutexSeat<u64>, lock: u32, more: u64) -> bool

@@ -7,15 +7,8 @@ ghost use Rattle.shfl_arena.specs.Threads.{mode_held};
 
 use shfl_arena::{Arena, ArenaSeat, free};
 use shfl_core::Phase;
-use shfl_line::{Attr, Form, Mode};
+use shfl_line::{Form, Mode};
 use std::marker::Model;
-
-pub const PLAIN: Attr = Attr {
-    socket: 0,
-    prio: 0,
-    class: 0,
-    kind: 0,
-};
 
 #[derive(Drop)]
 pub struct Driven<'a> {

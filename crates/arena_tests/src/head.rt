@@ -2,8 +2,8 @@
 ghost use Rattle.std.specs.Prelude.{◌≡◌, ◌<◌};
 ghost use Rattle.shfl_arena.specs.SeatModels.{IsNewAt};
 
-use crate::driven::{Driven, PLAIN};
-use crate::signs::{LOOKS, await_sign, give_sign, nap};
+use crate::driven::Driven;
+use shared_tests::{LOOKS, PLAIN, await_sign, give_sign, nap};
 use shfl_arena::{Arena, ArenaSeat, Shape, free, wait_for};
 use shfl_core::Phase;
 use shfl_line::{Attr, CLOSED, Chooser, Form, Mode, NoMemory};
@@ -47,7 +47,7 @@ impl<'a> Chooser for Leading<'a> {
 
     fn begin<Rt: Wait>(&mut self, rt: &Rt) {
         give_sign(&self.signs.queued);
-        await_sign(rt, &self.signs.opened);
+        await_sign(rt, &self.signs.opened, 1);
     }
 
     fn skip(&mut self, _anchor: &Attr, _batch: u16) -> bool {
@@ -67,10 +67,10 @@ fn lead<R: Wait>(rt: &R, arena: &Arena<()>, mut seat: ArenaSeat<()>, signs: &Sig
     requires some { 0 < arena.now.id.shape.locks }
     requires none { arena.now.id.table.slots ≡ 0 }
 {
-    await_sign(rt, &signs.ready);
+    await_sign(rt, &signs.ready, 1);
     let mut leading = Leading { signs };
     wait_for(rt, arena, &mut seat, 0, Mode::Write, &PLAIN, &mut leading);
-    await_sign(rt, &signs.tried);
+    await_sign(rt, &signs.tried, 1);
     free(arena, &mut seat, 0, Mode::Write);
 }
 
@@ -107,7 +107,7 @@ fn open_behind<R: Wait>(
     let _ = other.give_back();
     step_to_open(holder);
     give_sign(&signs.ready);
-    await_sign(rt, &signs.queued);
+    await_sign(rt, &signs.queued, 1);
     let before = is_disabled(other);
     holder.steps(1);
     let after = is_disabled(other);
@@ -121,7 +121,7 @@ fn sees_disabled<R: Wait>(rt: &R, other: &mut Driven) -> bool {
         if is_disabled(other) {
             return true;
         }
-        nap(rt);
+        nap(rt, 100);
     }
     false
 }

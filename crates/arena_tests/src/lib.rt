@@ -4,15 +4,11 @@
 #[cfg(test)]
 mod closing;
 #[cfg(test)]
-mod draws;
-#[cfg(test)]
 mod driven;
 #[cfg(test)]
 mod head;
 #[cfg(test)]
 mod shared;
-#[cfg(test)]
-mod signs;
 #[cfg(test)]
 mod sizes;
 #[cfg(test)]

@@ -2,22 +2,15 @@
 ghost use Rattle.std.specs.Prelude.{All};
 ghost use Rattle.shfl_arena.specs.SeatModels.{IsNewAt};
 
-use crate::draws::Draws;
+use shared_tests::{Draws, PLAIN};
 use shfl_arena::ArenaSeat;
-use shfl_line::{Attr, Form, Never, NoMemory};
+use shfl_line::{Form, Never, NoMemory};
 use shfl_rwlock::{LockError, RwLocks, RwSeat};
 use std::alloc::Global;
 use std::sync::Wait;
 use std::test::Fail;
 use std::thread;
 use std::thread::Threads;
-
-const PLAIN: Attr = Attr {
-    socket: 0,
-    prio: 0,
-    class: 0,
-    kind: 0,
-};
 
 const LOCKS: u32 = 3;
 

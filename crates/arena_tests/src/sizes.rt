@@ -1,14 +1,8 @@
 //! A million locks, and a thousand seats.
+use shared_tests::PLAIN;
 use shfl_arena::{Arena, Shape};
-use shfl_line::{Attr, Form, Mode};
+use shfl_line::{Form, Mode};
 use std::test::Fail;
-
-const PLAIN: Attr = Attr {
-    socket: 0,
-    prio: 0,
-    class: 0,
-    kind: 0,
-};
 
 #[test]
 fn one_million_locks_are_opened(rt: HostRuntime) -> Result<(), Fail> {

@@ -2,24 +2,15 @@
 ghost use Rattle.std.specs.Prelude.{All};
 ghost use Rattle.shfl_arena.specs.SeatModels.{IsNewAt};
 
-use crate::draws::Draws;
+use shared_tests::{Draws, FORMS, PLAIN};
 use shfl_arena::ArenaSeat;
-use shfl_line::{Attr, Form, Never, NoMemory};
+use shfl_line::{Form, Never, NoMemory};
 use shfl_mutex::{MutexSeat, Mutexes};
 use std::alloc::Global;
 use std::sync::Wait;
 use std::test::Fail;
 use std::thread;
 use std::thread::Threads;
-
-const PLAIN: Attr = Attr {
-    socket: 0,
-    prio: 0,
-    class: 0,
-    kind: 0,
-};
-
-const FORMS: [Form; 4] = [Form::Spin, Form::Rw, Form::Park, Form::RwPark];
 
 const ROUNDS: u32 = 100;
 

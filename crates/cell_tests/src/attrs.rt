@@ -2,13 +2,6 @@
 use shfl_line::Attr;
 
 /// Those of a pass where they don't matter.
-pub const PLAIN: Attr = Attr {
-    socket: 0,
-    prio: 0,
-    class: 0,
-    kind: 0,
-};
-
 // Those of a pass of a socket.
 fn of_socket(socket: u16) -> Attr {
     Attr {

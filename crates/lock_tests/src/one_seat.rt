@@ -1,6 +1,5 @@
 //! Schedules drawn at random run on a lock over shared words as they do on one over plain words, in every form.
 mod boards;
-pub mod draws;
 
 ghost use Rattle.std.specs.Prelude.{◌≡◌, ◌<◌, ◌≤◌};
 ghost use Rattle.shfl_core.specs.Waiting.{fresh};
@@ -8,7 +7,7 @@ ghost use Rattle.shfl_line.specs.declared.events.Form.TheVariants.{Rw as RwForm,
 
 use crate::checks::{holds, same};
 use boards::Boards;
-use draws::Draws;
+use shared_tests::{Draws, PLAIN};
 use shfl_core::{Board, Local, PlainWorld, Waiter};
 use shfl_line::{Attr, Form, Mode, NoMemory};
 use shfl_park::Parked;
@@ -19,13 +18,6 @@ use std::alloc::Global;
 
 /// How many events a schedule has.
 const EVENTS: u32 = 2_000;
-
-const PLAIN: Attr = Attr {
-    socket: 0,
-    prio: 0,
-    class: 0,
-    kind: 0,
-};
 
 const OTHER: Attr = Attr {
     socket: 1,

@@ -6,8 +6,8 @@ mod trial;
 ghost use Rattle.std.specs.Prelude.{◌≡◌, ◌<◌, ◌≤◌};
 
 use crate::checks::{holds, same};
-use crate::one_seat::draws::{Act, Draws, Event};
 use crate::one_seat::{parking, parking_and_sharing, sharing};
+use shared_tests::{Act, Draws, Event, PLAIN};
 use shfl_core::{Local, Waiter};
 use shfl_line::{Attr, Form, NoMemory};
 use shfl_park::Parked;
@@ -18,13 +18,6 @@ use trial::{Policy, Trial};
 
 /// How many events a schedule has. Each form has six schedules.
 const EVENTS: u32 = 20_000;
-
-const PLAIN: Attr = Attr {
-    socket: 0,
-    prio: 0,
-    class: 0,
-    kind: 0,
-};
 
 // Each pass has a class of its own.
 const ATTRS: [Attr; 7] = [

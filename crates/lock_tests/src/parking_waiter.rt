@@ -1,15 +1,9 @@
 //! Two callers.
 use crate::checks::{holds, same};
+use shared_tests::PLAIN;
 use shfl_core::{Access, Local, Nap, Phase, Waiter, Word};
-use shfl_line::{Attr, Mode};
+use shfl_line::Mode;
 use shfl_park::Parked;
-
-const PLAIN: Attr = Attr {
-    socket: 0,
-    prio: 0,
-    class: 0,
-    kind: 0,
-};
 
 #[test]
 fn a_waiter_in_no_batch_dozes(rt: HostRuntime) {

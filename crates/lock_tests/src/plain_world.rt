@@ -1,15 +1,9 @@
 //! A worked schedule: what the lock shows.
+use shared_tests::PLAIN;
 use shfl_core::{Board, Local};
 use shfl_line::{Attr, LineState, Mode, NoMemory, Role};
 use shfl_world::World;
 use std::alloc::Global;
-
-const PLAIN: Attr = Attr {
-    socket: 0,
-    prio: 0,
-    class: 0,
-    kind: 0,
-};
 
 type Hold = &'static [(u32, Mode)];
 

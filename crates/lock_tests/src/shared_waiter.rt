@@ -1,15 +1,9 @@
 //! One caller.
 use crate::checks::{holds, same};
+use shared_tests::PLAIN;
 use shfl_core::{Access, Phase, Waiter, Word};
-use shfl_line::{Attr, Form, Mode};
+use shfl_line::{Form, Mode};
 use shfl_rw_core::RwLocal;
-
-const PLAIN: Attr = Attr {
-    socket: 0,
-    prio: 0,
-    class: 0,
-    kind: 0,
-};
 
 #[test]
 fn a_reader_counts_itself(rt: HostRuntime) {

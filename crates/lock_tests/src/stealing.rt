@@ -1,12 +1,11 @@
 //! A queue's head beside passes that don't queue, on one thread.
 use crate::checks::{holds, same};
 use crate::tickets::last;
+use shared_tests::FORMS;
 use shfl_line::{Form, Mode};
 use shfl_ticket::{Ticket, open, outcome_told};
 use std::alloc::Global;
 use std::process::Abort;
-
-const FORMS: [Form; 4] = [Form::Spin, Form::Rw, Form::Park, Form::RwPark];
 
 /// What `advance` tells of a step of the queue's head that looked in vain: stealing is disabled, or enabled.
 const IN_VAIN: u8 = 2;

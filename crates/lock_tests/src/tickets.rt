@@ -1,12 +1,11 @@
 //! Tickets of one lock, on one thread.
 use crate::checks::{holds, same};
 use bpf_isa::Profile;
+use shared_tests::FORMS;
 use shfl_line::{Form, Mode};
 use shfl_ticket::{ShflVerdict, ShflWatch, Ticket, ask_told, open, verdict_told, watch_told};
 use std::alloc::Global;
 use std::process::Abort;
-
-const FORMS: [Form; 4] = [Form::Spin, Form::Rw, Form::Park, Form::RwPark];
 
 /// Yes where the sockets are the same.
 const SAME_SOCKET: [u8; 48] = [

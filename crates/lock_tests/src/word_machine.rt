@@ -4,6 +4,7 @@ ghost use Rattle.shfl_line.specs.declared.events.Form.TheVariants.{Spin};
 ghost use Rattle.shfl_core.specs.Runner.{opened};
 
 use crate::checks::{holds, same};
+use shared_tests::PLAIN;
 use shfl_core::asks::{attempt_access, attempt_row, idle_pass};
 use shfl_core::local::Local;
 use shfl_core::phase::Phase;
@@ -11,13 +12,6 @@ use shfl_core::words::{Access, Word, opening_words};
 use shfl_core::world::PlainWorld;
 use shfl_line::{Attr, Mode, NoMemory};
 use std::alloc::Global;
-
-const PLAIN: Attr = Attr {
-    socket: 0,
-    prio: 0,
-    class: 0,
-    kind: 0,
-};
 
 fn open(alloc: Global) -> Result<PlainWorld<Local>, NoMemory>
     ensures { IfOk result

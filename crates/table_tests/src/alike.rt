@@ -4,8 +4,8 @@ ghost use Rattle.shfl_core.specs.Waiting.{fresh};
 ghost use Rattle.shfl_line.specs.declared.events.Form.TheVariants.{Rw as RwForm, Park as ParkForm, RwPark as RwParkForm};
 
 use crate::boards::Boards;
-use crate::draws::Draws;
-use crate::driven::{FAR, PLAIN, drive_all};
+use crate::driven::drive_all;
+use shared_tests::{Draws, FAR, PLAIN};
 use shfl_core::{Local, PlainWorld, Waiter};
 use shfl_line::{Attr, Form, NoMemory};
 use shfl_park::Parked;

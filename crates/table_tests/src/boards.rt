@@ -2,8 +2,8 @@
 ghost use Rattle.std.specs.Prelude.{◌≡◌, ◌<◌, true, length, vec_len};
 ghost use Rattle.shfl_core.specs.Waiting.{MayUse};
 
-use crate::draws::{Act, Event};
 use crate::driven::Driven;
+use shared_tests::{Act, Event};
 use shfl_core::{PlainWorld, Waiter};
 use shfl_line::{Form, Mode};
 

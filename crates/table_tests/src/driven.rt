@@ -4,24 +4,10 @@ ghost use Rattle.shfl_core.specs.Waiting.{MayUse};
 ghost use Rattle.shfl_table.specs.PassModel.{IsIdleAt};
 
 use shfl_core::{Ask, Nap, PassState, Phase, Watch};
-use shfl_line::{Attr, Form, Mode, NoMemory};
+use shfl_line::{Form, Mode, NoMemory};
 use shfl_table::{Pass, SharedBoard};
 use std::alloc::Global;
 use std::marker::Model;
-
-pub const PLAIN: Attr = Attr {
-    socket: 0,
-    prio: 0,
-    class: 0,
-    kind: 0,
-};
-
-pub const FAR: Attr = Attr {
-    socket: 1,
-    prio: 0,
-    class: 0,
-    kind: 0,
-};
 
 #[derive(Drop)]
 pub struct Driven<'a> {

@@ -2,8 +2,8 @@
 ghost use Rattle.std.specs.Prelude.{◌≡◌};
 ghost use Rattle.shfl_table.specs.PassModel.{IsIdleAt};
 
-use crate::driven::{Driven, PLAIN, drive_all};
-use crate::signs::{LOOKS, await_sign, nap};
+use crate::driven::{Driven, drive_all};
+use shared_tests::{LOOKS, PLAIN, await_sign, nap};
 use shfl_core::Phase;
 use shfl_line::{CLOSED, Form, Mode, Never, NoMemory};
 use shfl_table::{Pass, Queueing, SharedBoard, free, open, wait_by};

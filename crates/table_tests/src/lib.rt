@@ -8,8 +8,6 @@ mod boards;
 #[cfg(test)]
 mod crowd;
 #[cfg(test)]
-mod draws;
-#[cfg(test)]
 mod driven;
 #[cfg(test)]
 mod head;
@@ -17,8 +15,6 @@ mod head;
 mod orders;
 #[cfg(test)]
 mod rounds;
-#[cfg(test)]
-mod signs;
 #[cfg(test)]
 mod straight;
 #[cfg(test)]

@@ -2,8 +2,7 @@
 ghost use Rattle.std.specs.Prelude.{◌≡◌, ◌<◌, ◌≤◌};
 ghost use Rattle.shfl_table.specs.PassModel.{IsIdleAt};
 
-use crate::driven::{FAR, PLAIN};
-use crate::signs::await_sign;
+use shared_tests::{FAR, PLAIN, await_sign};
 use shfl_line::{Attr, BySocket, Chooser, Form, Mode, Never, NoMemory};
 use shfl_table::{Pass, Queueing, SharedBoard, free, open, wait_by};
 use std::alloc::Global;

@@ -3,8 +3,7 @@ ghost use Rattle.std.specs.Prelude.{◌≡◌, true};
 ghost use Rattle.shfl_core.specs.Waiting.{MayUse};
 ghost use Rattle.shfl_table.specs.PassModel.{IsIdleAt};
 
-use crate::driven::PLAIN;
-use crate::signs::{await_sign, nap};
+use shared_tests::{PLAIN, await_sign, nap};
 use shfl_line::{Attr, Chooser, Form, Mode, NoMemory};
 use shfl_table::{Pass, Queueing, SharedBoard, free, open, wait_by};
 use std::alloc::Global;

@@ -3,7 +3,8 @@
 ghost use Rattle.std.specs.Prelude.{◌≡◌, All};
 ghost use Rattle.shfl_table.specs.PassModel.{IsIdleAt};
 
-use crate::driven::{Driven, PLAIN, drive_all};
+use crate::driven::{Driven, drive_all};
+use shared_tests::{FORMS, PLAIN};
 use shfl_line::{Attr, Chooser, Form, Mode, Never, NoMemory};
 use shfl_table::{Pass, Queueing, SharedBoard, free, open, wait_by};
 use std::alloc::Global;
@@ -164,8 +165,6 @@ fn in_vain<R: Wait>(
     come_through(rt, &board, &mut waiter, queueing, &mut Never, &ways);
     Ok(Some(ways.given.get()))
 }
-
-const FORMS: [Form; 4] = [Form::Spin, Form::Rw, Form::Park, Form::RwPark];
 
 #[test]
 fn who_never_looks_in_vain_comes_through_in_one_round(rt: HostRuntime) -> Result<(), Fail> {

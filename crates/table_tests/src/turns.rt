@@ -1,5 +1,6 @@
 //! Worked runs of a lock without values, on one thread.
-use crate::driven::{Driven, FAR, PLAIN, drive_all};
+use crate::driven::{Driven, drive_all};
+use shared_tests::{FAR, PLAIN};
 use shfl_core::{Nap, Phase, Watch};
 use shfl_line::{Form, Mode};
 use shfl_table::{Busy, open};

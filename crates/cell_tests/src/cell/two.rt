@@ -2,82 +2,16 @@
 ghost use Rattle.std.specs.Prelude.{◌≡◌, ◌<◌, All, [], IfOk};
 
 use super::marks::TwoMarks;
-use crate::attrs::PLAIN;
 use crate::register::Register;
+use shared_tests::{PLAIN, Recorder};
 use shfl_cell::{CellPass, ShflCell};
-use shfl_line::{Answer, Attr, Chooser, Form, Never, NoMemory, Told};
+use shfl_line::{Form, Never, NoMemory, Told};
 use std::alloc::Global;
 use std::sync::Wait;
 use std::sync::atomic::{AtomicU64, Ordering};
 use std::test::Fail;
 use std::thread;
 use std::thread::Threads;
-
-/// A policy that keeps what it was told; its answers are no.
-#[derive(Drop)]
-struct Recorder {
-    told: Vec<Told>,
-    lost: bool,
-    asking: bool,
-}
-
-impl Chooser for Recorder {
-    ghost use Rattle.std.specs.Prelude.{List, Some, None, if◌then◌else◌};
-
-    ghost home = { λ _. [] };
-
-    ghost in_round = { λ s. s.asking };
-
-    ghost told = { λ s. if s.lost then None else Some s.told.items };
-
-    fn may_move_waiters(&self) -> bool {
-        true
-    }
-
-    fn begin<Rt: Wait>(&mut self, _rt: &Rt) {
-        self.asking = true;
-        match self.told.push(Told::Begun) {
-            Ok(()) => {}
-            Err(_) => self.lost = true,
-        }
-    }
-
-    fn skip(&mut self, anchor: &Attr, batch: u16) -> bool {
-        let answer = Answer {
-            anchor: *anchor,
-            waiter: None,
-            batch,
-            answer: false,
-        };
-        match self.told.push(Told::Answered(answer)) {
-            Ok(()) => {}
-            Err(_) => self.lost = true,
-        }
-        false
-    }
-
-    fn should(&mut self, anchor: &Attr, waiter: &Attr, batch: u16) -> bool {
-        let answer = Answer {
-            anchor: *anchor,
-            waiter: Some(*waiter),
-            batch,
-            answer: false,
-        };
-        match self.told.push(Told::Answered(answer)) {
-            Ok(()) => {}
-            Err(_) => self.lost = true,
-        }
-        false
-    }
-
-    fn end(&mut self) {
-        self.asking = false;
-        match self.told.push(Told::Ended) {
-            Ok(()) => {}
-            Err(_) => self.lost = true,
-        }
-    }
-}
 
 /// What two calls showed.
 #[derive(Drop)]
@@ -153,14 +87,12 @@ fn wait_behind<R: Wait>(
     requires cell { pass.old.cell ≡ cell.now.id }
     requires left { 0 < pass.old.left }
 {
-    let mut policy = Recorder {
-        told: Vec::new(alloc),
-        lost: false,
-        asking: false,
-    };
+    let mut policy = Recorder::new(alloc, false);
     let _ = cell.apply(rt, pass, &mut policy, gate, &pass.number());
-    if pass.number() == 1 && !policy.lost {
-        shown.keep(&policy.told);
+    if pass.number() == 1 {
+        if let Some(told) = policy.told() {
+            shown.keep(told);
+        }
     }
 }
 

@@ -2,9 +2,9 @@
 ghost use Rattle.std.specs.Prelude.{◌≡◌, ◌<◌, All};
 
 use super::opening::open;
-use crate::attrs::PLAIN;
 use crate::register::{LOOK, Register};
 use rw_cell::{RwCell, RwPass};
+use shared_tests::PLAIN;
 use shfl_line::{Form, Never};
 use std::sync::Wait;
 use std::sync::atomic::{AtomicU64, Ordering};

@@ -3,7 +3,7 @@ ghost use Rattle.std.specs.Prelude.{◌≡◌, ◌<◌, true, length};
 ghost use Rattle.shfl_core.specs.Waiting.{MayUse};
 
 use super::ATTRS;
-use super::draws::{Act, Event};
+use shared_tests::{Act, Event};
 use shfl_core::{Board, PlainWorld, Waiter};
 use shfl_line::{Form, LineState, Mode, NoMemory};
 use shfl_solo::Solo;

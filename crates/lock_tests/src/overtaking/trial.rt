@@ -2,7 +2,7 @@
 ghost use Rattle.std.specs.Prelude.{◌≡◌};
 
 use super::tally::Tally;
-use crate::one_seat::draws::{Act, Event};
+use shared_tests::{Act, Event};
 use shfl_core::{Ask, Board, Waiter};
 use shfl_line::{Attr, Form, LineState, Mode, NoMemory};
 use shfl_world::World;

@@ -20,3 +20,8 @@ pub fn await_sign<R: Wait>(rt: &R, sign: &AtomicU64, least: u64) {
         nap(rt, 100);
     }
 }
+
+/// Gives the sign.
+pub fn give_sign(sign: &AtomicU64) {
+    sign.store(1, Ordering::SeqCst);
+}

@@ -1,4 +1,4 @@
-//! Events drawn at random.
+//! Numbers and events that are drawn at random.
 ghost use Rattle.std.specs.Prelude.{◌<◌};
 
 /// What a pass does.
@@ -10,6 +10,7 @@ pub enum Act {
     Step { choice: bool },
 }
 
+/// What one of the passes does.
 #[derive(Clone, Copy, Drop)]
 pub struct Event {
     pub act: Act,
@@ -27,6 +28,7 @@ impl Draws {
         Draws { last: seed }
     }
 
+    /// A number below the bound.
     pub fn below(&mut self, bound: u32) -> u32
         requires { 0 < bound }
         ensures { result < bound }

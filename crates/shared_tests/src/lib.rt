@@ -1,0 +1,12 @@
+//! What the tests of several crates share.
+#![tactic(auto)]
+
+mod attrs;
+mod draws;
+mod recorder;
+mod signs;
+
+pub use attrs::{FAR, FORMS, PLAIN};
+pub use draws::{Act, Draws, Event};
+pub use recorder::Recorder;
+pub use signs::{LOOKS, await_sign, give_sign, nap};
