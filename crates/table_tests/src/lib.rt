@@ -20,6 +20,8 @@ mod rounds;
 #[cfg(test)]
 mod signs;
 #[cfg(test)]
+mod sleeping;
+#[cfg(test)]
 mod straight;
 #[cfg(test)]
 mod threads;
