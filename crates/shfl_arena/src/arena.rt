@@ -3,11 +3,16 @@ use crate::view::{LawfulArena, Opening, SeatView};
 use atomic_table::Table;
 use std::alloc::Global;
 use std::marker::Model;
+use waiter_sleep::{QueueFronts, Sleepers};
 
 /// Many locks on words that threads share, with a value behind each of the first ones, or none. Its seats make their steps.
 #[derive(Drop)]
 pub struct Arena<V: Drop> {
     pub(crate) table: Table<Option<V>, SeatView, Opening, LawfulArena, Global>,
+    // One for each of the first threads, mostly for all. No proof rests on them, nor on the next.
+    pub(crate) sleepers: Sleepers,
+    // What is known of the heads of the locks' queues.
+    pub(crate) fronts: QueueFronts,
 }
 
 impl<V: Drop> Model for Arena<V> {

@@ -81,7 +81,11 @@ impl<V: Drop> Arena<V> {
         ensures { vec_len result ≡ self.id.table.slots }
     {
         let desk = gathered(&self, seats);
-        let Arena { table } = self;
+        let Arena {
+            table,
+            sleepers: _,
+            fronts: _,
+        } = self;
         let places = table.slot_count();
         drained(table.close_with(desk), places, room)
     }

@@ -14,6 +14,7 @@ mod performing;
 mod plays;
 mod seats;
 pub mod shape;
+mod sleeping;
 mod standing;
 mod trying;
 mod values;

@@ -18,6 +18,7 @@ use shfl_core::asks::idle_pass;
 use shfl_core::words::opening_words;
 use shfl_line::{Attr, Form, NoMemory};
 use std::alloc::Global;
+use waiter_sleep::{QueueFronts, Sleepers};
 
 // How many words an opening of the model has before its first node.
 const HEAD: usize = 20;
@@ -101,17 +102,22 @@ fn laid<V: Drop>(alloc: Global, values: Vec<V>) -> Result<Vec<Option<V>>, NoMemo
     Ok(slots)
 }
 
+// How many fronts of queues it has: none where nobody sleeps.
+fn fronts_for(shape: Shape, sleepers: u32) -> u32 {
+    if sleepers == 0 { 0 } else { shape.locks }
+}
+
 impl<V: Drop> Arena<V> {
-    /// An arena of so many locks, 1 to 2^24, and a seat for each of these threads, 1 to 65,535, with its attributes. Each lock is of
-    /// this form, and bounds a batch by `limit`, 1 to 1,024. A lock takes 16 bytes, or, spread, a cache line for each of its two words;
-    /// a thread takes 80, and its seat. `values` stand behind the first locks: none, or one for each. No memory is taken after this.
-    pub fn open(
+    /// The arena that `open` makes, but only the threads below `sleepers` have places to sleep, of 128 bytes each. Another thread that waits gives its processor
+    /// away in place of sleeping. 0 is for callers whose threads wait in places of their own.
+    pub fn open_with_sleepers(
         alloc: Global,
         shape: Shape,
         attrs: &[Attr],
         form: Form,
         limit: u16,
         values: Vec<V>,
+        sleepers: u32,
     ) -> Result<(Arena<V>, Vec<ArenaSeat<V>>), NoMemory>
         requires locks { (0 < shape.locks) × (shape.locks ≤ 16777216) }
         requires some { 0 < length attrs.now }
@@ -135,11 +141,50 @@ impl<V: Drop> Arena<V> {
             rules,
             threads,
         };
+        let fronts = QueueFronts::with_count(alloc, fronts_for(shape, sleepers))?;
+        let sleepers = Sleepers::with_count(alloc, sleepers)?;
         let slots = laid(alloc, values)?;
         let Ok((table, seat)) = Table::new(alloc, words.as_slice(), slots, &opening) else {
             return Err(NoMemory);
         };
         let seats = deal(alloc, rules, shape, threads, &table.shared, seat)?;
-        Ok((Arena { table }, seats))
+        Ok((
+            Arena {
+                table,
+                sleepers,
+                fronts,
+            },
+            seats,
+        ))
+    }
+
+    /// An arena of so many locks, 1 to 2^24, and a seat for each of these threads, 1 to 65,535, with its attributes. Each lock is of
+    /// this form, and bounds a batch by `limit`, 1 to 1,024. A lock takes 16 bytes, or, spread, a cache line for each of its two words;
+    /// a thread takes 80, its seat, and 128 for its place to sleep; and what is known of the queues' heads takes 128 for each lock up to 64 locks.
+    /// `values` stand behind the first locks: none, or one for each. No memory is taken after this.
+    pub fn open(
+        alloc: Global,
+        shape: Shape,
+        attrs: &[Attr],
+        form: Form,
+        limit: u16,
+        values: Vec<V>,
+    ) -> Result<(Arena<V>, Vec<ArenaSeat<V>>), NoMemory>
+        requires locks { (0 < shape.locks) × (shape.locks ≤ 16777216) }
+        requires some { 0 < length attrs.now }
+        requires few { length attrs.now ≤ most_passes }
+        requires limited { (0 < limit) × (limit ≤ 1024) }
+        ensures rules { IfOk result (λ r.
+            r.0.id.rules ≡ record { limit = limit; form = form }) }
+        ensures shape { IfOk result (λ r. r.0.id.shape ≡ shape) }
+        ensures threads { IfOk result (λ r. r.0.threads ≡ length attrs.now) }
+        ensures slots { IfOk result (λ r. r.0.id.table.slots ≡ vec_len values) }
+        ensures count { IfOk result (λ r. vec_len r.1 ≡ length attrs.now) }
+        ensures seats { IfOk result (λ r. (i : ℕ) → i < vec_len r.1
+            → slice_get r.1.items i ≡ Some (fresh_seat r.0.id i)) }
+        ensures fresh { IfOk result (λ r. All (IsNewAt r.0.id) r.1.items) }
+    {
+        let sleepers = attrs.len() as u32;
+        Arena::open_with_sleepers(alloc, shape, attrs, form, limit, values, sleepers)
     }
 }

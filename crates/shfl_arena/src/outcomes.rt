@@ -1,7 +1,6 @@
 //! What came of a step of a seat that waits: whether it went on, or looked in vain.
 use shfl_core::bits::closed_of;
 use shfl_core::{Nap, PassState, Phase};
-use shfl_line::SHUFFLER;
 
 /// What came of a step. A seat may pause after the last three, and after no other.
 #[derive(Clone, Copy, Debug, PartialEq, Eq, Drop)]
@@ -12,8 +11,8 @@ pub(crate) enum Outcome {
     InVain,
     /// It looked in vain at the lock word, at the queue's head, and stealing is enabled: others may come past it.
     InVainOpen,
-    /// It ended a round that moved nobody into the batch, and left its own state word so.
-    GroupedNobody { state: u64 },
+    /// It ended a round that moved nobody into the batch.
+    GroupedNobody,
 }
 
 // Whether the step looked at the lock word at the queue's head, and found stealing enabled.
@@ -37,9 +36,7 @@ pub(crate) fn outcome_of(before: PassState, found: u64, after: PassState) -> Out
         return Outcome::InVain;
     }
     if ends_round_alone(before) {
-        return Outcome::GroupedNobody {
-            state: found | SHUFFLER,
-        };
+        return Outcome::GroupedNobody;
     }
     Outcome::Advanced
 }

@@ -5,11 +5,8 @@ ghost use Rattle.shfl_core.specs.Waiting as waiting;
 ghost use Rattle.shfl_laws.specs.Holds.{hold_of};
 ghost use Rattle.shfl_arena.specs.Threads.{mode_held};
 
-use crate::arena::Arena;
 use crate::seats::ArenaSeat;
-use crate::shape::place;
 use shfl_core::asks::{ask_row, is_moving, watch_row};
-use shfl_core::words::Word;
 use shfl_core::{Ask, Nap, PassState, Phase, Watch};
 use shfl_line::{Form, Mode};
 
@@ -106,14 +103,5 @@ impl<V: Drop> ArenaSeat<V> {
         ensures { result ≡ waiting.watch_at self.now.own.reg self.now.own.phase }
     {
         watch_row(self.own)
-    }
-
-    // What its own state word says, beside the steps.
-    #[inline(always)]
-    pub(crate) fn state_word(&self, arena: &Arena<V>) -> u64
-        requires arena { self.now.arena ≡ arena.now.id }
-    {
-        let word = place(self.shape, self.lock, Word::State(self.own.reg.me));
-        arena.table.shared.peek(word)
     }
 }

@@ -6,24 +6,13 @@ ghost use Rattle.shfl_arena.specs.Threads.{mode_held};
 ghost use Rattle.shfl_arena.specs.Waits.{TriedInVain, WaitsFor, attempts_before};
 
 use crate::arena::Arena;
-use crate::pausing::{nap, sleeps};
 use crate::seats::ArenaSeat;
 use shfl_line::{Form, Mode};
 use std::sync::Wait;
-use std::{hint, thread};
+use waiter_sleep::{give_way, spins_after};
 
 /// How many attempts a seat makes at most before it queues, where the chooser moves nobody up.
 pub const FEW_ATTEMPTS: u32 = 32;
-
-// So often the pause after an attempt is spent spinning, each time twice as long, up to eight times the first; then others go on. In a
-// form whose waiters sleep it naps from then on, for so many microseconds.
-const SPINNING: u32 = 10;
-
-const FIRST_PAUSE: u32 = 20;
-
-const AWAKE: u32 = 12;
-
-const NAP: u32 = 50;
 
 /// How many attempts a seat makes at most before it queues, where the chooser may move waiters up or may not.
 #[inline(always)]
@@ -35,14 +24,8 @@ pub(crate) fn attempts_before(moves_waiters: bool) -> u32
 
 // Lets others go on after this attempt.
 fn back_off<Rt: Wait>(rt: &Rt, form: Form, tried: u32) {
-    if tried < SPINNING {
-        for _ in 0..FIRST_PAUSE << tried.min(3) {
-            hint::spin_loop();
-        }
-    } else if tried < AWAKE || !sleeps(form) {
-        thread::yield_now();
-    } else {
-        nap(rt, NAP);
+    if !spins_after(tried) {
+        give_way(rt, form, tried);
     }
 }
 

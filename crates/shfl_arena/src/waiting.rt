@@ -12,12 +12,13 @@ ghost use Rattle.shfl_arena.specs.Waits.{AsksInRounds, Frees, WaitsFor};
 
 use crate::arena::Arena;
 use crate::outcomes::{Outcome, outcome_of};
-use crate::pausing::Pauses;
+use crate::pausing::pause_after;
 use crate::seats::ArenaSeat;
 use crate::trying::{attempts_before, try_first};
 use shfl_core::{Ask, Nap, Phase};
 use shfl_line::{Attr, Chooser, Mode};
 use std::sync::Wait;
+use waiter_sleep::Pauses;
 
 // The policy's answer to what the next step asks. The first question of a round opens it.
 fn answer<C: Chooser, Rt: Wait>(rt: &Rt, chooser: &mut C, anchor: &Attr, ask: Ask) -> bool
@@ -72,6 +73,7 @@ fn step_on<V: Drop, C: Chooser, Rt: Wait>(
     let choice = answer(rt, chooser, anchor, ask);
     let found = seat.step_found(arena, choice);
     close_round(chooser, ends_round(before.phase, before.nap));
+    arena.rouse_others(before, seat);
     outcome_of(before, found, seat.standing())
 }
 
@@ -90,7 +92,8 @@ fn keep_disabled<V: Drop>(arena: &Arena<V>, seat: &mut ArenaSeat<V>, lock: u32, 
 /// where the chooser may move waiters up and else a few times (`FEW_ATTEMPTS`), and then queues; while it tries it asks nothing. The
 /// chooser answers what the steps ask: it is opened before a round's first question, and closed after the round's last step. `anchor`
 /// has the attributes of the thread. A step that looked in vain is followed by a pause, and no other but the last of a round that moved
-/// nobody; at the queue's head a look in vain that finds stealing enabled disables it.
+/// nobody: the thread spins, and then sleeps until it is made ready, or finds the lock freed, or for a while. At the queue's head a look in vain that
+/// finds stealing enabled disables it.
 pub fn wait_for<V: Drop, C: Chooser, Rt: Wait>(
     rt: &Rt,
     arena: &Arena<V>,
@@ -116,19 +119,21 @@ pub fn wait_for<V: Drop, C: Chooser, Rt: Wait>(
         return;
     }
     let _ = seat.acquire(lock, mode);
-    let mut pauses = Pauses::new(seat.form());
+    let mut pauses = Pauses::begin(&arena.waiter(seat));
     for _ in rt.forever() {
         if !seat.moving() {
+            pauses.end(&arena.waiter(seat));
             return;
         }
         let outcome = step_on(rt, arena, seat, anchor, chooser);
         keep_disabled(arena, seat, lock, outcome);
-        pauses.after(rt, arena, seat, outcome);
+        pause_after(rt, arena, seat, &mut pauses, outcome);
     }
     unreachable!()
 }
 
-/// Frees a lock that the seat holds in this mode, with its value in and in front where it has one.
+/// Frees a lock that the seat holds in this mode, with its value in and in front where it has one, and wakes the queue's head where that sleeps, and those
+/// who come next.
 #[inline(always)]
 pub fn free<V: Drop>(arena: &Arena<V>, seat: &mut ArenaSeat<V>, lock: u32, mode: Mode)
     requires arena { seat.old.arena ≡ arena.now.id }
@@ -140,4 +145,5 @@ pub fn free<V: Drop>(arena: &Arena<V>, seat: &mut ArenaSeat<V>, lock: u32, mode:
     ensures { Frees lock mode seat.old seat.new }
 {
     seat.leave(arena, lock, mode);
+    arena.rouse_after(lock);
 }

@@ -66,7 +66,16 @@ pub fn open(
         AreOpened shape (record { limit = limit; form = form }) threads v.items) }
 {
     let attrs = vec![in alloc; no_attributes(); threads as usize]?;
-    let (arena, seats) = Arena::open(alloc, shape, attrs.as_slice(), form, limit, Vec::new(alloc))?;
+    let none = Vec::new(alloc);
+    let (arena, seats) = Arena::open_with_sleepers(
+        alloc,
+        shape,
+        attrs.as_slice(),
+        form,
+        limit,
+        none,
+        0,
+    )?;
     let locks = shape.locks;
     let share = shared(alloc, Share { arena, locks })?;
     deal(alloc, &share, seats)

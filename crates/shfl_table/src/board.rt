@@ -1,10 +1,10 @@
 //! The board: the words and the values that threads share.
 use crate::kept::Kept;
-use crate::sleepers::{Sleeper, SleepingHead};
 use crate::view::{LawfulBoard, Opening, View};
 use atomic_table::Table;
 use std::alloc::Global;
 use std::marker::Model;
+use waiter_sleep::{QueueFront, Sleepers};
 
 /// A lock on words that threads share, with values behind it. Its passes make its steps.
 #[derive(Drop)]
@@ -13,9 +13,9 @@ pub struct SharedBoard<V: Kept + Drop> {
     // Room for the values at the end, so that the closing takes no memory.
     pub(crate) room: Vec<V>,
     // One for each of the first passes, mostly for all. No proof rests on them, nor on the next.
-    pub(crate) sleepers: Vec<Sleeper>,
-    // The queue's head, while it sleeps.
-    pub(crate) head: SleepingHead,
+    pub(crate) sleepers: Sleepers,
+    // What is known of the queue's head.
+    pub(crate) front: QueueFront,
 }
 
 impl<V: Kept + Drop> Model for SharedBoard<V> {

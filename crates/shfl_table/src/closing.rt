@@ -138,7 +138,7 @@ impl<V: Kept + Drop> Closing<V> {
             table,
             room,
             sleepers: _,
-            head: _,
+            front: _,
         } = board;
         let places = table.slot_count();
         drained(table.close_with(desk), places, room)

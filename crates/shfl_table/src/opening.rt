@@ -11,7 +11,6 @@ ghost use Rattle.shfl_laws.specs.Moves.{told_terms};
 use crate::board::SharedBoard;
 use crate::kept::Kept;
 use crate::passes::Pass;
-use crate::sleepers::{Sleeper, SleepingHead};
 use crate::view::{LawfulBoard, NextPass, Opening, View};
 use atomic_table::{Seat, Shared, Table};
 use shfl_core::Rules;
@@ -20,6 +19,7 @@ use shfl_core::words::opening_words;
 use shfl_line::{Attr, Form, NoMemory};
 use std::alloc::Global;
 use std::snapshot::Snapshot;
+use waiter_sleep::{QueueFront, Sleepers};
 
 // The pass of a seat that was split off.
 fn seated<V: Kept + Drop>(rules: Rules, number: u32, seat: Seat<Option<V>, View>) -> Pass<V>
@@ -87,15 +87,6 @@ fn laid<V: Kept + Drop>(alloc: Global, values: Vec<V>) -> Result<Vec<Option<V>>,
     Ok(slots)
 }
 
-// So many places to sleep.
-fn sleepers_of(alloc: Global, count: u32) -> Result<Vec<Sleeper>, NoMemory> {
-    let mut sleepers = Vec::with_capacity(alloc, count as usize)?;
-    for _ in 0..count {
-        sleepers.push_reserved(Sleeper::new());
-    }
-    Ok(sleepers)
-}
-
 /// The board that `open` makes, but only the passes below `sleepers` have places to sleep, of 128 bytes each. For another pass `sleep`
 /// returns at once, and `wake` does nothing. 0 is for callers whose threads wait in places of their own.
 pub fn open_with_sleepers<V: Kept + Drop>(
@@ -131,7 +122,7 @@ pub fn open_with_sleepers<V: Kept + Drop>(
         values: Snapshot::of(&values),
     };
     let room = Vec::with_capacity(alloc, values.len())?;
-    let sleepers = sleepers_of(alloc, sleepers)?;
+    let sleepers = Sleepers::with_count(alloc, sleepers)?;
     let slots = laid(alloc, values)?;
     let Ok((table, seat)) = Table::new(alloc, words.as_slice(), slots, &opening) else {
         return Err(NoMemory);
@@ -142,7 +133,7 @@ pub fn open_with_sleepers<V: Kept + Drop>(
             table,
             room,
             sleepers,
-            head: SleepingHead::new(),
+            front: QueueFront::new(),
         },
         passes,
     ))

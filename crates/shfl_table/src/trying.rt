@@ -7,36 +7,18 @@ ghost use Rattle.shfl_table.specs.Waits.{TriedInVain, WaitsFor};
 use crate::board::SharedBoard;
 use crate::kept::Kept;
 use crate::passes::Pass;
-use crate::pausing::{nap, sleeps};
 use shfl_line::Mode;
 use std::sync::Wait;
-use std::{hint, thread};
 use syn_outer::{Gate, Point};
+use waiter_sleep::{give_way, spins_after};
 
-// So often the pause after an attempt is spent spinning, each time twice as long, up to eight times the first; then others go on. In a
-// form whose waiters sleep it naps from then on, for so many microseconds.
-const SPINNING: u32 = 10;
-
-const FIRST_PAUSE: u32 = 20;
-
-const AWAKE: u32 = 12;
-
-const NAP: u32 = 50;
-
-// Lets others go on after this attempt.
+// Lets others go on after this attempt. The gate is told before the processor is given away.
 fn back_off<V: Kept + Drop, G: Gate, Rt: Wait>(rt: &Rt, pass: &Pass<V>, tried: u32, gate: &G) {
-    if tried < SPINNING {
-        for _ in 0..FIRST_PAUSE << tried.min(3) {
-            hint::spin_loop();
-        }
+    if spins_after(tried) {
         return;
     }
     gate.at(rt, pass.number(), Point::GivesWay);
-    if tried < AWAKE || !sleeps(pass) {
-        thread::yield_now();
-    } else {
-        nap(rt, NAP);
-    }
+    give_way(rt, pass.rules.form, tried);
 }
 
 /// Makes at most so many attempts to take the lock without queueing: whether the pass holds it. Each attempt fails while stealing is

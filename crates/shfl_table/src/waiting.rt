@@ -17,13 +17,14 @@ use crate::board::SharedBoard;
 use crate::kept::Kept;
 use crate::outcomes::Outcome;
 use crate::passes::Pass;
-use crate::pausing::Pauses;
+use crate::pausing::pause_after;
 use crate::queueing::{Queueing, attempts_before};
 use crate::trying::try_first;
 use shfl_core::{Ask, Nap, Phase};
 use shfl_line::{Attr, Chooser, Mode};
 use std::sync::Wait;
 use syn_outer::{Gate, Point};
+use waiter_sleep::Pauses;
 
 // The policy's answer to what the next step asks. The first question of a round opens it.
 fn answer<C: Chooser, Rt: Wait>(rt: &Rt, chooser: &mut C, anchor: &Attr, ask: Ask) -> bool
@@ -91,14 +92,6 @@ fn park_or_wake<V: Kept + Drop, G: Gate, Rt: Wait>(
     }
 }
 
-// Wakes the pass that the step has made ready, and where it came so late that it slept, the next one too.
-fn rouse_heir<V: Kept + Drop>(board: &SharedBoard<V>, heir: u32) {
-    if board.rouse(heir as usize) {
-        board.rouse_behind(heir as usize, 1);
-    }
-    board.head.leads_to(heir);
-}
-
 // Wakes the pass that the step has made ready, or has given the shuffler's flag, where it sleeps, and the head, which a reader's count
 // that was taken back may have kept out; and notes who stands behind whom.
 fn rouse_other<V: Kept + Drop>(board: &SharedBoard<V>, before: Phase, nap: Nap, pass: &Pass<V>) {
@@ -106,22 +99,23 @@ fn rouse_other<V: Kept + Drop>(board: &SharedBoard<V>, before: Phase, nap: Nap, 
         return;
     }
     let reg = &pass.own.reg;
+    let sleepers = &board.sleepers;
     match before {
-        Phase::Init => board.stands_last(reg.me),
-        Phase::Link => board.stands_before(reg.before, reg.me),
+        Phase::Init => sleepers.stands_last(reg.me),
+        Phase::Link => sleepers.stands_before(reg.before, reg.me),
         Phase::Place => {
-            board.stands_before(reg.prev, reg.after);
-            board.stands_before(reg.cand, reg.first);
-            board.stands_before(reg.last, reg.cand);
+            sleepers.stands_before(reg.prev, reg.after);
+            sleepers.stands_before(reg.cand, reg.first);
+            sleepers.stands_before(reg.last, reg.cand);
         }
-        Phase::Ready => rouse_heir(board, reg.heir),
+        Phase::Ready => sleepers.rouse_heir(&board.front, reg.heir),
         // who keeps the flag is awake, and must not end its own next sleep
         Phase::Give => {
             if reg.last != reg.me {
-                let _ = board.rouse(reg.last as usize);
+                let _ = sleepers.rouse(reg.last);
             }
         }
-        Phase::Uncount => board.rouse_head(),
+        Phase::Uncount => sleepers.rouse_head(&board.front),
         _ => {}
     }
 }
@@ -202,16 +196,15 @@ pub fn wait_by<V: Kept + Drop, C: Chooser, G: Gate, Rt: Wait>(
         return;
     }
     let _ = pass.acquire(mode);
-    board.head.joins();
-    let mut pauses = Pauses::new();
+    let mut pauses = Pauses::begin(&board.waiter(pass.number()));
     for _ in rt.forever() {
         if !pass.moving() {
-            pauses.end(board, pass);
+            pauses.end(&board.waiter(pass.number()));
             return;
         }
         let outcome = step_on(rt, board, pass, anchor, chooser, gate);
         keep_disabled(board, pass, outcome);
-        pauses.after(rt, board, pass, outcome, gate);
+        pause_after(rt, board, pass, &mut pauses, outcome, gate);
     }
     unreachable!()
 }
@@ -267,6 +260,5 @@ pub fn free<V: Kept + Drop>(board: &SharedBoard<V>, pass: &mut Pass<V>)
 {
     let _ = pass.release();
     let _ = pass.step(board, false);
-    board.rouse_head();
-    board.rouse_ahead();
+    board.sleepers.after_free(&board.front);
 }

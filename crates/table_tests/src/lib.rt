@@ -16,6 +16,8 @@ mod orders;
 #[cfg(test)]
 mod rounds;
 #[cfg(test)]
+mod sleeping;
+#[cfg(test)]
 mod straight;
 #[cfg(test)]
 mod threads;

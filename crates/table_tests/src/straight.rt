@@ -185,7 +185,7 @@ fn who_looked_in_vain_gives_way_once(rt: HostRuntime) -> Result<(), Fail> {
 #[test]
 fn who_tried_in_vain_gives_way_once(rt: HostRuntime) -> Result<(), Fail> {
     for form in FORMS {
-        let tries = Queueing::After(64);
+        let tries = Queueing::After { attempts: 64 };
         assert_eq!(rt; in_vain(&rt, rt.alloc(), form, tries)?, Some(1));
     }
     Ok(())

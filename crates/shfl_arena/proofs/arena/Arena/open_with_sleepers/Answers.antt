@@ -7,7 +7,7 @@ use Rattle.shfl_arena.specs.ArenaWords.{word_count}
 use Rattle.shfl_arena.specs.ArenaTable.{LawfulTable}
 use Rattle.shfl_arena.specs.SeatViews.{new_seat}
 use Rattle.shfl_arena.proofs.FirstState.{first-state, words-are}
-use Rattle.shfl_arena.proofs.arena.Arena.open.Goals as goal
+use Rattle.shfl_arena.proofs.arena.Arena.open_with_sleepers.Goals as goal
 
 pub new-requires : goal.new-requires
 new-requires g c = let r : Rules = record { limit = c.args.limit; form = c.args.form } in let may : MayOpen r c.args.attrs.now = record { limit = c.requires.limited; some = c.requires.some; few = c.requires.few } in
