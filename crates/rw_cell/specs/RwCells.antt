@@ -1,5 +1,5 @@
 -- A cell with a copy for each pass, and its passes, as clauses see them.
-use Rattle.std.specs.Prelude.{◌≡◌, ℕ, ◌+◌, ◌<◌, ◌≤◌, true, List, [], ◌∷◌, ◌++◌, map, length, slice_get, slice_index, slice_index_or, Contains, Some}
+use Rattle.std.specs.Prelude.{◌≡◌, ℕ, ◌+◌, ◌<◌, ◌≤◌, true, List, [], ◌∷◌, ◌++◌, map, length, slice_index, slice_index_or, Contains}
 use Rattle.hist_log.specs.History.{IsLegal, state_left}
 use Rattle.shfl_line.specs.declared.words.Attr.{Attr}
 use Rattle.shfl_line.specs.declared.events.Mode.{Mode}
@@ -110,12 +110,9 @@ IsPassOf cell p = (p.cell ≡ cell.id) × (p.opening ≡ cell.opening)
 abbrev pub given : {E : Type 0} → RwPassModel E → Given
 given p = record { number = p.reg.me; history = p.seen }
 
--- these are all passes of a cell of so many, and each stands there once
+-- these are all passes of a cell of so many
 abbrev pub AreAll : {E : Type 0} → ℕ → List (RwPassModel E) → Type 0
 AreAll count passes = (k : ℕ) → k < count → Contains (map number passes) k
-
-abbrev pub AreOnce : {E : Type 0} → List (RwPassModel E) → Type 0
-AreOnce {E} passes = (i j : ℕ) (p q : RwPassModel E) → slice_get passes i ≡ Some p → slice_get passes j ≡ Some q → number p ≡ number q → i ≡ j
 
 -- each pass stands at the place of its number
 abbrev pub AreInOrder : {E : Type 0} → List (RwPassModel E) → Type 0

@@ -7,7 +7,7 @@ ghost use Rattle.shfl_table.specs.PassModel.{as_given, as_part};
 ghost use Rattle.shfl_table.specs.declared.kept.Action.{Action};
 ghost use Rattle.shfl_table.specs.Books.{action, actions, pack, opening_of, operations_of, HavePlaces};
 ghost use Rattle.rw_cell.specs.KeptReads.{KeepsReads, answers_as};
-ghost use Rattle.rw_cell.specs.RwCells.{given, number, IsPassOf, AreAll, AreOnce};
+ghost use Rattle.rw_cell.specs.RwCells.{given, number, IsPassOf, AreAll};
 ghost use Rattle.rw_cell.specs.Closings.{GivesWrites, GivesReads, part, HasRunOf};
 
 use crate::cell::{RwCellOf, RwPass, RwPassOf};
@@ -73,7 +73,6 @@ impl<O: Object + Drop> RwCellOf<Book<O>, Entry<O>, O> {
     pub fn close(self, mut passes: Vec<RwPass<O>>) -> (Vec<O>, Vec<Entry<O>>, Vec<Vec<Entry<O>>>)
         requires cell { All (IsPassOf self) passes.items }
         requires all { AreAll self.count passes.items }
-        requires once { AreOnce passes.items }
 
         // Each copy is what the writes leave.
         ensures copies { (vec_len result.0 ≡ self.count)
