@@ -19,7 +19,7 @@ fn parted<O: Object + Drop>(pass: RwPass<O>) -> (Pass<Book<O>>, usize, Vec<Entry
     ensures idle { plan.is_idle result.0.own.phase ≡ true }
     ensures board { result.0.board ≡ pass.cell }
     ensures given { as_given result.0 ≡ given pass }
-    ensures part { as_part result.0 ≡ part result.0.attempts pass }
+    ensures part { as_part result.0 ≡ part pass }
     ensures number { (result.1 ≡ number pass) × (number pass < pass.cell.table.slots) }
     ensures reads { result.2.items ≡ pass.reads }
     ensures keeps { KeepsReads (action O.call_numbers O.reply_numbers) (λ e. e.receipt)

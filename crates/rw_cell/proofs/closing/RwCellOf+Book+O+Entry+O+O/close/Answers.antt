@@ -66,7 +66,7 @@ loop-next-init g c = let P : RwPassModel (E g) → Type 0 = IsPassOf c.args.self
       (let a = ap (λ (z : RwCellModel). z.count) m in search rules),
       λ once. sorted-at number (R g) c.args.passes.items c.args.passes.items c.pop.new.self.items c.in-Some.first c.self.inside.lists.items c.parted-pass.result.2 c.parted-pass.result.1 e.number.0 once items
           small (e.reads, e.keeps) (sorted-start number (R g) c.args.passes.items c.self.inside.lists.items),
-      subst (λ (z : ClosingModel). AreBack c.args.passes.items c.pop.new.self.items z.parts) (sym n) (back-first c.args.passes.items c.pop.new.self.items c.in-Some.first _ _ items e.part),
+      subst (λ (z : ClosingModel). AreBack c.args.passes.items c.pop.new.self.items z.parts) (sym n) (back-first c.args.passes.items c.pop.new.self.items c.in-Some.first _ items e.part),
     )
 
 pub index_mut-requires-in-Some-pop : goal.index_mut-requires-in-Some-pop
@@ -96,7 +96,7 @@ loop-next-preserved g c = let P : RwPassModel (E g) → Type 0 = IsPassOf c.args
       search rules,
       λ once. sorted-at number (R g) c.args.passes.items old new c.in-Some-pop.next c.loop-next.lists.items c.parted-pass-in-Some-pop.result.2 c.parted-pass-in-Some-pop.result.1 e.number.0 once items
           small (e.reads, e.keeps) (i.5 once),
-      subst (λ (z : ClosingModel). AreBack c.args.passes.items new z.parts) (sym n) (back-more c.args.passes.items old new c.in-Some-pop.next _ _ c.loop-next.closing.parts items e.part i.6),
+      subst (λ (z : ClosingModel). AreBack c.args.passes.items new z.parts) (sym n) (back-more c.args.passes.items old new c.in-Some-pop.next _ c.loop-next.closing.parts items e.part i.6),
     )
 
 module _ (g : given_here.Over) (c : In_default-pop g) where
