@@ -31,6 +31,7 @@ impl SharedCalls for Pool<Dir> {
     ghost use Rattle.dir_table.specs.Numbers.{call_numbers};
     ghost use Rattle.dir_table.specs.Meanings.{Admits};
     ghost use Rattle.shfl_cell.specs.Cells.{number as number_of};
+    ghost use Rattle.shfl_table.specs.Waits.{AsksInRounds};
     ghost use Rattle.call_pool.specs.Pools.{IsPassOf};
 
     ghost is_pass = { λ pool p. IsPassOf call_numbers Admits pool p };
@@ -38,6 +39,9 @@ impl SharedCalls for Pool<Dir> {
     ghost number = { λ p. number_of p.cell };
 
     ghost ended = { λ p. p.taker.ended };
+
+    ghost asks = { λ old new told told'. AsksInRounds old.cell.attr old.cell.decisions
+        new.cell.decisions told told' };
 
     fn take_rest<C: Chooser, G: Gate, R: Wait>(
         &self,

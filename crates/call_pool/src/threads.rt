@@ -16,7 +16,8 @@ const THREADS: usize = 16;
 pub trait SharedCalls {
     type Pass: Drop + Send;
 
-    ghost use Rattle.std.specs.Prelude.{ℕ, Bool};
+    ghost use Rattle.std.specs.Prelude.{ℕ, Bool, List, Option};
+    ghost use Rattle.shfl_line.specs.declared.choosers.Told.{Told};
 
     /// The pass is one of these calls.
     ghost is_pass: { Self → Self.Pass → Type 0 };
@@ -26,6 +27,9 @@ pub trait SharedCalls {
 
     /// Whether the pass was answered that no call is left.
     ghost ended: { Self.Pass → Bool };
+
+    /// Between these two states the pass asked its policy just what a chooser was told between these two lists.
+    ghost asks: { Self.Pass → Self.Pass → (told told' : Option (List Told)) → Type 0 };
 
     /// Takes calls and makes them until none is left. Takes no memory.
     fn take_rest<C: Chooser, G: Gate, R: Wait>(
@@ -38,7 +42,8 @@ pub trait SharedCalls {
         requires { is_pass self.now pass.old }
         ensures pass { is_pass self.now pass.new }
         ensures number { number pass.new ≡ number pass.old }
-        ensures ended { ended pass.new ≡ true };
+        ensures ended { ended pass.new ≡ true }
+        ensures asked { asks pass.old pass.new (C.told chooser.old) (C.told chooser.new) };
 }
 
 /// All passes take calls until none is left, each in a thread of its own. Where a thread can't be had, the caller does its work.

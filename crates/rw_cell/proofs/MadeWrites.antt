@@ -15,7 +15,7 @@ use Rattle.rw_cell.proofs.KeptReads.{keeps-seen}
 
 -- the cell's pass over a pass of the board
 abbrev pub cell_pass : {E : Type 0} → PassModel BookModel → ℕ → Attr → List E → RwPassModel E
-cell_pass q left attr reads = record { cell = q.board; reg = q.own.reg; steps_taken = q.steps_taken; decisions = q.decisions; opening = opening_of q.initial_state; seen = q.history; reads = reads; left = left; attr = attr }
+cell_pass q left attr reads = record { cell = q.board; reg = q.own.reg; steps_taken = q.steps_taken; decisions = q.decisions; attempts = q.attempts; opening = opening_of q.initial_state; seen = q.history; reads = reads; left = left; attr = attr }
 
 -- q0 before the call, q1 as it holds the lock, q2 once it freed it
 module _ {E : Type 0} (reply_at state_after : List ℕ → List ℕ → List ℕ) (q0 q1 q2 : PassModel BookModel) (left : ℕ) (attr : Attr) (reads : List E) (call reply : List ℕ) (place : ℕ)

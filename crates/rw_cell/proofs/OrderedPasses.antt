@@ -3,7 +3,7 @@ use Rattle.std.proofs.Common.{◌≡◌, ℕ, zero, suc, ◌+◌, ◌<◌, ◌�
 use Rattle.std.specs.List.{All}
 use Rattle.std.proofs.lemmas.List.{length-map}
 use Rattle.std.proofs.lemmas.Option.{get_or_from_slice_get}
-use Rattle.rw_cell.specs.RwCells.{RwPassModel, number, AreAll, AreOnce, AreInOrder}
+use Rattle.rw_cell.specs.RwCells.{RwPassModel, number, AreAll, AreInOrder}
 
 -- what is true at each place is true of each element
 pub all-places : {A : Type 0} (P : A → Type 0) (f : ℕ → A) (xs : List A) → ((k : ℕ) → k < length xs → slice_get xs k ≡ Some (f k)) → ((k : ℕ) → P (f k)) → All P xs
@@ -21,15 +21,3 @@ module _ {E : Type 0} where
   all_in_order count (p ∷ ps) long order k h =
       let here : k < length (p ∷ ps) = omega arith in
       (k, (let l = length-map (p ∷ ps) number in omega arith), number-at (p ∷ ps) k k p here ∙ order k p here)
-
-  inside : (passes : List (RwPassModel E)) (i : ℕ) (p : RwPassModel E) → slice_get passes i ≡ Some p → i < length passes
-  inside [] i p e = absurd (cc)
-  inside (q ∷ qs) zero p e = omega arith
-  inside (q ∷ qs) (suc i) p e = let r = inside qs i p e in omega arith
-
-  placed : (passes : List (RwPassModel E)) (i : ℕ) (p : RwPassModel E) → AreInOrder passes → slice_get passes i ≡ Some p → number p ≡ i
-  placed passes i p order e = ap number (sym (get_or_from_slice_get passes i p p e)) ∙ order i p (inside passes i p e)
-
-  -- and each stands there once
-  pub once_in_order : (passes : List (RwPassModel E)) → AreInOrder passes → AreOnce passes
-  once_in_order passes order i j p q e f same = sym (placed passes i p order e) ∙ (same ∙ placed passes j q order f)

@@ -30,14 +30,14 @@ module _ {O C R : Type 0} (call : C → List ℕ) (reply : R → List ℕ) where
     pub order : All (λ p. actions_by (number p) (actions call reply (merged (λ e. e.receipt) writes reads)) ≡ calls_of call reply p) passes
     pub fit : ReadsFit call reply is_read reply_at state_after cell.opening writes reads
 
--- what a pass did, with so many attempts
-abbrev pub part : {E : Type 0} → ℕ → RwPassModel E → Part
-part attempts p = record { number = p.reg.me; steps_taken = p.steps_taken; attempts = attempts; decisions = p.decisions }
+-- what a pass did
+abbrev pub part : {E : Type 0} → RwPassModel E → Part
+part p = record { number = p.reg.me; steps_taken = p.steps_taken; attempts = p.attempts; decisions = p.decisions }
 
 -- each of these is what the pass at its place did
 abbrev pub ArePartsOf : {E : Type 0} → List (RwPassModel E) → List Part → Type 0
 ArePartsOf [] [] = Unit {0}
-ArePartsOf (p ∷ ps) (x ∷ xs) = (x ≡ part x.attempts p) × ArePartsOf ps xs
+ArePartsOf (p ∷ ps) (x ∷ xs) = (x ≡ part p) × ArePartsOf ps xs
 ArePartsOf _ _ = ⊥
 
 -- all that was done to the lock is a run of the model, in which these passes did what they tell, and whose holds have made the writes

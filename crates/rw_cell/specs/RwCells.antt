@@ -1,5 +1,5 @@
 -- A cell with a copy for each pass, and its passes, as clauses see them.
-use Rattle.std.specs.Prelude.{◌≡◌, ℕ, ◌+◌, ◌<◌, ◌≤◌, true, List, [], ◌∷◌, ◌++◌, map, length, slice_get, slice_index, slice_index_or, Contains, Some}
+use Rattle.std.specs.Prelude.{◌≡◌, ℕ, ◌+◌, ◌<◌, ◌≤◌, true, List, [], ◌∷◌, ◌++◌, map, length, slice_index, slice_index_or, Contains}
 use Rattle.hist_log.specs.History.{IsLegal, state_left}
 use Rattle.shfl_line.specs.declared.words.Attr.{Attr}
 use Rattle.shfl_line.specs.declared.events.Mode.{Mode}
@@ -26,13 +26,14 @@ pub record RwCellModel : Type 0 where
 abbrev pub cell_on : BoardModel → RwCellModel
 cell_on b = record { id = b.id; count = b.count; opening = opening_of b.initial_state; allowed = allowed_of b.initial_state }
 
--- a pass: its cell, its registers, how many steps it took, what it asked the policy, the object's state at the opening,
--- the writes that it has seen, the reads that it made, and how many calls it may still make
+-- a pass: its cell, its registers, how many steps it took, what it asked the policy, how often it tried to take the lock without
+-- queueing, the object's state at the opening, the writes that it has seen, the reads that it made, and how many calls it may still make
 pub record RwPassModel (E : Type 0) : Type 0 where
   pub cell : BoardId
   pub reg : Registers
   pub steps_taken : ℕ
   pub decisions : List Decision
+  pub attempts : ℕ
   pub opening : List ℕ
   pub seen : List Action
   pub reads : List E
@@ -74,14 +75,14 @@ pub record MakesRead {E : Type 0} (reply_at state_after : List ℕ → List ℕ 
 
 -- the pass after a try in a mode that found this word
 abbrev pub turned_away : {E : Type 0} → Mode → ℕ → RwPassModel E → RwPassModel E
-turned_away mode word p = record p { reg = record p.reg { mode = mode; saw = word }; steps_taken = p.steps_taken + attempt_steps mode }
+turned_away mode word p = record p { reg = record p.reg { mode = mode; saw = word }; steps_taken = p.steps_taken + attempt_steps mode; attempts = p.attempts + 1 }
 
 abbrev pub no_attr : Attr
 no_attr = record { socket = 0; prio = 0; class = 0; kind = 0 }
 
 -- a pass that has made no call
 abbrev pub fresh : {E : Type 0} → RwCellModel → ℕ → ℕ → Attr → RwPassModel E
-fresh cell k left attr = record { cell = cell.id; reg = blank k; steps_taken = 0; decisions = []; opening = cell.opening; seen = []; reads = []; left = left; attr = attr }
+fresh cell k left attr = record { cell = cell.id; reg = blank k; steps_taken = 0; decisions = []; attempts = 0; opening = cell.opening; seen = []; reads = []; left = left; attr = attr }
 
 -- what is always true of a pass between its calls: it is idle, its calls add up to those that it may make, and it has room for their entries
 pub record RwPassInvariant {X E : Type 0} (action : E → Action) (point : E → ℕ) (fits : List ℕ → List Action → E → Type 0)
@@ -110,12 +111,9 @@ IsPassOf cell p = (p.cell ≡ cell.id) × (p.opening ≡ cell.opening)
 abbrev pub given : {E : Type 0} → RwPassModel E → Given
 given p = record { number = p.reg.me; history = p.seen }
 
--- these are all passes of a cell of so many, and each stands there once
+-- these are all passes of a cell of so many
 abbrev pub AreAll : {E : Type 0} → ℕ → List (RwPassModel E) → Type 0
 AreAll count passes = (k : ℕ) → k < count → Contains (map number passes) k
-
-abbrev pub AreOnce : {E : Type 0} → List (RwPassModel E) → Type 0
-AreOnce {E} passes = (i j : ℕ) (p q : RwPassModel E) → slice_get passes i ≡ Some p → slice_get passes j ≡ Some q → number p ≡ number q → i ≡ j
 
 -- each pass stands at the place of its number
 abbrev pub AreInOrder : {E : Type 0} → List (RwPassModel E) → Type 0

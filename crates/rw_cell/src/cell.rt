@@ -89,6 +89,7 @@ impl<V: Kept + Drop, E: KeptRead + Drop> Model for RwPassOf<V, E> {
       reg = p.pass.own.reg;
       steps_taken = p.pass.steps_taken;
       decisions = p.pass.decisions;
+      attempts = p.pass.attempts;
       opening = opening_of p.pass.initial_state;
       seen = p.pass.history;
       reads = p.reads.items;

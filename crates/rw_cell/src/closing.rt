@@ -7,7 +7,7 @@ ghost use Rattle.shfl_table.specs.PassModel.{as_given, as_part};
 ghost use Rattle.shfl_table.specs.declared.kept.Action.{Action};
 ghost use Rattle.shfl_table.specs.Books.{action, actions, pack, opening_of, operations_of, HavePlaces};
 ghost use Rattle.rw_cell.specs.KeptReads.{KeepsReads, answers_as};
-ghost use Rattle.rw_cell.specs.RwCells.{given, number, IsPassOf, AreAll, AreOnce};
+ghost use Rattle.rw_cell.specs.RwCells.{given, number, IsPassOf, AreAll};
 ghost use Rattle.rw_cell.specs.Closings.{GivesWrites, GivesReads, part, HasRunOf};
 
 use crate::cell::{RwCellOf, RwPass, RwPassOf};
@@ -19,7 +19,7 @@ fn parted<O: Object + Drop>(pass: RwPass<O>) -> (Pass<Book<O>>, usize, Vec<Entry
     ensures idle { plan.is_idle result.0.own.phase ≡ true }
     ensures board { result.0.board ≡ pass.cell }
     ensures given { as_given result.0 ≡ given pass }
-    ensures part { as_part result.0 ≡ part result.0.attempts pass }
+    ensures part { as_part result.0 ≡ part pass }
     ensures number { (result.1 ≡ number pass) × (number pass < pass.cell.table.slots) }
     ensures reads { result.2.items ≡ pass.reads }
     ensures keeps { KeepsReads (action O.call_numbers O.reply_numbers) (λ e. e.receipt)
@@ -73,7 +73,6 @@ impl<O: Object + Drop> RwCellOf<Book<O>, Entry<O>, O> {
     pub fn close(self, mut passes: Vec<RwPass<O>>) -> (Vec<O>, Vec<Entry<O>>, Vec<Vec<Entry<O>>>)
         requires cell { All (IsPassOf self) passes.items }
         requires all { AreAll self.count passes.items }
-        requires once { AreOnce passes.items }
 
         // Each copy is what the writes leave.
         ensures copies { (vec_len result.0 ≡ self.count)

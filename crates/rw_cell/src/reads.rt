@@ -1,10 +1,12 @@
 //! Reads: the pass looks at its own copy.
-ghost use Rattle.std.specs.Prelude.{◌≡◌, ◌+◌, ◌<◌, ◌∷◌, ◌++◌, ◌||◌, [], true, false, length, IfOk, OnOk, IfErr, Some};
+ghost use Rattle.std.specs.Prelude.{◌≡◌, ◌+◌, ◌<◌, ◌≤◌, ◌∷◌, ◌++◌, ◌||◌, [], true, false, length, IfOk, OnOk, IfErr, Some};
 ghost use Rattle.hist_log.specs.History.{state_left};
 ghost use Rattle.shfl_line.specs.Words.{held_of, closed_of};
 ghost use Rattle.shfl_line.specs.declared.events.Mode.TheVariants.{Read};
 ghost use Rattle.shfl_core.specs.Plan as plan;
+ghost use Rattle.shfl_table.specs.Queueing.{attempts_before};
 ghost use Rattle.shfl_table.specs.Waits.{as_idle, AsksInRounds};
+ghost use Rattle.shfl_table.specs.declared.queueing.Queueing.TheVariants.{ByPolicy};
 ghost use Rattle.shfl_table.specs.Books.{pack, opening_of, operations_of};
 ghost use Rattle.rw_cell.specs.CallOrder.{calls_of};
 ghost use Rattle.rw_cell.specs.RwCells.{MakesRead, number, turned_away};
@@ -70,6 +72,7 @@ impl<O: Object + Drop> RwCellOf<Book<O>, Entry<O>, O> {
         ensures mode { OnOk result (pass.new.reg.mode ≡ Read) }
         ensures steps { OnOk result (pass.new.steps_taken ≡ pass.old.steps_taken + 2) }
         ensures asks_nobody { OnOk result (pass.new.decisions ≡ pass.old.decisions) }
+        ensures tried { OnOk result (pass.new.attempts ≡ pass.old.attempts + 1) }
         ensures busy { IfErr result (λ busy.
             (held_of busy.word || closed_of busy.word) ≡ true) }
         ensures turned_away { IfErr result (λ busy.
@@ -100,7 +103,7 @@ impl<O: Object + Drop> RwCellOf<Book<O>, Entry<O>, O> {
 
     /// Takes the lock beside other readers, looks at the pass's own copy and frees the lock. The gate
     /// is called before the lock is asked for, while the pass waits in the queue, while it holds the
-    /// lock, and after it freed it. Takes no memory.
+    /// lock, and after it freed it. It tries before it queues as `write` does. Takes no memory.
     pub fn read<C: Chooser, G: Gate, Rt: Wait>(
         &self,
         rt: &Rt,
@@ -130,6 +133,8 @@ impl<O: Object + Drop> RwCellOf<Book<O>, Entry<O>, O> {
 
         // The lock was held for reading.
         ensures mode { pass.new.reg.mode ≡ Read }
+        ensures tried { pass.new.attempts
+            ≤ pass.old.attempts + attempts_before ByPolicy (C.moves_waiters chooser.old) }
         ensures asked { AsksInRounds pass.old.attr pass.old.decisions pass.new.decisions
             (C.told chooser.old) (C.told chooser.new) }
         ensures home { C.home chooser.new ≡ C.home chooser.old }

@@ -1,11 +1,13 @@
 //! Writes: the call is made on every copy.
-ghost use Rattle.std.specs.Prelude.{◌≡◌, ◌≢◌, ◌+◌, ◌<◌, ◌∷◌, ◌++◌, [], true, false, List, map, set, slice_get, length, slice_index, IfOk, OnOk, IfErr, Some};
+ghost use Rattle.std.specs.Prelude.{◌≡◌, ◌≢◌, ◌+◌, ◌<◌, ◌≤◌, ◌∷◌, ◌++◌, [], true, false, List, map, set, slice_get, length, slice_index, IfOk, OnOk, IfErr, Some};
 ghost use Rattle.hist_log.specs.History.{IsLegal, state_left};
 ghost use Rattle.shfl_line.specs.declared.events.Mode.TheVariants.{Write};
 ghost use Rattle.shfl_core.specs.Plan as plan;
 ghost use Rattle.shfl_table.specs.Histories.{actions_by};
 ghost use Rattle.shfl_table.specs.Places.{Every};
+ghost use Rattle.shfl_table.specs.Queueing.{attempts_before};
 ghost use Rattle.shfl_table.specs.Waits.{as_idle, AsksInRounds};
+ghost use Rattle.shfl_table.specs.declared.queueing.Queueing.TheVariants.{ByPolicy};
 ghost use Rattle.shfl_table.specs.Books.{pack, opening_of, allowed_of, operations_of};
 ghost use Rattle.rw_cell.specs.CallOrder.{calls_of};
 ghost use Rattle.rw_cell.specs.RwCells.{MakesWrite, number, turned_away, write_after};
@@ -152,6 +154,7 @@ impl<O: Object + Drop> RwCellOf<Book<O>, Entry<O>, O> {
         ensures mode { OnOk result (pass.new.reg.mode ≡ Write) }
         ensures steps { OnOk result (pass.new.steps_taken ≡ pass.old.steps_taken + 2) }
         ensures asks_nobody { OnOk result (pass.new.decisions ≡ pass.old.decisions) }
+        ensures tried { OnOk result (pass.new.attempts ≡ pass.old.attempts + 1) }
         ensures busy { IfErr result (λ busy. busy.word ≢ 0) }
         ensures turned_away { IfErr result (λ busy.
             pass.new ≡ turned_away Write busy.word pass.old) }
@@ -173,7 +176,8 @@ impl<O: Object + Drop> RwCellOf<Book<O>, Entry<O>, O> {
 
     /// Takes the lock, makes the write on every copy and frees the lock. The gate is called before
     /// the lock is asked for, while the pass waits in the queue, while it holds the lock, and after
-    /// it freed it. Takes no memory.
+    /// it freed it. Where the chooser may move waiters it queues at once; else it tries a few times
+    /// before, and no more. Takes no memory.
     pub fn write<C: Chooser, G: Gate, Rt: Wait>(
         &self,
         rt: &Rt,
@@ -199,6 +203,8 @@ impl<O: Object + Drop> RwCellOf<Book<O>, Entry<O>, O> {
 
         // The lock was held for writing.
         ensures mode { pass.new.reg.mode ≡ Write }
+        ensures tried { pass.new.attempts
+            ≤ pass.old.attempts + attempts_before ByPolicy (C.moves_waiters chooser.old) }
         ensures asked { AsksInRounds pass.old.attr pass.old.decisions pass.new.decisions
             (C.told chooser.old) (C.told chooser.new) }
         ensures home { C.home chooser.new ≡ C.home chooser.old }

@@ -47,7 +47,7 @@ module _ {X : Type 0} (anchor : Attr) where
       (asks-first (answers_of anchor) old.decisions new.decisions told (ap (λ (z : SeatModel X). z.decisions) e ∙ same))
 
   -- a seat that tried in vain, and then began to take the lock
-  pub begins-to-wait : (lock : ℕ) (mode : Mode) (attempts : ℕ) (old mid new : SeatModel X) (told : Option (List Told)) (began : Bool) → TriedInVain {X = X} attempts old mid
+  pub begins-to-wait : (lock : ℕ) (mode : Mode) (attempts : ℕ) (old mid new : SeatModel X) (told : Option (List Told)) (began : Bool) → TriedInVain {X = X} mode attempts old mid
       → began ≡ not (moving mid.own) → (began ≡ true → new ≡ record mid { lock = lock; own = entering mid.own.reg.me mode }) → WaitsFor {X = X} lock mode old new × AsksMeanwhile old new told told
   begins-to-wait lock mode attempts old mid new told began v answer after = let e = after (answer ∙ ap not v.rests) in
       (waits-after lock mode attempts old mid new v (waits-first lock mode mid new e), begun lock mode old mid new told v.decisions e)

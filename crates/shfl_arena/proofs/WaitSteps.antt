@@ -1,5 +1,5 @@
 -- A seat that waits goes on waiting by each step, until it holds the lock.
-use Rattle.std.proofs.Common.{◌≡◌, ◌≢◌, ◌≤◌, ◌+◌, ℕ, ◌==◌, Bool, true, false, cond, List, ◌∷◌, refl, sym, ap, ◌∙◌, subst, ⊎_elim, arith}
+use Rattle.std.proofs.Common.{◌≡◌, ◌≢◌, ◌≤◌, ◌<◌, ◌+◌, ◌*◌, ℕ, ◌==◌, Bool, true, false, not, cond, List, [], ◌∷◌, refl, sym, ap, ◌∙◌, subst, ⊎_elim, arith}
 use Rattle.std.specs.Prelude.{Option, Some, None}
 use Rattle.shfl_line.specs.declared.events.Mode.{Mode}
 use Rattle.shfl_line.specs.declared.events.Mode.TheVariants.{Write, Read}
@@ -18,7 +18,7 @@ use Rattle.shfl_arena.specs.Threads.{mode_held, resting}
 use Rattle.shfl_arena.specs.ValueMoves.{writes, MovesValue}
 use Rattle.shfl_arena.specs.SeatModels.{SeatModel, entering}
 use Rattle.shfl_arena.specs.SeatSteps.{TakesStep, WinsAttempt, LosesAttempt, attempt_steps}
-use Rattle.shfl_arena.specs.Waits.{TriedInVain, WaitsFor}
+use Rattle.shfl_arena.specs.Waits.{TookAtOnce, QueuesAfter, TriedInVain, WaitsFor}
 use Rattle.shfl_arena.proofs.Threads.{still-is}
 use Rattle.shfl_arena.proofs.ValueMoves.{frees-writer}
 
@@ -127,19 +127,19 @@ module _ {X : Type 0} (lock : ℕ) (mode : Mode) (old : SeatModel X) where
       else : (l : ℕ) → l ≢ lock → (lock == l) ≡ false
       else l d = grind (arith, nat_tests)
 
-two-steps : (m : Mode) → attempt_steps m ≤ 2
-two-steps Write = omega arith
-two-steps Read = omega arith
+one-more : (m : Mode) (n : ℕ) → (n + 1) * attempt_steps m ≡ n * attempt_steps m + attempt_steps m
+one-more Write n = omega arith
+one-more Read n = omega arith
 
-module _ {X : Type 0} (lock : ℕ) (mode : Mode) (attempts : ℕ) (old tried new : SeatModel X) (v : TriedInVain {X = X} attempts old tried) where
+module _ {X : Type 0} (lock : ℕ) (mode : Mode) (attempts : ℕ) (old tried new : SeatModel X) (v : TriedInVain {X = X} mode attempts old tried) where
   -- one more try in vain
-  pub tried-more : (word : ℕ) → LosesAttempt {X = X} lock mode word tried new → TriedInVain {X = X} (attempts + 1) old new
+  pub tried-more : (word : ℕ) → LosesAttempt {X = X} lock mode word tried new → TriedInVain {X = X} mode (attempts + 1) old new
   tried-more word l = record {
     arena = ap (λ (z : SeatModel X). z.arena) l.after ∙ v.arena;
     number = ap (λ (z : SeatModel X). z.own.reg.me) l.after ∙ v.number;
     rests = ap (λ (z : SeatModel X). moving z.own) l.after;
     holds = ap (λ (z : SeatModel X). z.holds) l.after ∙ v.holds;
-    steps = (let a = v.steps in let b : new.steps_taken ≡ tried.steps_taken + attempt_steps mode = ap (λ (z : SeatModel X). z.steps_taken) l.after in let d = two-steps mode in omega arith);
+    steps = (let a = v.steps in let b : new.steps_taken ≡ tried.steps_taken + attempt_steps mode = ap (λ (z : SeatModel X). z.steps_taken) l.after in let d = one-more mode attempts in omega arith);
     decisions = ap (λ (z : SeatModel X). z.decisions) l.after ∙ v.decisions;
     values = ap (λ (z : SeatModel X). z.values) l.after ∙ v.values;
   }
@@ -157,6 +157,14 @@ module _ {X : Type 0} (lock : ℕ) (mode : Mode) (attempts : ℕ) (old tried new
     value = subst (λ (z : ℕ × List (ℕ × Option X)). MovesValue {V = X} z.0 lock false (writes new.own) z.1 new.values)
         (λ j. ((ap (λ z. z.table.slots) v.arena) j, v.values j)) w.value;
   }
+
+  -- where it may have tried once more
+  pub took-at-once : (most : ℕ) → attempts < most → WinsAttempt {X = X} lock mode tried new → TookAtOnce {X = X} most lock mode old new
+  took-at-once most few a = record { tries = attempts; few = few; before = tried; vain = v; won = a }
+
+  -- and then began to take the lock
+  pub queues-first : (began : Bool) → began ≡ not (moving tried.own) → (began ≡ true → new ≡ record tried { lock = lock; own = entering tried.own.reg.me mode }) → QueuesAfter {X = X} attempts lock mode old new
+  queues-first began answer after = record { before = tried; vain = v; steps = []; since = after (answer ∙ ap not v.rests) }
 
   -- a try that took the lock
   pub tried-won : WinsAttempt {X = X} lock mode tried new → WaitsFor {X = X} lock mode old new × (moving new.own ≡ false)

@@ -1,5 +1,5 @@
 -- A seat that waits for a lock, and what it asks meanwhile.
-use Rattle.std.specs.Prelude.{◌≡◌, ◌≢◌, ◌≤◌, ℕ, ◌+◌, ◌*◌, Bool, cond, false, List, Option, Some, None}
+use Rattle.std.specs.Prelude.{◌≡◌, ◌≢◌, ◌⊎◌, ◌<◌, ◌≤◌, ℕ, ◌+◌, ◌*◌, Bool, cond, false, List, [], ◌∷◌, Option, Some, None}
 use Rattle.shfl_line.specs.declared.words.Attr.{Attr}
 use Rattle.shfl_line.specs.declared.choosers.Answer.{Answer}
 use Rattle.shfl_line.specs.declared.choosers.Told.{Told}
@@ -12,7 +12,8 @@ use Rattle.shfl_laws.specs.Holds.{is_ending}
 use Rattle.shfl_arena.specs.declared.trying.TheConstants.{FEW_ATTEMPTS}
 use Rattle.shfl_arena.specs.declared.view.Decision.{Decision}
 use Rattle.shfl_arena.specs.Threads.{mode_held}
-use Rattle.shfl_arena.specs.SeatModels.{SeatModel}
+use Rattle.shfl_arena.specs.SeatModels.{SeatModel, entering}
+use Rattle.shfl_arena.specs.SeatSteps.{TakesStep, WinsAttempt, attempt_steps}
 use Rattle.shfl_arena.specs.ValueMoves.{writes, MovesValue}
 
 -- the answer with which a decision was made
@@ -27,15 +28,39 @@ AsksInRounds anchor old new told told' = AsksBy (answers_of anchor) old new told
 abbrev pub attempts_before : Bool → ℕ
 attempts_before moves_waiters = cond moves_waiters 1 FEW_ATTEMPTS
 
--- a seat that tried so often at most to take a lock without queueing, by two steps at most each, and holds what it held
-pub record TriedInVain {X : Type 0} (attempts : ℕ) (old now : SeatModel X) : Type 0 where
+-- a seat that tried so often at most to take a lock in a mode without queueing, and holds what it held
+pub record TriedInVain {X : Type 0} (mode : Mode) (attempts : ℕ) (old now : SeatModel X) : Type 0 where
   pub arena : now.arena ≡ old.arena
   pub number : now.own.reg.me ≡ old.own.reg.me
   pub rests : moving now.own ≡ false
   pub holds : now.holds ≡ old.holds
-  pub steps : now.steps_taken ≤ old.steps_taken + attempts * 2
+  pub steps : now.steps_taken ≤ old.steps_taken + attempts * attempt_steps mode
   pub decisions : now.decisions ≡ old.decisions
   pub values : now.values ≡ old.values
+
+-- a seat that took the lock by the last of so many attempts at most, the others in vain
+pub record TookAtOnce {X : Type 0} (attempts lock : ℕ) (mode : Mode) (old now : SeatModel X) : Type 0 where
+  pub tries : ℕ
+  pub few : tries < attempts
+  pub before : SeatModel X
+  pub vain : TriedInVain mode tries old before
+  pub won : WinsAttempt lock mode before now
+
+-- what steps of the lock's machine alone make of a seat, the last step first
+abbrev pub AreSteps : {X : Type 0} → SeatModel X → List (SeatModel X × Bool) → SeatModel X → Type 0
+AreSteps first [] now = now ≡ first
+AreSteps first (last ∷ earlier) now = AreSteps first earlier last.0 × TakesStep last.0 last.1 now
+
+-- a seat that tried so often at most, in vain, then began to take the lock, and made steps of the lock's machine alone since
+pub record QueuesAfter {X : Type 0} (attempts lock : ℕ) (mode : Mode) (old now : SeatModel X) : Type 0 where
+  pub before : SeatModel X
+  pub vain : TriedInVain mode attempts old before
+  pub steps : List (SeatModel X × Bool)
+  pub since : AreSteps (record before { lock = lock; own = entering before.own.reg.me mode }) steps now
+
+-- so many attempts at most to take the lock, and beside them its machine's steps alone
+abbrev pub TriesAtMost : {X : Type 0} → ℕ → ℕ → Mode → SeatModel X → SeatModel X → Type 0
+TriesAtMost attempts lock mode old now = TookAtOnce attempts lock mode old now ⊎ QueuesAfter attempts lock mode old now
 
 -- a seat that began to take the lock in a mode, and made some steps since
 pub record WaitsFor {X : Type 0} (lock : ℕ) (mode : Mode) (old now : SeatModel X) : Type 0 where

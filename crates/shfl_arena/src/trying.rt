@@ -3,7 +3,7 @@ ghost use Rattle.std.specs.Prelude.{◌≡◌, ◌<◌, true, false, None};
 ghost use Rattle.shfl_core.specs.Plan as plan;
 ghost use Rattle.shfl_core.specs.Waiting.{MayUse};
 ghost use Rattle.shfl_arena.specs.Threads.{mode_held};
-ghost use Rattle.shfl_arena.specs.Waits.{TriedInVain, WaitsFor, attempts_before};
+ghost use Rattle.shfl_arena.specs.Waits.{TookAtOnce, TriedInVain, WaitsFor, attempts_before};
 
 use crate::arena::Arena;
 use crate::seats::ArenaSeat;
@@ -46,7 +46,8 @@ pub(crate) fn try_first<V: Drop, Rt: Wait>(
     requires free { mode_held lock seat.old.holds ≡ None }
     ensures waited { result ≡ true → WaitsFor lock mode seat.old seat.new }
     ensures rests { plan.moving seat.new.own ≡ false }
-    ensures lost { result ≡ false → TriedInVain attempts seat.old seat.new }
+    ensures won { result ≡ true → TookAtOnce attempts lock mode seat.old seat.new }
+    ensures lost { result ≡ false → TriedInVain mode attempts seat.old seat.new }
     ensures asked { seat.new.decisions ≡ seat.old.decisions }
 {
     for tried in 0..attempts {

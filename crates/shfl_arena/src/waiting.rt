@@ -8,7 +8,7 @@ ghost use Rattle.shfl_core.specs.Waiting.{MayUse};
 ghost use Rattle.shfl_arena.specs.SeatSteps.{TakesStep};
 ghost use Rattle.shfl_arena.specs.Threads.{mode_held};
 ghost use Rattle.shfl_arena.specs.ValueMoves.{HasInFront};
-ghost use Rattle.shfl_arena.specs.Waits.{AsksInRounds, Frees, WaitsFor};
+ghost use Rattle.shfl_arena.specs.Waits.{AsksInRounds, Frees, TriesAtMost, WaitsFor, attempts_before};
 
 use crate::arena::Arena;
 use crate::outcomes::{Outcome, outcome_of};
@@ -111,6 +111,8 @@ pub fn wait_for<V: Drop, C: Chooser, Rt: Wait>(
     ensures home { C.home chooser.new ≡ C.home chooser.old }
     ensures rests { plan.moving seat.new.own ≡ false }
     ensures waited { WaitsFor lock mode seat.old seat.new }
+    ensures tried { TriesAtMost (attempts_before (C.moves_waiters chooser.old)) lock mode
+        seat.old seat.new }
     ensures asked { AsksInRounds anchor.now seat.old.decisions seat.new.decisions
         (C.told chooser.old) (C.told chooser.new) }
 {

@@ -27,7 +27,7 @@ one-value old new s initial one = by s.1.0 s.1.1 (s.1.2 ∙ one) s.1.3
 
 -- the cell's pass over a pass of the board
 abbrev cell_pass : PassModel BookModel → ℕ → Attr → CellPassModel
-cell_pass q left attr = record { cell = q.board; reg = q.own.reg; steps_taken = q.steps_taken; decisions = q.decisions; opening = opening_of q.initial_state; seen = q.history; left = left; attr = attr }
+cell_pass q left attr = record { cell = q.board; reg = q.own.reg; steps_taken = q.steps_taken; decisions = q.decisions; attempts = q.attempts; opening = opening_of q.initial_state; seen = q.history; left = left; attr = attr }
 
 -- q0 before the call, q1 as it holds the lock, q2 once it freed it
 module _ (reply_at state_after : List ℕ → List ℕ → List ℕ) (q0 q1 q2 : PassModel BookModel) (left : ℕ) (attr : Attr) (call reply : List ℕ) (place : ℕ)

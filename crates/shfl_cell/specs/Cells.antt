@@ -25,13 +25,14 @@ pub record CellModel : Type 0 where
 abbrev pub cell_on : BoardModel → CellModel
 cell_on b = record { id = b.id; count = b.count; opening = opening_of b.initial_state; allowed = allowed_of b.initial_state }
 
--- a pass: its cell, its registers, how many steps it took, what it asked the policy, the object's state at the opening,
--- the history that it has seen, and how many calls it may still make
+-- a pass: its cell, its registers, how many steps it took, what it asked the policy, how often it tried to take the lock without
+-- queueing, the object's state at the opening, the history that it has seen, and how many calls it may still make
 pub record CellPassModel : Type 0 where
   pub cell : BoardId
   pub reg : Registers
   pub steps_taken : ℕ
   pub decisions : List Decision
+  pub attempts : ℕ
   pub opening : List ℕ
   pub seen : List Action
   pub left : ℕ
@@ -53,27 +54,27 @@ pub record MakesCall (reply_at state_after : List ℕ → List ℕ → List ℕ)
 
 -- the pass after a try that found this word
 abbrev pub turned_away : ℕ → CellPassModel → CellPassModel
-turned_away word p = record p { reg = record p.reg { mode = Write; saw = word }; steps_taken = p.steps_taken + 1 }
+turned_away word p = record p { reg = record p.reg { mode = Write; saw = word }; steps_taken = p.steps_taken + 1; attempts = p.attempts + 1 }
 
 abbrev pub no_attr : Attr
 no_attr = record { socket = 0; prio = 0; class = 0; kind = 0 }
 
 -- a pass that has made no call
 abbrev pub fresh : CellModel → ℕ → ℕ → Attr → CellPassModel
-fresh cell k left attr = record { cell = cell.id; reg = blank k; steps_taken = 0; decisions = []; opening = cell.opening; seen = []; left = left; attr = attr }
+fresh cell k left attr = record { cell = cell.id; reg = blank k; steps_taken = 0; decisions = []; attempts = 0; opening = cell.opening; seen = []; left = left; attr = attr }
 
 -- what a pass gives back: its number, and the history that it saw last
 abbrev pub given : CellPassModel → Given
 given p = record { number = p.reg.me; history = p.seen }
 
--- what it did, with so many attempts
-abbrev pub part : ℕ → CellPassModel → Part
-part attempts p = record { number = p.reg.me; steps_taken = p.steps_taken; attempts = attempts; decisions = p.decisions }
+-- what it did
+abbrev pub part : CellPassModel → Part
+part p = record { number = p.reg.me; steps_taken = p.steps_taken; attempts = p.attempts; decisions = p.decisions }
 
 -- each of these is what the pass at its place did
 abbrev pub ArePartsOf : List CellPassModel → List Part → Type 0
 ArePartsOf [] [] = Unit {0}
-ArePartsOf (p ∷ ps) (x ∷ xs) = (x ≡ part x.attempts p) × ArePartsOf ps xs
+ArePartsOf (p ∷ ps) (x ∷ xs) = (x ≡ part p) × ArePartsOf ps xs
 ArePartsOf _ _ = ⊥
 
 -- all that was done to the lock is a run of the model, in which these passes did what they tell, and whose holds have made the history

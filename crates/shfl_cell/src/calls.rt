@@ -1,10 +1,12 @@
 //! Calls of the object behind the lock.
-ghost use Rattle.std.specs.Prelude.{◌≡◌, ◌≢◌, ◌+◌, ◌<◌, ◌∷◌, ◌++◌, [], true, false, length, slice_index, IfOk, OnOk, IfErr, Some};
+ghost use Rattle.std.specs.Prelude.{◌≡◌, ◌≢◌, ◌+◌, ◌<◌, ◌≤◌, ◌∷◌, ◌++◌, [], true, false, length, slice_index, IfOk, OnOk, IfErr, Some};
 ghost use Rattle.hist_log.specs.History.{IsLegal};
 ghost use Rattle.shfl_line.specs.declared.events.Mode.TheVariants.{Write};
 ghost use Rattle.shfl_core.specs.Plan as plan;
 ghost use Rattle.shfl_table.specs.Histories.{actions_by};
+ghost use Rattle.shfl_table.specs.Queueing.{attempts_before};
 ghost use Rattle.shfl_table.specs.Waits.{as_idle, AsksInRounds};
+ghost use Rattle.shfl_table.specs.declared.queueing.Queueing.TheVariants.{ByPolicy};
 ghost use Rattle.shfl_table.specs.Books.{pack, opening_of, allowed_of, operations_of};
 ghost use Rattle.shfl_cell.specs.Cells.{MakesCall, number, turned_away};
 
@@ -67,6 +69,7 @@ impl<O: Object + Drop> ShflCellOf<Book<O>> {
         }) r.1.place pass.new) }
         ensures steps { OnOk result (pass.new.steps_taken ≡ pass.old.steps_taken + 2) }
         ensures asks_nobody { OnOk result (pass.new.decisions ≡ pass.old.decisions) }
+        ensures tried { OnOk result (pass.new.attempts ≡ pass.old.attempts + 1) }
         ensures busy { IfErr result (λ busy. busy.word ≢ 0) }
         ensures turned_away { IfErr result (λ busy.
             pass.new ≡ turned_away busy.word pass.old) }
@@ -87,7 +90,8 @@ impl<O: Object + Drop> ShflCellOf<Book<O>> {
 
     /// Takes the lock, makes the call, keeps its entry and frees the lock. The gate is called before the
     /// lock is asked for, while the pass waits in the queue, while it holds the lock, and after it freed
-    /// it. Takes no memory.
+    /// it. Where the chooser may move waiters it queues at once; else it tries a few times before, and no
+    /// more. Takes no memory.
     pub fn apply<C: Chooser, G: Gate, Rt: Wait>(
         &self,
         rt: &Rt,
@@ -104,6 +108,8 @@ impl<O: Object + Drop> ShflCellOf<Book<O>> {
           call = O.call_numbers call.now;
           reply = O.reply_numbers result.0;
         }) result.1.place pass.new }
+        ensures tried { pass.new.attempts
+            ≤ pass.old.attempts + attempts_before ByPolicy (C.moves_waiters chooser.old) }
         ensures asked { AsksInRounds pass.old.attr pass.old.decisions pass.new.decisions
             (C.told chooser.old) (C.told chooser.new) }
         ensures home { C.home chooser.new ≡ C.home chooser.old }

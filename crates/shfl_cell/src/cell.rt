@@ -55,6 +55,7 @@ impl<V: Kept + Drop> Model for CellPassOf<V> {
       reg = p.pass.own.reg;
       steps_taken = p.pass.steps_taken;
       decisions = p.pass.decisions;
+      attempts = p.pass.attempts;
       opening = opening_of p.pass.initial_state;
       seen = p.pass.history;
       left = p.left;

@@ -16,7 +16,7 @@ fn board_pass<O: Object + Drop>(pass: CellPass<O>) -> Pass<Book<O>>
     ensures idle { plan.is_idle result.own.phase ≡ true }
     ensures board { result.board ≡ pass.cell }
     ensures given { as_given result ≡ given pass }
-    ensures part { as_part result ≡ part result.attempts pass }
+    ensures part { as_part result ≡ part pass }
 {
     let CellPassOf {
         before: _,

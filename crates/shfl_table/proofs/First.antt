@@ -21,7 +21,7 @@ use Rattle.shfl_table.specs.Places.{Every}
 use Rattle.shfl_table.specs.Histories.{IsCurrent}
 use Rattle.shfl_table.specs.BoardRule.{BoardRule}
 use Rattle.shfl_table.specs.Views.{first_view, part_of, IsSpent}
-use Rattle.shfl_table.specs.ThreadRuns.{HasRun, IsTold, did_in, part_in}
+use Rattle.shfl_table.specs.ThreadRuns.{HasRun, IsTold, AreApart, did_in, part_in}
 use Rattle.shfl_table.specs.declared.view.Part.{Part}
 use Rattle.shfl_table.specs.declared.view.View.{View}
 use Rattle.shfl_table.proofs.Opens.{opens}
@@ -45,7 +45,7 @@ module _ (rules : Rules) (attrs : List Attr) (may : MayOpen rules attrs) where
       opened = ap (λ (t : Terms). t.attrs) terms-are;
       events = [];
       makes = record { run = record { may = tt; made = λ j. record { words = sym a j; passes = idle 0 ∷ [] } }; in_holds = tt; made = refl };
-      parts = record { own = own; back = back; unborn = λ k h. refl };
+      parts = record { own = own; back = back; apart = apart; unborn = λ k h. refl };
     }
       where
         own : (seat : ℕ) (v : View) → get_elem? (first_view (told_terms rules (length attrs) words).attrs r ∷ []) seat ≡ some v → v.live ≡ true → part_of v ≡ part_in seat []
@@ -56,6 +56,10 @@ module _ (rules : Rules) (attrs : List Attr) (may : MayOpen rules attrs) where
             → Every (λ (x : Part). IsSpent (first_view (told_terms rules (length attrs) words).attrs r ∷ []) x.number × IsTold (λ k. did_in rules (first_seated attrs) k []) x) v.parts
         back zero v e = subst (λ (z : View). Every (λ (x : Part). IsSpent (first_view (told_terms rules (length attrs) words).attrs r ∷ []) x.number × IsTold (λ k. did_in rules (first_seated attrs) k []) x) z.parts) (some-injective (first_view (told_terms rules (length attrs) words).attrs r) v e) tt
         back (suc seat) v e = absurd (some-ne-none v (sym e))
+
+        apart : (seat : ℕ) (v : View) → get_elem? (first_view (told_terms rules (length attrs) words).attrs r ∷ []) seat ≡ some v → AreApart v.parts
+        apart zero v e = subst (λ (z : View). AreApart z.parts) (some-injective (first_view (told_terms rules (length attrs) words).attrs r) v e) tt
+        apart (suc seat) v e = absurd (some-ne-none v (sym e))
 
     pub opens-first : {V : Type 0} (initial_state : V → List ℕ) (history : V → List Action) (r : List ℕ) (values : List V) → Every (IsCurrent initial_state history r []) values → BoardRule initial_state history (told_terms rules (length attrs) words) r (opening words (map Some values) (first_view (told_terms rules (length attrs) words).attrs r))
     opens-first initial_state history r values alike = opens initial_state history r (told_terms rules (length attrs) words) words values

@@ -11,7 +11,9 @@ use Rattle.shfl_line.specs.declared.events.Mode.TheVariants.{Write, Read}
 use Rattle.shfl_core.specs.declared.phase.PassState.{PassState}
 use Rattle.shfl_core.specs.declared.words.Access.{Access}
 use Rattle.shfl_core.specs.Words.{look, site, told, written, index, put}
-use Rattle.shfl_core.specs.Worlds.{World, after_access}
+use Rattle.shfl_core.specs.Waiting.{idle}
+use Rattle.shfl_core.specs.Worlds.{World, after_access, known}
+use Rattle.shfl_core.proofs.Lists.{seen-at}
 use Rattle.shfl_core.specs.Plan.{moving, plan}
 use Rattle.shfl_core.specs.Take.{take}
 use Rattle.shfl_core.specs.Phases.{is_holding}
@@ -23,11 +25,14 @@ use Rattle.shfl_table.specs.Perform.{Permits}
 use Rattle.shfl_table.proofs.Places.{there, take_all, give_all, AtHome, taken, taken_else, taken_length, may_take, may_give, given_all, given_else, given_length, given_here, collected, each_home}
 use Rattle.shfl_laws.proofs.laws.OwnSteps.{own-step}
 use Rattle.shfl_laws.specs.Holds.{hold_of, is_releasing}
+use Rattle.shfl_laws.specs.Moves.{first_seated}
+use Rattle.shfl_table.specs.MadeInHolds.{changes_of}
+use Rattle.shfl_table.specs.ThreadRuns.{did_in, part_in}
 use Rattle.shfl_table.specs.Places.{Every, numbered}
 use Rattle.shfl_table.specs.Histories.{Continues, HasSeen, IsCurrent, common_history}
 use Rattle.shfl_table.specs.declared.kept.Action.{Action}
 use Rattle.shfl_table.specs.declared.view.View.{View}
-use Rattle.shfl_table.specs.Views.{Deeds, number, passes_from, step_deeds, view_after}
+use Rattle.shfl_table.specs.Views.{Deeds, number, part_of, passes_from, step_deeds, view_after}
 use Rattle.shfl_table.specs.BoardRule.{BoardRule, IsHome, world_of}
 use Rattle.shfl_table.specs.ValueMoves.{GainsHold, MayFree, MovesValues, access_play, step_play}
 use Rattle.shfl_laws.proofs.laws.Holds.{take-mode, hold-seen, frees-only}
@@ -202,6 +207,20 @@ module _ {V : Type 0} (initial_state : V → List ℕ) (history : V → List Act
         x.3,
         (
           record {
+            there = record {
+              world = world_of s;
+              run = record {
+                attrs = ok.run.attrs;
+                opened = ok.run.opened;
+                events = ok.run.events;
+                history = ok.total;
+                makes = ok.run.makes;
+                did = subst (λ k. part_of m.0 ≡ part_in k (did_in t.rules (first_seated ok.run.attrs) k (changes_of ok.run.events))) (sym (num s ok long at)) (ok.run.parts.own id m.0 at live);
+                saw = subst (λ k. HasSeen ok.total k m.0.history) (sym (num s ok long at)) ((ok.seated id m.0 at).knew live);
+              };
+              stands = ap (known (passes_from 0 s.views)) (num s ok long at) ∙ (seen-at (passes_from 0 s.views) id m.0.pass (idle id) (pass-there s.views id m.0 at live)).0;
+              word = refl;
+            };
             form = λ e. subst (Formed (site a)) (sym (told-found a (look s.words (site a)) e)) (ok.lawful.formed (site a));
             attr = λ e p is. told-found a (look s.words (site a)) e ∙ (ap (look s.words) is ∙ attr-told t (world_of s) p ok.lawful);
             stays = law_is.numbers id (next (told a (look s.words (site a)))) there_is ∙ sym (num s ok long at);

@@ -11,7 +11,9 @@ use Rattle.shfl_table.proofs.Candidates.{asks-after, asks-now}
 use Rattle.shfl_core.specs.Phases.{is_holding}
 use Rattle.shfl_core.specs.declared.phase.PassState.{PassState}
 use Rattle.shfl_table.specs.declared.kept.Action.{Action}
+use Rattle.shfl_table.specs.declared.view.Part.{Part}
 use Rattle.shfl_table.specs.declared.view.View.{View}
+use Rattle.shfl_table.specs.FoundInRun.{FoundInRun}
 use Rattle.shfl_laws.specs.Holds.{hold_of, is_releasing}
 use Rattle.shfl_table.specs.Places.{first_place, place_count, Every, numbered, values_of}
 use Rattle.shfl_table.specs.Histories.{Continues, HasSeen, IsCurrent, common_history}
@@ -186,9 +188,15 @@ module _ {X : Type 0} (initial_state : X → List ℕ) (history : X → List Act
           (asks-after rules own.reg.me own n choice me.0.attrs k.asks (finds told));
     }
 
-    pub told-row : (id' : TableId) → id' ≡ id → t.attrs ≡ me.0.attrs → TakesStep initial_state history (record { board = record { table = id; rules = rules; attrs = me.0.attrs }; own = own; steps_taken = me.0.steps_taken; decisions = me.0.decisions; attempts = me.0.attempts; initial_state = me.0.initial_state; history = me.0.history; values = values_of me.1 }) choice (record { board = record { table = id'; rules = rules; attrs = me'.0.attrs }; own = q; steps_taken = me'.0.steps_taken; decisions = me'.0.decisions; attempts = me'.0.attempts; initial_state = me'.0.initial_state; history = me'.0.history; values = values_of me'.1 })
-    told-row id' same told = record {
+    pub told-row : (id' : TableId) → id' ≡ id → t.rules ≡ rules → t.attrs ≡ me.0.attrs → TakesStep initial_state history (record { board = record { table = id; rules = rules; attrs = me.0.attrs }; own = own; steps_taken = me.0.steps_taken; decisions = me.0.decisions; attempts = me.0.attempts; initial_state = me.0.initial_state; history = me.0.history; values = values_of me.1 }) choice (record { board = record { table = id'; rules = rules; attrs = me'.0.attrs }; own = q; steps_taken = me'.0.steps_taken; decisions = me'.0.decisions; attempts = me'.0.attempts; initial_state = me'.0.initial_state; history = me'.0.history; values = values_of me'.1 })
+    told-row id' same ruled told = record {
       found = n;
+      there = (
+        me.0.pass,
+        k.seen,
+        subst (λ (z : Rules × List ℕ × Part). FoundInRun z.0 z.1 z.2 me.0.history me.0.pass (plan rules own.reg.me own) n)
+            (λ j. (ruled j, told j, record { number = number-is j; steps_taken = me.0.steps_taken; attempts = me.0.attempts; decisions = me.0.decisions })) go.there,
+      );
       form = go.form;
       attr = finds told;
       asks = asks-now rules own me.0.attrs k.asks;
@@ -209,7 +217,7 @@ module _ {X : Type 0} (initial_state : X → List ℕ) (history : X → List Act
           let g = r.frees mode (sym alike ∙ a) (sym (ap hold_of e) ∙ b) (first_place (hold_of own) own.reg.me) xs (v.is ∙ ap (numbered (first_place (hold_of own) own.reg.me)) w) in (ap values_of g.0, ap (λ (x : View). x.history) g.1);
     }
 
-    pub row-told : (id' : TableId) (m : PassModel X) → id' ≡ id → t.attrs ≡ me.0.attrs → record { board = record { table = id; rules = rules; attrs = me.0.attrs }; own = own; steps_taken = me.0.steps_taken; decisions = me.0.decisions; attempts = me.0.attempts; initial_state = me.0.initial_state; history = me.0.history; values = values_of me.1 } ≡ m → (outcome : Outcome) → IsOutcome own n q outcome
+    pub row-told : (id' : TableId) (m : PassModel X) → id' ≡ id → t.rules ≡ rules → t.attrs ≡ me.0.attrs → record { board = record { table = id; rules = rules; attrs = me.0.attrs }; own = own; steps_taken = me.0.steps_taken; decisions = me.0.decisions; attempts = me.0.attempts; initial_state = me.0.initial_state; history = me.0.history; values = values_of me.1 } ≡ m → (outcome : Outcome) → IsOutcome own n q outcome
         → (s : TakesStep initial_state history m choice (record { board = record { table = id'; rules = rules; attrs = me'.0.attrs }; own = q; steps_taken = me'.0.steps_taken; decisions = me'.0.decisions; attempts = me'.0.attempts; initial_state = me'.0.initial_state; history = me'.0.history; values = values_of me'.1 })) × IsOutcome m.own s.found q outcome
     unfolding told-row
-    row-told id' m same told is outcome came = subst (λ (z : PassModel X). (s : TakesStep initial_state history z choice (record { board = record { table = id'; rules = rules; attrs = me'.0.attrs }; own = q; steps_taken = me'.0.steps_taken; decisions = me'.0.decisions; attempts = me'.0.attempts; initial_state = me'.0.initial_state; history = me'.0.history; values = values_of me'.1 })) × IsOutcome z.own s.found q outcome) is (told-row id' same told, came)
+    row-told id' m same ruled told is outcome came = subst (λ (z : PassModel X). (s : TakesStep initial_state history z choice (record { board = record { table = id'; rules = rules; attrs = me'.0.attrs }; own = q; steps_taken = me'.0.steps_taken; decisions = me'.0.decisions; attempts = me'.0.attempts; initial_state = me'.0.initial_state; history = me'.0.history; values = values_of me'.1 })) × IsOutcome z.own s.found q outcome) is (told-row id' same ruled told, came)

@@ -18,9 +18,9 @@ use Rattle.shfl_table.specs.declared.view.View.{View}
 use Rattle.shfl_table.specs.MadeInHolds.{changes_of, RunMakes}
 use Rattle.shfl_table.specs.Places.{Every}
 use Rattle.shfl_table.specs.Views.{Deeds, number, next_view, not_last, part_of, passes_from, spent_view, with_given, IsSpent}
-use Rattle.shfl_table.specs.ThreadRuns.{did_in, part_in, IsTold, TellsParts, HasRun, RanUntilClosed}
+use Rattle.shfl_table.specs.ThreadRuns.{did_in, part_in, IsTold, AreApart, TellsParts, HasRun, RanUntilClosed}
 use Rattle.shfl_table.proofs.MadeInHolds.{quiet, quiet-changes, quiet-in-holds, quiet-makes, changes-both, makes-more}
-use Rattle.shfl_table.proofs.SeatViews.{dead_longer, dead_stays, at_end}
+use Rattle.shfl_table.proofs.SeatViews.{dead_longer, dead_stays, not_dead, at_end}
 use Rattle.shfl_table.proofs.ThreadRuns.{did-both, every-part}
 
 module _ (t : Terms) (words : List ℕ) (views : List View) (total : List Action) (old : HasRun t words views total) where
@@ -73,6 +73,13 @@ module _ (t : Terms) (words : List ℕ) (views : List View) (total : List Action
             (at_set views id seat l u p.1))
             (λ p. subst (λ (z : View). Every (λ (x : Part). IsSpent (vs ++ n ∷ []) x.number × IsTold did x) z.parts) p.1 tt)
             (at_end vs n u seat e);
+        apart = λ seat u e. ⊎_elim
+            (λ p. ⊎_elim
+            (λ q. subst (λ (z : View). AreApart z.parts) q.1 (old.parts.apart id v at))
+            (λ q. old.parts.apart seat u q.1)
+            (at_set views id seat l u p.1))
+            (λ p. subst (λ (z : View). AreApart z.parts) p.1 tt)
+            (at_end vs n u seat e);
         unborn = λ k h. old.parts.unborn k (let a = length-append vs (n ∷ []) in omega arith);
       })
 
@@ -99,12 +106,25 @@ module _ (t : Terms) (words : List ℕ) (views : List View) (total : List Action
             (λ q. kept-parts vs' stays u.parts (old.parts.back seat u q.1))
             (at_set views id seat b u p.1))
             (at_set vs other seat spent_view u e);
+        apart = λ seat u e. ⊎_elim
+            (λ p. subst (λ (z : View). AreApart z.parts) p.1 tt)
+            (λ p. ⊎_elim
+            (λ q. subst (λ (z : View). AreApart z.parts) q.1
+            (every-part (λ x h e. not_dead views other w at' live' x.number h.0 (e ∙ num)) v.parts (old.parts.back id v at), old.parts.apart id v at))
+            (λ q. old.parts.apart seat u q.1)
+            (at_set views id seat b u p.1))
+            (at_set vs other seat spent_view u e);
         unborn = λ k h. old.parts.unborn k (omega arith);
       })
 
   every-end : (P : Part → Type 0) (xs : List Part) (y : Part) → Every P xs → P y → Every P (xs ++ y ∷ [])
   every-end P [] y h e = (e, tt)
   every-end P (x ∷ xs) y h e = (h.0, every-end P xs y h.1 e)
+
+  -- the part of one more pass
+  apart-end : (xs : List Part) (y : Part) → AreApart xs → Every (λ (x : Part). x.number ≢ y.number) xs → AreApart (xs ++ y ∷ [])
+  apart-end [] y a h = (tt, tt)
+  apart-end (x ∷ xs) y a h = (every-end (λ (z : Part). z.number ≢ x.number) xs y a.0 (λ e. h.0 (sym e)), apart-end xs y a.1 h.1)
 
   -- once all are given back
   pub run-closes : (id : ℕ) (v : View) (n : ℕ) → get_elem? views id ≡ some v → v.live ≡ true → number v ≡ id → length views ≤ n → ((k : ℕ) → (known (passes_from 0 views) k).phase ≡ Idle)
@@ -120,5 +140,6 @@ module _ (t : Terms) (words : List ℕ) (views : List View) (total : List Action
     };
     told = every-end (IsTold (λ k. did_in t.rules (first_seated old.attrs) k (changes_of old.events))) v.parts (part_of v) (every-part (λ x h. h.1) v.parts (old.parts.back id v at))
         (old.parts.own id v at live ∙ (λ j. part_in (sym num j) (did (sym num j))));
+    apart = apart-end v.parts (part_of v) (old.parts.apart id v at) (every-part (λ x h e. not_dead views id v at live x.number h.0 (e ∙ num)) v.parts (old.parts.back id v at));
     nobody_else = λ k h. old.parts.unborn k (omega arith);
   }

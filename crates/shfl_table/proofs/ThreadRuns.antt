@@ -29,7 +29,7 @@ use Rattle.shfl_table.specs.declared.view.View.{View}
 use Rattle.shfl_table.specs.MadeInHolds.{RunEvent, changes_of, MakesInHold, RunMakes}
 use Rattle.shfl_table.specs.Places.{Every}
 use Rattle.shfl_table.specs.Views.{Deeds, step_deeds, attempt_deeds, no_deeds, part_of, passes_from, view_after, IsSpent}
-use Rattle.shfl_table.specs.ThreadRuns.{own_deeds, did_in, attempts_in, decisions_in, part_in, IsTold, TellsParts, HasRun}
+use Rattle.shfl_table.specs.ThreadRuns.{own_deeds, did_in, attempts_in, decisions_in, part_in, IsTold, AreApart, TellsParts, HasRun}
 use Rattle.shfl_table.proofs.MadeInHolds.{PutsIn, ending, ending-changes, ending-in-holds, ending-makes, changes-both, makes-more}
 use Rattle.shfl_table.proofs.Places.{there}
 use Rattle.shfl_table.proofs.SeatViews.{passes-set, live-pass, pass-there, dead_stays, not_dead, hold-here, hold-was}
@@ -174,6 +174,7 @@ module _ (t : Terms) (words : List ℕ) (views : List View) (total : List Action
               (λ p. parts u.parts (subst (λ (z : View). Every (λ (x : Part). IsSpent views x.number × IsTold did x) z.parts) p.1 (old.parts.back id v at)))
               (λ p. parts u.parts (old.parts.back seat u p.1))
               (at_set views id seat w u e);
+          apart = λ seat u e. ⊎_elim (λ p. subst (λ (z : View). AreApart z.parts) p.1 (old.parts.apart id v at)) (λ p. old.parts.apart seat u p.1) (at_set views id seat w u e);
           unborn = λ k h. theirs k (λ is. absurd (let x = there views id v at in let y = length-set views id w in omega arith)) ∙ old.parts.unborn k (subst (λ n. n ≤ k) (length-set views id w) h);
         });
       }

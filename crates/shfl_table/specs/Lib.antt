@@ -1,4 +1,5 @@
 pub mod BoardRule
+pub mod FoundInRun
 pub mod Histories
 pub mod MadeInHolds
 pub mod PassInvariant

@@ -16,10 +16,12 @@ use Rattle.shfl_core.specs.Take.{take, attempted}
 use Rattle.shfl_core.specs.Lawful.{Formed}
 use Rattle.shfl_table.specs.declared.kept.Action.{Action}
 use Rattle.shfl_laws.specs.Holds.{hold_of}
+use Rattle.shfl_laws.specs.Seen.{SeenAs}
+use Rattle.shfl_table.specs.FoundInRun.{FoundInRun}
 use Rattle.shfl_table.specs.Places.{place_count, Every}
 use Rattle.shfl_table.specs.Histories.{HasSeen, common_history, IsCurrent}
 use Rattle.shfl_table.specs.Views.{step_decisions}
-use Rattle.shfl_table.specs.PassModel.{PassModel}
+use Rattle.shfl_table.specs.PassModel.{PassModel, as_part}
 
 -- the values are those of the places that the mode covers, each where the history leads
 abbrev pub AreCurrent : {X : Type 0} → (X → List ℕ) → (X → List Action) → Mode → PassModel X → PassModel X → Type 0
@@ -37,9 +39,18 @@ SeesValues initial_state history mode old new = HasSeen new.history old.own.reg.
 abbrev pub AsksOfCandidate : {X : Type 0} → PassModel X → Type 0
 AsksOfCandidate old = (waiter : Attr) (batch : ℕ) → ask old.board.rules old.own ≡ Should waiter batch → waiter ≡ attr_of (slice_index old.board.attrs old.own.reg.cand)
 
+-- the next step finds the word that the run has there: in it the pass did what it tells, and others see it as it stands, or as it
+-- stood before it entered or left
+abbrev pub FindsInRun : {X : Type 0} → PassModel X → ℕ → Type 0
+FindsInRun old found =
+    (seen : PassState)
+    × SeenAs old.board.rules.form old.own seen
+    × FoundInRun old.board.rules old.board.attrs (as_part old) old.history seen (plan old.board.rules old.own.reg.me old.own) found
+
 -- one step of the lock's machine, with the word found
 pub record TakesStep {X : Type 0} (initial_state : X → List ℕ) (history : X → List Action) (old : PassModel X) (choice : Bool) (new : PassModel X) : Type 0 where
   pub found : ℕ
+  pub there : FindsInRun old found
   pub form : is_store (plan old.board.rules old.own.reg.me old.own) ≡ false → Formed (site (plan old.board.rules old.own.reg.me old.own)) found
   -- a look at a pass's attributes finds those of the opening, and what is asked of a candidate tells the candidate's
   pub attr : is_store (plan old.board.rules old.own.reg.me old.own) ≡ false → (q : ℕ) → site (plan old.board.rules old.own.reg.me old.own) ≡ AttrOf q → found ≡ slice_index old.board.attrs q

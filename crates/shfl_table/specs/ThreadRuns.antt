@@ -1,6 +1,6 @@
 -- What threads did on a board since its opening: a list of changes that makes its words and its passes, and in that list what
 -- each pass did, and what its holds have made.
-use Rattle.std.specs.Prelude.{◌≡◌, ℕ, ◌+◌, ◌≤◌, ◌==◌, ◌&&◌, true, cond, List, [], ◌∷◌, ◌++◌, map, length}
+use Rattle.std.specs.Prelude.{◌≡◌, ◌≢◌, ℕ, ◌+◌, ◌≤◌, ◌==◌, ◌&&◌, true, cond, List, [], ◌∷◌, ◌++◌, map, length}
 use mathlib.Core.Option.{some}
 use lib.ListN.{get_elem?}
 use Rattle.shfl_line.specs.declared.words.Attr.{Attr}
@@ -52,12 +52,19 @@ part_in k ds = record { number = k; steps_taken = length ds; attempts = attempts
 abbrev pub IsTold : (ℕ → List Deeds) → Part → Type 0
 IsTold did x = x ≡ part_in x.number (did x.number)
 
+-- these are the parts of different passes
+abbrev pub AreApart : List Part → Type 0
+AreApart [] = Unit {0}
+AreApart (x ∷ xs) = Every (λ (y : Part). y.number ≢ x.number) xs × AreApart xs
+
 -- what the seats know of what the passes did is what these did
 pub record TellsParts (did : ℕ → List Deeds) (views : List View) : Type 0 where
   -- a seat knows the part of its own pass
   pub own : (seat : ℕ) (v : View) → get_elem? views seat ≡ some v → v.live ≡ true → part_of v ≡ part_in seat (did seat)
   -- and that of each pass that it took back, which is spent
   pub back : (seat : ℕ) (v : View) → get_elem? views seat ≡ some v → Every (λ (x : Part). IsSpent views x.number × IsTold did x) v.parts
+  -- of which it has one part each
+  pub apart : (seat : ℕ) (v : View) → get_elem? views seat ≡ some v → AreApart v.parts
   -- a pass that isn't yet there did nothing
   pub unborn : (k : ℕ) → length views ≤ k → did k ≡ []
 
@@ -72,10 +79,11 @@ pub record HasRun (t : Terms) (words : List ℕ) (views : List View) (total : Li
   pub parts : TellsParts (λ k. did_in t.rules (first_seated attrs) k (changes_of events)) views
 
 -- the lock that opened with these attribute words came to rest by one run, and its holds have made the history; in that run each
--- pass did what it told as it was given back, and nobody else did anything
+-- pass did what it told as it was given back, once each, and nobody else did anything
 pub record RanUntilClosed (rules : Rules) (attr_words : List ℕ) (count : ℕ) (parts : List Part) (history : List Action) : Type 0 where
   pub attrs : List Attr
   pub opened : attr_words ≡ map attr_word attrs
   pub ran : RanAs rules attrs history
   pub told : Every (IsTold (λ k. did_in rules (first_seated attrs) k (changes_of ran.events))) parts
+  pub apart : AreApart parts
   pub nobody_else : (p : ℕ) → count ≤ p → did_in rules (first_seated attrs) p (changes_of ran.events) ≡ []

@@ -14,8 +14,9 @@ use Rattle.shfl_table.specs.declared.kept.Action.{Action}
 use Rattle.shfl_table.specs.declared.view.View.{View}
 use Rattle.shfl_laws.specs.Holds.{hold_of}
 use Rattle.shfl_table.specs.Places.{first_place, place_count, numbered, Every}
+use Rattle.shfl_table.specs.FoundInRun.{FoundInRun}
 use Rattle.shfl_table.specs.Histories.{HasSeen, Continues, common_history, IsCurrent}
-use Rattle.shfl_table.specs.Views.{Deeds, attempt_deeds, number, step_deeds, view_after}
+use Rattle.shfl_table.specs.Views.{Deeds, attempt_deeds, number, part_of, step_deeds, view_after}
 
 module _ {V : Type 0} (initial_state : V → List ℕ) (history : V → List Action) where
   -- the hold came: so did its places
@@ -43,8 +44,9 @@ module _ {V : Type 0} (initial_state : V → List ℕ) (history : V → List Act
     pub grew : Continues (number m.0) m.0.history (common_history history m.0.history values)
     pub read : mode ≡ Read → common_history history m.0.history values ≡ m.0.history
 
-  -- what is told besides: the found word's form, an attribute word's value, and that the next word is there
+  -- what is told besides: that the run has the found word there, its form, an attribute word's value, and that the next word is there
   pub record FitsWords (t : Terms) (a : Access) (next : ℕ → PassState) (m : Me (Option V) View) (n : ℕ) : Type 0 where
+    pub there : FoundInRun t.rules t.attrs (part_of m.0) m.0.history m.0.pass a n
     pub form : is_store a ≡ false → Formed (site a) n
     pub attr : is_store a ≡ false → (q : ℕ) → site a ≡ AttrOf q → n ≡ slice_index t.attrs q
     pub stays : (next n).reg.me ≡ number m.0

@@ -1,6 +1,7 @@
 pub mod Attachments
 pub mod LockRuns
 pub mod Turns
+pub mod AskedTurns
 pub mod Counting
 pub mod Joining
 pub mod Loading

@@ -76,10 +76,6 @@ module _ {Pass : Type 0} (is_pass : Pass → Type 0) (number : Pass → ℕ) (ma
     pub each_of_dir : All is_pass ps
     each_of_dir k d lt = (done k (get_or ps k d) (there ps k d lt)).of_dir
 
-    -- none stands there twice
-    pub once : (i j : ℕ) (p q : Pass) → slice_get ps i ≡ Some p → slice_get ps j ≡ Some q → number p ≡ number q → i ≡ j
-    once i j p q at_i at_j same = sym (done i p at_i).number_is ∙ same ∙ (done j q at_j).number_is
-
     -- they are all passes of so many
     pub everyone : (count : ℕ) → length ps ≡ count → (k : ℕ) → k < count → Contains (map number ps) k
     everyone count many k lt =

@@ -2,6 +2,7 @@ pub mod Choosing
 pub mod Attaching
 pub mod Shares
 pub mod Progress
+pub mod Asked
 pub mod Activities
 pub mod RwDirs
 pub mod ShardDirs

@@ -2,8 +2,10 @@
 ghost use Rattle.std.specs.Prelude.{◌≡◌, ℕ, List, [], ◌∷◌, ◌++◌, length};
 ghost use Rattle.std.specs.List.{AllByRecursion};
 ghost use Rattle.trace_text.specs.declared.trace.TraceCall.{TraceCall};
+ghost use Rattle.trace_text.specs.Histories.{made_by, made_in, of_worker};
 ghost use Rattle.trace_text.specs.Traces.{IsCallOf};
 ghost use Rattle.policy_versions.specs.Models.{IsClosed};
+ghost use Rattle.shfl_workers.specs.Asked.{AskInTurn};
 ghost use Rattle.shfl_workers.specs.Progress.{Progress};
 
 use crate::attaching::Attaching;
@@ -39,6 +41,9 @@ fn take_turn<D: SharedDir, C: Chooser, G: Gate, R: Wait>(
         pass.old attaching.old
         → Progress D.made D.left registry.now (D.worker pass.old) (done ++ call.now ∷ []) ahead
         pass.new attaching.new }
+    ensures asked { AskInTurn D.asks
+        (of_worker (D.worker pass.old) (made_by call.now.worker call.now.act))
+        pass.old pass.new (C.told chooser.old) (C.told chooser.new) }
     ensures home { C.home chooser.new ≡ C.home chooser.old }
 {
     if call.worker != D::worker_of(pass) {
@@ -73,6 +78,8 @@ fn take_turns<D: SharedDir, C: Chooser, G: Gate, R: Wait>(
     ensures worker { D.worker pass.new ≡ D.worker pass.old }
     ensures progress { Progress D.made D.left registry.now (D.worker pass.old) calls.now []
         pass.new attaching.new }
+    ensures asked { AskInTurn D.asks (of_worker (D.worker pass.old) (made_in calls.now))
+        pass.old pass.new (C.told chooser.old) (C.told chooser.new) }
     ensures home { C.home chooser.new ≡ C.home chooser.old }
 {
     for call in calls {

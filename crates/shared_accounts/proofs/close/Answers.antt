@@ -10,7 +10,7 @@ use Rattle.hist_log.specs.History.{operations, state_left}
 use Rattle.hist_log.specs.Merge.{merged, AreReads}
 use Rattle.shfl_table.specs.Histories.{actions_by}
 use Rattle.rw_cell.specs.RwCells.{number}
-use Rattle.rw_cell.proofs.OrderedPasses.{all_in_order, once_in_order}
+use Rattle.rw_cell.proofs.OrderedPasses.{all_in_order}
 use Rattle.shared_accounts.specs.declared.accounts.Accounts.{Accounts}
 use Rattle.shared_accounts.specs.Accounts.{call_numbers, reply_numbers, state_numbers, state_after, IsRead}
 use Rattle.shared_accounts.specs.Rounds.{AccountsEntry}
@@ -30,9 +30,6 @@ of_ok (Err y) x P same holds = absurd (cc)
 
 pub close-copies-requires-clause-all : goal.close-copies-requires-clause-all
 close-copies-requires-clause-all c = all_in_order c.args.bank.count c.args.passes.items (let ok = c.args.passes.ok.0 in let a = c.requires.all in omega arith) c.requires.in_order
-
-pub close-copies-requires-clause-once : goal.close-copies-requires-clause-once
-close-copies-requires-clause-once c = once_in_order c.args.passes.items c.requires.in_order
 
 pub returns-clause-balances : goal.returns-clause-balances
 returns-clause-balances c =

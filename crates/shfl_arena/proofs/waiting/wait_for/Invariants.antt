@@ -1,5 +1,5 @@
 use Rattle.std.proofs.Common.{◌≡◌}
-use Rattle.shfl_arena.specs.Waits.{WaitsFor}
+use Rattle.shfl_arena.specs.Waits.{QueuesAfter, WaitsFor, attempts_before}
 use Rattle.shfl_arena.proofs.Asked.{AsksMeanwhile}
 use Rattle.shfl_arena.proofs.waiting.wait_for.Given as goal
 
@@ -9,3 +9,4 @@ invariant-loop g l =
     × WaitsFor l.lock l.fn.mode l.fn.seat l.seat
     × (g.C.Chooser.home l.chooser ≡ g.C.Chooser.home l.fn.chooser)
     × AsksMeanwhile l.anchor l.fn.seat l.seat (g.C.Chooser.told l.fn.chooser) (g.C.Chooser.told l.chooser)
+    × QueuesAfter (attempts_before (g.C.Chooser.moves_waiters l.fn.chooser)) l.lock l.fn.mode l.fn.seat l.seat

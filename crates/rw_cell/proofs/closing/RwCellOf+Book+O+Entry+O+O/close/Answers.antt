@@ -18,7 +18,7 @@ use Rattle.rw_cell.specs.RwCells.{RwCellModel, RwPassModel, cell_on, given, numb
 use Rattle.rw_cell.proofs.GivenCopies.{operations-total}
 use Rattle.rw_cell.proofs.CallOrder.{calls_in_order, none-between}
 use Rattle.rw_cell.proofs.GivenReads.{EachKept, Keeps, in_order_all, within_all, fit_all, own_all}
-use Rattle.rw_cell.proofs.PassParts.{AreBack, back-first, back-more, all-told}
+use Rattle.rw_cell.proofs.PassParts.{AreBack, AreOnce, back-first, back-more, all-told, each-once}
 use Rattle.rw_cell.proofs.SortedReads.{Sorted, IsListOf, sorted-start, sorted-at, given-more, none-left, pass-of, given-of, seen-at, seen-of, none-given, mapped-at, all-at, some-at, got-inside}
 use Rattle.rw_cell.proofs.closing.RwCellOf+Book+O+Entry+O+O.close.Given as given_here
 use Rattle.rw_cell.proofs.closing.RwCellOf+Book+O+Entry+O+O.close.Goals as goal
@@ -58,15 +58,15 @@ loop-next-init g c = let P : RwPassModel (E g) → Type 0 = IsPassOf c.args.self
     let items : c.args.passes.items ≡ c.pop.new.self.items ++ c.in-Some.first ∷ [] = c.pop.ensures.items ∙ ap (λ o. c.pop.new.self.items ++ option_to_list o) c.in-Some.is in
     let near = subst (λ (z : BoardId). c.in-Some.first.reg.me < z.table.slots) (first.0 ∙ sym (ap (λ (z : RwCellModel). z.id) m)) e.number.1 in
     let slots = c.self.invariant.1 in let sized = c.self.invariant.6 in
-    let s = sorted-at number (R g) c.args.passes.items c.args.passes.items c.pop.new.self.items c.in-Some.first c.self.inside.lists.items c.parted-pass.result.2 c.parted-pass.result.1 e.number.0 c.requires.once items
-    (small-for g c.in-Some.first.reg.me c.self.inside.lists (omega arith)) (e.reads, e.keeps) (sorted-start number (R g) c.args.passes.items c.self.inside.lists.items) in (
+    let small = small-for g c.in-Some.first.reg.me c.self.inside.lists (omega arith) in (
       ap (λ (z : ClosingModel). cell_on z.board) n ∙ m,
       ap (λ (z : ClosingModel). z.board.id.table.slots) n ∙ (c.self.invariant.1 ∙ ap (λ (z : RwCellModel). z.count) m),
       popped.0,
       sym (append-nil (map given c.args.passes.items)) ∙ (given-more given c.args.passes.items c.pop.new.self.items c.in-Some.first _ [] items (sym e.given) ∙ ap (λ (z : ClosingModel). map given c.pop.new.self.items ++ z.back) (sym n)),
       (let a = ap (λ (z : RwCellModel). z.count) m in search rules),
-      s,
-      subst (λ (z : ClosingModel). AreBack c.args.passes.items c.pop.new.self.items z.parts) (sym n) (back-first c.args.passes.items c.pop.new.self.items c.in-Some.first _ _ items e.part),
+      λ once. sorted-at number (R g) c.args.passes.items c.args.passes.items c.pop.new.self.items c.in-Some.first c.self.inside.lists.items c.parted-pass.result.2 c.parted-pass.result.1 e.number.0 once items
+          small (e.reads, e.keeps) (sorted-start number (R g) c.args.passes.items c.self.inside.lists.items),
+      subst (λ (z : ClosingModel). AreBack c.args.passes.items c.pop.new.self.items z.parts) (sym n) (back-first c.args.passes.items c.pop.new.self.items c.in-Some.first _ items e.part),
     )
 
 pub index_mut-requires-in-Some-pop : goal.index_mut-requires-in-Some-pop
@@ -88,15 +88,15 @@ loop-next-preserved g c = let P : RwPassModel (E g) → Type 0 = IsPassOf c.args
     let here = subst (λ o. IfSome o P) c.in-Some-pop.is popped.1 in let e = c.parted-pass-in-Some-pop.ensures in let n = c.give.ensures in
     let near = subst (λ (z : BoardId). c.in-Some-pop.next.reg.me < z.table.slots) (here.0 ∙ sym (ap (λ (z : RwCellModel). z.id) i.0)) e.number.1 in
     let slots = i.1 in let sized = i.4 in
-    let s = sorted-at number (R g) c.args.passes.items old new c.in-Some-pop.next c.loop-next.lists.items c.parted-pass-in-Some-pop.result.2 c.parted-pass-in-Some-pop.result.1 e.number.0 c.requires.once items
-    (small-for g c.in-Some-pop.next.reg.me c.loop-next.lists (omega arith)) (e.reads, e.keeps) i.5 in (
+    let small = small-for g c.in-Some-pop.next.reg.me c.loop-next.lists (omega arith) in (
       ap (λ (z : ClosingModel). cell_on z.board) n ∙ i.0,
       ap (λ (z : ClosingModel). z.board.id.table.slots) n ∙ i.1,
       popped.0,
       i.3 ∙ (given-more given old new c.in-Some-pop.next _ c.loop-next.closing.back items (sym e.given) ∙ ap (λ (z : ClosingModel). map given new ++ z.back) (sym n)),
       search rules,
-      s,
-      subst (λ (z : ClosingModel). AreBack c.args.passes.items new z.parts) (sym n) (back-more c.args.passes.items old new c.in-Some-pop.next _ _ c.loop-next.closing.parts items e.part i.6),
+      λ once. sorted-at number (R g) c.args.passes.items old new c.in-Some-pop.next c.loop-next.lists.items c.parted-pass-in-Some-pop.result.2 c.parted-pass-in-Some-pop.result.1 e.number.0 once items
+          small (e.reads, e.keeps) (i.5 once),
+      subst (λ (z : ClosingModel). AreBack c.args.passes.items new z.parts) (sym n) (back-more c.args.passes.items old new c.in-Some-pop.next _ c.loop-next.closing.parts items e.part i.6),
     )
 
 module _ (g : given_here.Over) (c : In_default-pop g) where
@@ -131,9 +131,13 @@ module _ (g : given_here.Over) (c : After-parts_of-copies g) (back : map given c
   lists-long : length (map (λ (v : Vec (E g) Global). v.items) c.loop-next.lists.items) ≡ c.args.self.count
   lists-long = let l = length-map c.loop-next.lists.items (λ (v : Vec (E g) Global). v.items) in let ok = c.loop-next.lists.ok.0 in let i = c.loop-next.invariant.4 in omega arith
 
+  -- the board took each pass back once
+  once : AreOnce c.args.passes.items
+  once = each-once c.args.passes.items c.loop-next.closing.parts (all-told c.args.passes.items c.loop-next.passes.items c.loop-next.closing.parts taken c.loop-next.invariant.6) c.finish.ensures.run.2.apart
+
   -- the list of a pass
   list-of : (j : ℕ) (p : RwPassModel (E g)) → slice_get c.args.passes.items j ≡ Some p → (v : Vec (E g) Global) × (slice_get c.loop-next.lists.items (number p) ≡ Some v) × R g p v
-  list-of j p at = let n = taken in c.loop-next.invariant.5.1 j p (omega arith) at
+  list-of j p at = let n = taken in (c.loop-next.invariant.5 once).1 j p (omega arith) at
 
   abbrev lists : List (List (E g))
   lists = map (λ (v : Vec (E g) Global). v.items) c.loop-next.lists.items

@@ -4,14 +4,13 @@ use Rattle.std.proofs.lemmas.List.Elements.{All-pop}
 use Rattle.hist_log.specs.History.{operations, state_left, IsLegal}
 use Rattle.shfl_table.specs.declared.kept.Action.{Action}
 use Rattle.shfl_table.specs.declared.view.Given.{Given}
-use Rattle.shfl_table.specs.declared.view.Part.{Part}
 use Rattle.shfl_table.specs.ThreadRuns.{RanUntilClosed}
 use Rattle.shfl_table.specs.Views.{IsAmong}
 use Rattle.shfl_table.specs.Histories.{HasSeen, actions_by, IsCurrent}
 use Rattle.shfl_table.specs.Places.{Every}
 use Rattle.shfl_table.specs.PassModel.{ClosingModel, BoardModel}
 use Rattle.shfl_table.specs.Books.{BookModel, opening_of, pack, actions}
-use Rattle.shfl_cell.specs.Cells.{CellModel, CellPassModel, given, part, cell_on, ArePartsOf}
+use Rattle.shfl_cell.specs.Cells.{CellModel, CellPassModel, given, cell_on, ArePartsOf}
 use Rattle.shfl_table.proofs.PackedStates.{opening_of-pack}
 use Rattle.shfl_cell.proofs.EachPass.{given-of, seen-of}
 use Rattle.shfl_cell.proofs.closing.ShflCellOf+Book+O.close.Given as given_here
@@ -25,10 +24,6 @@ none_left f (x ∷ xs) ys h = absurd (omega arith)
 given_more : {A B : Type 0} (f : A → B) (old new : List A) (x : A) (b : B) (more : List B) → old ≡ new ++ x ∷ [] → f x ≡ b → map f old ++ more ≡ map f new ++ (b ∷ more)
 given_more f old new x b more is same = ap (λ l. map f l ++ more) is ∙ (ap (λ l. l ++ more) (map-append f new (x ∷ [])) ∙ (append_assoc (map f new) (f x ∷ []) more ∙ ap (λ c. map f new ++ (c ∷ more)) same))
 
--- what a board's pass did is what the cell's pass tells
-told : (x : Part) (p : CellPassModel) (n : ℕ) → x ≡ part n p → x ≡ part x.attempts p
-told x p n e = e ∙ ap (λ (z : Part). part z.attempts p) (sym e)
-
 pub loop-pass-init : goal.loop-pass-init
 loop-pass-init g c = let P : CellPassModel → Type 0 = λ p. p.cell ≡ c.args.self.id in
     let popped = All-pop P c.args.passes.items c.pop.new.self.items c.pop.result c.pop.ensures.items c.requires.cell in
@@ -38,7 +33,7 @@ loop-pass-init g c = let P : CellPassModel → Type 0 = λ p. p.cell ≡ c.args.
       ap (λ (z : ClosingModel). z.board.id.table.slots) n ∙ c.self.invariant.0,
       popped.0,
       sym (append-nil (map given c.args.passes.items)) ∙ (given_more given c.args.passes.items c.pop.new.self.items c.in-Some.first _ [] items (sym e.given) ∙ ap (λ (z : ClosingModel). map given c.pop.new.self.items ++ z.back) (sym n)),
-      (c.in-Some.first ∷ [], items, subst (λ (z : ClosingModel). ArePartsOf (c.in-Some.first ∷ []) z.parts) (sym n) (told _ c.in-Some.first _ e.part, tt)),
+      (c.in-Some.first ∷ [], items, subst (λ (z : ClosingModel). ArePartsOf (c.in-Some.first ∷ []) z.parts) (sym n) (e.part, tt)),
     )
 
 pub give-requires-clause-board : goal.give-requires-clause-board
@@ -55,7 +50,7 @@ loop-pass-preserved g c = let P : CellPassModel → Type 0 = λ p. p.cell ≡ c.
       ap (λ (z : ClosingModel). z.board.id.table.slots) n ∙ i.1,
       popped.0,
       i.3 ∙ (given_more given old new c.in-Some-pop.pass _ c.loop-pass.closing.back items (sym e.given) ∙ ap (λ (z : ClosingModel). map given new ++ z.back) (sym n)),
-      (c.in-Some-pop.pass ∷ i.4.0, i.4.1 ∙ (ap (λ l. l ++ i.4.0) items ∙ append_assoc new (c.in-Some-pop.pass ∷ []) i.4.0), subst (λ (z : ClosingModel). ArePartsOf (c.in-Some-pop.pass ∷ i.4.0) z.parts) (sym n) (told _ c.in-Some-pop.pass _ e.part, i.4.2)),
+      (c.in-Some-pop.pass ∷ i.4.0, i.4.1 ∙ (ap (λ l. l ++ i.4.0) items ∙ append_assoc new (c.in-Some-pop.pass ∷ []) i.4.0), subst (λ (z : ClosingModel). ArePartsOf (c.in-Some-pop.pass ∷ i.4.0) z.parts) (sym n) (e.part, i.4.2)),
     )
 
 module _ (g : given_here.Over) (c : In_default-pop g) where

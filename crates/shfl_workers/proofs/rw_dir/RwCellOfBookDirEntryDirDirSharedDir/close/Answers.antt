@@ -9,7 +9,7 @@ use Rattle.dir_table.specs.Meanings.{reply_at, state_after, Reads}
 use Rattle.hist_log.specs.declared.entry.Entry.{Entry}
 use Rattle.hist_log.specs.History.{IsLegal, operations, state_left}
 use Rattle.hist_log.specs.Merge.{merged, AreInOrder, ReadsFit}
-use Rattle.shfl_workers.proofs.Numbered.{each_of_dir, once, everyone}
+use Rattle.shfl_workers.proofs.Numbered.{each_of_dir, everyone}
 use Rattle.shfl_workers.specs.Receipts.{CountWrites}
 use Rattle.shfl_workers.proofs.Ending.{merged_is, receipts_are, writes_are}
 use Rattle.shfl_workers.proofs.LockRuns.{ran_for}
@@ -26,9 +26,6 @@ pub close-dirs-requires-clause-all : goal.close-dirs-requires-clause-all
 close-dirs-requires-clause-all c =
     let n = c.requires.count in let ok = c.args.passes.ok.0 in let w = c.requires.opened.count in
     everyone _ _ _ _ c.args.passes.items c.requires.passes c.args.self.count (omega (arith, n, ok, w))
-
-pub close-dirs-requires-clause-once : goal.close-dirs-requires-clause-once
-close-dirs-requires-clause-once c = once _ _ _ _ c.args.passes.items c.requires.passes
 
 pub merge-requires-clause-in_order : goal.merge-requires-clause-in_order
 merge-requires-clause-in_order c =
