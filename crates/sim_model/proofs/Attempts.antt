@@ -1,5 +1,5 @@
 -- An attempt takes the lock just where the first step of a call would.
-use Rattle.std.proofs.Common.{◌≡◌, ℕ, ◌<◌, ◌==◌, ◌||◌, Bool, true, false, cond, List, [], ◌∷◌, length, refl, sym, ap, subst, ◌∙◌, length-set, true≢false}
+use Rattle.std.proofs.Common.{◌≡◌, ℕ, ◌<◌, ◌==◌, ◌||◌, Bool, true, false, cond, List, length, refl, sym, ap, subst, ◌∙◌, length-set, true≢false}
 use Rattle.shfl_line.specs.Words.{held_of, closed_of}
 use Rattle.shfl_line.specs.declared.events.Mode.{Mode}
 use Rattle.shfl_line.specs.declared.events.Mode.TheVariants.{Write, Read}
@@ -10,10 +10,10 @@ use Rattle.shfl_core.specs.declared.phase.Phase.TheVariants.{Idle, Held, Init, T
 use Rattle.shfl_core.specs.declared.phase.Registers.{Registers}
 use Rattle.shfl_core.specs.declared.phase.Rules.{Rules}
 use Rattle.shfl_core.specs.declared.words.Word.TheVariants.{Lock}
-use Rattle.shfl_core.specs.Plan.{plan, moving, is_awake, is_idle, is_resting}
+use Rattle.shfl_core.specs.Plan.{plan, moving, is_awake, is_resting}
 use Rattle.shfl_core.specs.Take.{to, take, entry, acquired, attempted}
 use Rattle.shfl_core.specs.Words.{look, site}
-use Rattle.shfl_core.specs.Worlds.{World, Acquire, Step, known, placed_at, stepped, after_move}
+use Rattle.shfl_core.specs.Worlds.{World, Acquire, Step, known, placed_at, after_move}
 use Rattle.sim_model.specs.Laws.{AttemptsAreFirstSteps}
 use Rattle.sim_model.proofs.Settled.{known-same, admitted-step}
 use Rattle.sim_model.proofs.Turned.{acquired-moves}

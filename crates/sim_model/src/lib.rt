@@ -26,7 +26,8 @@ pub use built_in::BuiltIn;
 pub use calls::mode_of;
 pub use counts::{Counts, Order, Reaches, Served};
 pub use laws::{
-    attempts_are_first_steps, polls_change_nothing, runs_are_schedules, sums_agree, times_never_fall,
+    attempts_are_first_steps, polls_change_nothing, runs_are_schedules, sums_agree,
+    times_never_fall,
 };
 pub use lines::{Line, Reach};
 pub use locks::open_lock;
