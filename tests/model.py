@@ -232,6 +232,17 @@ def answer(rule, own, question):
     return kind == 'should' and (rule[0] == 'always' or rule[0] == 'socket' and own[0] == waiter[0]), 0
 
 
+def tries_before(tries, rule):
+    """How many attempts a call makes at most before it queues, and the pause after the first."""
+    if not tries:
+        return 0, 0
+    often, pause = tries
+    if often != 'by-policy':
+        return int(often), int(pause)
+    moves_nobody = rule[0] == 'never' or rule[0] == 'program' and rule[1] == '-'
+    return 32 if moves_nobody else 0, int(pause)
+
+
 class Draws:
     def __init__(self, seed, p):
         self.state = (64 * seed + p) & TOP
@@ -258,7 +269,8 @@ class Run:
         self.draws = [Draws(s['seed'], p) for p in range(count)]
         self.queue, self.stand = [], [None] * count
         self.figures = dict.fromkeys(('steps', 'rounds', 'asked', 'yes', 'insns', 'relinks', 'parks', 'rings', 'reads', 'stolen', 'same'), 0)
-        self.reach = {k: [0, 0, 0] for k in ('lock', 'tail', 'node', 'data')}
+        self.reach = {k: [0, 0, 0] for k in ('lock', 'tail', 'node', 'data', 'tried')}
+        self.tries, self.tried = tries_before(s['tries'], rule), [0] * count
         self.called, self.overtook = [None] * count, [0] * count
         self.gained, self.waited = [0] * count, [0] * count
         self.longest, self.overtaken = [0] * count, [0] * count
@@ -334,9 +346,7 @@ class Run:
         ends = self.touch(p, word, load, at, word[0] if word[0] in ('lock', 'tail') else 'node')
         line = self.line_of(word)[0]
         if not load:
-            for k, stand in enumerate(self.stand):
-                if stand[0] == 'spins' and stand[1] == line:
-                    self.due(k, max(ends, stand[2]), 'step')
+            self.seen(line, ends)
         ends += local + (ask if question else 0) + insn * insns
         if nap == 'Ring' and self.stand[whom][0] == 'sleeps':
             ends += wake
@@ -351,6 +361,26 @@ class Run:
             self.due(p, ends + self.think(p), 'call')
         else:
             self.due(p, ends, 'step')
+
+    def seen(self, line, at):
+        """A line was taken away from those who spin on it: they look again."""
+        for k, stand in enumerate(self.stand):
+            if stand[0] == 'spins' and stand[1] == line:
+                self.due(k, max(at, stand[2]), 'step')
+
+    def tries_in_vain(self, p, at):
+        """Whether the call makes one more attempt, and in vain; a reader has its count to take back."""
+        found, read, most = self.lock.words.get(('lock',), 0), self.lock.passes[p].read, self.tries[0]
+        if self.tried[p] >= most or not (found & (HELD | CLOSED) if read else found):
+            self.tried[p] = 0
+            return False
+        for _ in range(1 + read):
+            at = self.touch(p, ('lock',), False, at, 'tried')
+        self.seen(self.line_of(('lock',))[0], at)
+        pause = self.tries[1] * min(8, 2 ** self.tried[p])
+        self.tried[p] += 1
+        self.due(p, at + self.s['costs'][5] + pause, 'call')
+        return True
 
     def gain(self, p, at, stolen):
         hold, lines = self.s['work'][:2]
@@ -391,8 +421,11 @@ class Run:
                 self.gain(p, at, turn == 'stolen')
                 continue
             if turn == 'call':
-                q.read = self.lock.shares and self.draws[p].next() % 1000 < self.s['work'][3]
-                self.called[p], self.overtook[p] = at, 0
+                if self.tried[p] == 0:
+                    q.read = self.lock.shares and self.draws[p].next() % 1000 < self.s['work'][3]
+                    self.called[p], self.overtook[p] = at, 0
+                if self.tries_in_vain(p, at):
+                    continue
                 q.phase = 'Count' if q.read else 'Steal'
             elif turn == 'free':
                 q.phase = 'ReadRelease' if q.read else 'Release'
@@ -410,6 +443,8 @@ class Run:
         yield f"gained {len(self.order)} reads {f['reads']} stolen {f['stolen']} same {f['same']}"
         yield ' '.join(f'{k} {f[k]}' for k in ('steps', 'rounds', 'asked', 'yes', 'insns', 'relinks', 'parks', 'rings'))
         for kind, (hits, near, far) in self.reach.items():
+            if kind == 'tried' and not self.s['tries']:
+                continue
             yield f'{kind} hits {hits} near {near} far {far}'
         waits, n = sorted(self.waits), len(self.waits)
         half, most = (waits[(n - 1) // 2], waits[(n - 1) * 99 // 100]) if n else (0, 0)
@@ -436,7 +471,7 @@ def main():
         elif name == 'costs':
             s[name] = [1, 45, 130, 10, 6, 2, 5, 3, 1500, 1000, 4000] if words == ['usual'] else list(map(int, words))
         elif name == 'work':
-            s[name] = list(map(int, words))
+            s[name], s['tries'] = list(map(int, words[:4])), words[5:]
         elif name == 'until':
             s['until'] = int(words[0])
             if len(words) == 3:

@@ -1,7 +1,7 @@
 //! Runs whose figures another program gave, written from the same model in another language.
 use shfl_core::Rules;
 use shfl_line::{Attr, Form};
-use sim_model::{BuiltIn, Costs, Layout, Run, Setup, Work, cores_of, simulate};
+use sim_model::{BuiltIn, Costs, Layout, Run, Setup, Tries, Work, cores_of, simulate};
 use std::alloc::Global;
 use std::process::Abort;
 
@@ -66,6 +66,8 @@ const LONG: Work = Work {
     think: 500,
     reads: 0,
 };
+
+const AT_ONCE: Tries = Tries { most: 0, pause: 0 };
 
 // The form, the sockets, the work, the end, the seed and the policy of a run, and then its gains, steps, questions, yes,
 // far accesses to the words of passes, wakeups, and the hash of its order.
@@ -189,6 +191,7 @@ fn played(rt: &impl Abort, alloc: Global, row: &Row) -> Run {
         layout: Layout::Padded,
         costs: USUAL,
         work: row.2,
+        tries: AT_ONCE,
         until: row.3,
         seed: row.4,
         passes: attrs.len() as u32,

@@ -15,7 +15,7 @@ module _ {Pass : Type 0} (asks : Pass → DirCall → Pass → Option (List Told
   ask-both (x ∷ xs) ys p q r a b c h k = (h.0, h.1, h.2, ask-both xs ys h.0 q r h.1 b c h.3 k)
 
   -- the calls up to a place, and the one that stands there
-  pub turned : (worker : ℕ) (calls : List TraceCall) (i : ℕ) (d : TraceCall) (p q r : Pass) (a b c : Option (List Told)) → i < length calls → AskInTurn asks (of_worker worker (made_in (take i calls))) p q a b
-      → AskInTurn asks (made_one worker (get_or calls i d)) q r b c → AskInTurn asks (of_worker worker (made_in (take (i + 1) calls))) p r a c
-  turned worker calls i d p q r a b c within h k = subst (λ (l : List DirCall). AskInTurn asks l p r a c) (sym (made_more worker (take i calls) (get_or calls i d)) ∙ ap (λ l. of_worker worker (made_in l)) (sym (take_more calls i d within)))
-      (ask-both (of_worker worker (made_in (take i calls))) (made_one worker (get_or calls i d)) p q r a b c h k)
+  pub turned : (worker by : ℕ) → by ≡ worker → (calls : List TraceCall) (i : ℕ) (d : TraceCall) (p q r : Pass) (a b c : Option (List Told)) → i < length calls → AskInTurn asks (of_worker worker (made_in (take i calls))) p q a b
+      → AskInTurn asks (made_one by (get_or calls i d)) q r b c → AskInTurn asks (of_worker worker (made_in (take (i + 1) calls))) p r a c
+  turned worker by same calls i d p q r a b c within h k = subst (λ (l : List DirCall). AskInTurn asks l p r a c) (sym (made_more worker (take i calls) (get_or calls i d)) ∙ ap (λ l. of_worker worker (made_in l)) (sym (take_more calls i d within)))
+      (ask-both (of_worker worker (made_in (take i calls))) (made_one worker (get_or calls i d)) p q r a b c h (subst (λ w. AskInTurn asks (made_one w (get_or calls i d)) q r b c) same k))

@@ -1,5 +1,5 @@
 -- The lock's form allows each move of a run.
-use Rattle.std.proofs.Common.{◌≡◌, ℕ, zero, suc, ◌&&◌, false, cond, List, [], ◌∷◌, ◌++◌, ap, Option, Some, None}
+use Rattle.std.proofs.Common.{◌≡◌, ℕ, zero, suc, ◌&&◌, true, false, cond, List, [], ◌∷◌, ◌++◌, ap, Option, Some, None}
 use Rattle.shfl_line.specs.declared.events.Form.{Form}
 use Rattle.shfl_line.specs.declared.events.Mode.TheVariants.{Write, Read}
 use Rattle.shfl_core.specs.Plan as core
@@ -12,7 +12,8 @@ use Rattle.sim_model.specs.declared.turns.Turn.{Turn}
 use Rattle.sim_model.specs.declared.turns.Turn.TheVariants.{Call, Step, Gain, Free}
 use Rattle.sim_model.specs.Calls.{mode_drawn}
 use Rattle.sim_model.specs.Draws.{reads}
-use Rattle.sim_model.specs.Runs.{Answers, State, after_turn, next_turn, turning, turn_moves, moves_of}
+use Rattle.sim_model.specs.Runs.{Answers, State, call_move, and_step, after_turn, next_turn, turning, turn_moves, moves_of}
+use Rattle.sim_model.specs.Tries.{in_vain}
 
 may-append : (form : Form) (xs ys : List Move) → EachMayMove form xs → EachMayMove form ys → EachMayMove form (xs ++ ys)
 may-append form [] ys a b = b
@@ -25,7 +26,10 @@ writes s draw e = ap (λ b. cond (b && reads s.work.reads draw) Read Write) e
 
 module _ (s : Setup) (answers : Answers) where
   turn-may : (w : World) (b : Bench) (p : ℕ) (turn : Turn) → EachMayMove s.rules.form (turn_moves s answers w b p turn)
-  turn-may w b p Call = (λ none. writes s _ none, (tt, tt))
+  turn-may w b p (Call tried) = elim (in_vain s w b p tried) as (λ v. EachMayMove s.rules.form (cond v [] (and_step s answers w p (call_move s b p)))) [
+    | true ↦ tt
+    | false ↦ (λ none. writes s _ none, (tt, tt))
+  ]
   turn-may w b p Step = (tt, tt)
   turn-may w b p Free = (tt, (tt, tt))
   turn-may w b p (Gain stolen) = tt

@@ -1,6 +1,6 @@
 -- Over any turns of a run: whoever gains has left the queue or come past it.
-use Rattle.std.proofs.Common.{◌≡◌, ◌≢◌, ℕ, zero, suc, ◌+◌, ◌<◌, ◌≤◌, ◌&&◌, Bool, true, false, cond, not, List, [], ◌∷◌, ◌++◌, length, set, refl, sym, ap, subst, ◌∙◌, Option, Some, None, length-set, arith}
-use Rattle.std.specs.Prelude.{map, nat_lt, slice_index}
+use Rattle.std.proofs.Common.{◌≡◌, ◌≢◌, ℕ, zero, suc, ◌+◌, ◌<◌, ◌≤◌, ◌==◌, ◌&&◌, Bool, true, false, cond, not, List, [], ◌∷◌, ◌++◌, length, set, refl, sym, ap, subst, ◌∙◌, Option, Some, None, length-set, arith}
+use Rattle.std.specs.Prelude.{map, nat_lt}
 use Rattle.std.proofs.lemmas.List.{get_or-set_same, get_or-set_other}
 use Rattle.shfl_line.specs.declared.events.Mode.{Mode}
 use Rattle.shfl_line.specs.declared.events.Mode.TheVariants.{Write, Read}
@@ -27,11 +27,12 @@ use Rattle.sim_model.specs.declared.turns.Stand.{Stand}
 use Rattle.sim_model.specs.declared.turns.Stand.TheVariants.{Due, Sleeps}
 use Rattle.sim_model.specs.declared.turns.Turn.{Turn}
 use Rattle.sim_model.specs.declared.turns.Turn.TheVariants.{Call, Step, Gain, Free}
-use Rattle.sim_model.specs.Calls.{nobody_served, served_at, called, gained, overtaken, passed_once, all_overtaken, mode_drawn}
+use Rattle.sim_model.specs.Calls.{nobody_served, served_at, called, gained, overtaken, passed_once, all_overtaken}
 use Rattle.sim_model.specs.Clock.{plus}
 use Rattle.sim_model.specs.Laws.{IsFit}
-use Rattle.sim_model.specs.Runs.{Answers, State, with_call, with_gain, data_of, is_read, wait_of, step_move, turn_moves, turn_bench, after_turn, next_turn, turning, ran, moves_of, opening_state}
+use Rattle.sim_model.specs.Runs.{Answers, State, with_call, with_gain, data_of, is_read, wait_of, step_move, call_move, and_step, turn_moves, turn_bench, after_turn, next_turn, turning, ran, moves_of, opening_state}
 use Rattle.sim_model.specs.Steps.{advice_at, made_by, settled}
+use Rattle.sim_model.specs.Tries.{mode_wanted, in_vain, begun, with_attempt}
 use Rattle.sim_model.specs.Turns.{stand_at, soonest}
 use Rattle.sim_model.proofs.Kept.{Stands}
 use Rattle.sim_model.proofs.Mapped.{mapped-either}
@@ -39,7 +40,7 @@ use Rattle.sim_model.proofs.Settled.{Kept, known-same, known-other, admitted-ste
 use Rattle.sim_model.proofs.Turned.{found, in-time-some, turn-kept, kept-from, opening-kept, acquired-moves, released-moves}
 use Rattle.sim_bound.specs.Overtaken.{is_freeing, gaining, departures, steals, PassedBound}
 use Rattle.sim_bound.proofs.Through.{through, lets, by-step}
-use Rattle.sim_bound.proofs.Standing.{total-but, freeing-settled, served-settled}
+use Rattle.sim_bound.proofs.Standing.{total-below, total-but, freeing-settled, freeing-attempt, served-settled}
 
 -- how many moves let through, as the line shows them
 abbrev pub let_by : Rules → World → List Move → ℕ
@@ -127,8 +128,23 @@ module _ (s : Setup) (answers : Answers) where
   set-most (y ∷ ys) (suc p) zero v k own h = h
   set-most (y ∷ ys) (suc p) (suc x) v k own h = set-most ys p x v k (λ e. own (ap suc e)) h
 
-  call-served : (b : Bench) (p at x : ℕ) → (served_at (with_call s b p at).served x).passed ≤ (served_at b.served x).passed
-  call-served b p at x = set-most b.served p x (called (served_at b.served p) at) (served_at b.served x).passed (λ e. (let z : (called (served_at b.served p) at).passed ≡ 0 = refl in omega arith)) (omega arith)
+  begun-passed : (y : Served) (tried at : ℕ) → (begun y tried at).passed ≤ y.passed
+  begun-passed y tried at = elim (tried == 0) as (λ b. (cond b (called y at) y).passed ≤ y.passed) [ true ↦ (let z : (called y at).passed ≡ 0 = refl in omega arith) | false ↦ omega arith ]
+
+  begun-served : (b : Bench) (p tried at x : ℕ) → (served_at (set b.served p (begun (served_at b.served p) tried at)) x).passed ≤ (served_at b.served x).passed
+  begun-served b p tried at x = set-most b.served p x (begun (served_at b.served p) tried at) (served_at b.served x).passed
+      (λ e. (let y : (served_at b.served p).passed ≡ (served_at b.served x).passed = ap (λ i. (served_at b.served i).passed) (sym e) in
+      let z = begun-passed (served_at b.served p) tried at in omega arith)) (omega arith)
+
+  attempt-served : (b : Bench) (p tried at x : ℕ) → (served_at (with_attempt s b p tried at).served x).passed ≤ (served_at b.served x).passed
+  unfolding with_attempt
+  attempt-served b p tried at x = begun-served b p tried at x
+
+  -- an attempt in vain leaves who has come through
+  attempt-counts : (w : World) (b : Bench) (p tried at : ℕ) → is_freeing (stand_at b.stands p) ≡ false
+      → total s.passes (counts w (with_attempt s b p tried at).stands) ≤ total s.passes (counts w b.stands)
+  attempt-counts w b p tried at calls = total-below s.passes (counts w b.stands) (counts w (with_attempt s b p tried at).stands)
+      (λ q l. (let e : counts w (with_attempt s b p tried at).stands q ≡ counts w b.stands q = ap (λ z. cond (is_through (known w.passes q).phase && not z) 1 0) (freeing-attempt s b p tried at q calls) in omega arith))
 
   plus-one : (a : ℕ) → plus a 1 ≤ a + 1
   unfolding plus
@@ -172,10 +188,17 @@ module _ (s : Setup) (answers : Answers) where
   turned w b p at Step x k below due fit =
       let a = stepping w w b b p at below k.passes refl fit (λ q d. refl) (not-freeing (is_through (known w.passes p).phase) (is_freeing (stand_at b.stands p)) (ap is_freeing due)) in
       let e = ap (λ l. (served_at l x).passed) (served-settled s b p at (made_by s answers w p)) in omega arith
-  turned w b p at Call x k below due fit = let m = mode_drawn s (slice_index b.draws p) in let q = known w.passes p in
-      two w b (with_call s b p at) p at x (Acquire p m) (acquired m q) below k.passes refl (ap (λ z. cond z (placed_at w p (acquired m q)) w) fit) (acquired-moves m q fit)
-      (ap (λ z. through (cond z (record q { phase = entry m; reg = record q.reg { mode = m } }) q).phase) fit ∙ enters m)
-      (call-served b p at x) (omega arith)
+  turned w b p at (Call tried) x k below due fit = let m = mode_wanted s b p in let q = known w.passes p in
+      let w1 = after_move s.rules w (Acquire p m) in
+      let made = settled s (with_call s b p tried at) p (made_by s answers w1 p) at in
+      elim (in_vain s w b p tried) as (λ v. (served_at (cond v (with_attempt s b p tried at) made).served x).passed
+      + total s.passes (counts (run s.rules w (cond v [] (and_step s answers w p (call_move s b p)))) (cond v (with_attempt s b p tried at) made).stands)
+      ≤ (served_at b.served x).passed + (total s.passes (counts w b.stands) + let_by s.rules w (cond v [] (and_step s answers w p (call_move s b p))))) [
+        | true ↦ (let a = attempt-served b p tried at x in let c = attempt-counts w b p tried at (ap is_freeing due) in omega arith)
+        | false ↦ two w b (with_call s b p tried at) p at x (Acquire p m) (acquired m q) below k.passes refl (ap (λ z. cond z (placed_at w p (acquired m q)) w) fit) (acquired-moves m q fit)
+            (ap (λ z. through (cond z (record q { phase = entry m; reg = record q.reg { mode = m } }) q).phase) fit ∙ enters m)
+            (begun-served b p tried at x) (omega arith)
+      ]
   turned w b p at Free x k below due fit = let q = known w.passes p in
       two w b b p at x (Release p) (released q) below k.passes refl (ap (λ z. cond z (placed_at w p (released q)) w) fit) (released-moves q fit)
       (ap (λ z. through (cond z (record q { phase = exit q.reg.mode }) q).phase) fit ∙ exits q.reg.mode) (omega arith) (omega arith)

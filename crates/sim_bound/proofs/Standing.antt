@@ -4,21 +4,23 @@ use Rattle.std.proofs.lemmas.List.{get_or-set_other}
 use Rattle.shfl_line.proofs.Chain
 use Rattle.shfl_core.specs.Holding.{total}
 use Rattle.shfl_core.specs.Words.{site}
+use Rattle.shfl_core.specs.declared.words.Word.TheVariants.{Lock}
 use Rattle.sim_model.specs.declared.bench.Bench.{Bench}
 use Rattle.sim_model.specs.declared.setup.Setup.{Setup}
 use Rattle.sim_model.specs.declared.setup.Costs.{Costs}
 use Rattle.sim_model.specs.declared.steps.Made.{Made}
 use Rattle.sim_model.specs.declared.turns.Stand.{Stand}
 use Rattle.sim_model.specs.declared.turns.Stand.TheVariants.{Due, Spins, Sleeps}
-use Rattle.sim_model.specs.declared.turns.Turn.TheVariants.{Step}
+use Rattle.sim_model.specs.declared.turns.Turn.TheVariants.{Call, Step}
 use Rattle.sim_model.specs.Clock.{plus, later}
 use Rattle.sim_model.specs.Places.{is_load, rung, line_of}
 use Rattle.sim_model.specs.Steps.{raised, with_ring, with_touch, with_stand, touched_by, ended, settled}
+use Rattle.sim_model.specs.Tries.{tried_at, pause_after, with_attempt}
 use Rattle.sim_model.specs.Turns.{stand_at, woken, all_woken}
 use Rattle.sim_model.proofs.Mapped.{mapped-either}
 use Rattle.sim_bound.specs.Overtaken.{is_freeing}
 
-total-below : (n : ℕ) (f g : ℕ → ℕ) → ((q : ℕ) → q < n → g q ≤ f q) → total n g ≤ total n f
+pub total-below : (n : ℕ) (f g : ℕ → ℕ) → ((q : ℕ) → q < n → g q ≤ f q) → total n g ≤ total n f
 total-below zero f g h = omega arith
 total-below (suc n) f g h = let a = h n (omega arith) in let b = total-below n f g (λ q l. h q (omega arith)) in omega arith
 
@@ -75,3 +77,16 @@ module _ (s : Setup) (b : Bench) (p at : ℕ) (m : Made) where
   pub served-settled : (settled s b p m at).served ≡ b.served
   unfolding with_stand with_touch
   served-settled = refl
+
+-- so does an attempt in vain of one whose turn it was to call
+pub freeing-attempt : (s : Setup) (b : Bench) (p tried at k : ℕ) → is_freeing (stand_at b.stands p) ≡ false
+    → is_freeing (stand_at (with_attempt s b p tried at).stands k) ≡ is_freeing (stand_at b.stands k)
+unfolding with_attempt
+freeing-attempt s b p tried at k calls =
+    let line = line_of s.layout Lock in
+    let ends = (tried_at s b p at).ends in
+    let others = all_woken s.passes line ends b.stands in
+    let up : Stand = Due (plus (plus ends s.costs.local) (pause_after s.tries tried)) (Call (tried + 1)) in
+    let same : (q : ℕ) → is_freeing (stand_at others q) ≡ is_freeing (stand_at b.stands q) =
+    λ q. mapped-either (λ y. is_freeing y ≡ is_freeing (stand_at b.stands q)) (woken line ends) b.stands s.passes q (Sleeps 0) refl (freeing-woken line ends (stand_at b.stands q)) in
+    freeing-set others p up k (sym (same p ∙ calls)) ∙ same k

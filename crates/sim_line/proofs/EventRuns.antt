@@ -1,22 +1,28 @@
 -- The events of a run, turn by turn.
-use Rattle.std.proofs.Common.{◌≡◌, ℕ, zero, suc, List, [], ◌++◌, map, take, refl, sym, ap, ◌∙◌, Option, Some, None}
+use Rattle.std.proofs.Common.{◌≡◌, ℕ, zero, suc, true, false, cond, List, [], ◌∷◌, ◌++◌, map, take, refl, sym, ap, ◌∙◌, Option, Some, None}
 use Rattle.std.proofs.lemmas.List.{map-append}
 use Rattle.shfl_line.specs.declared.words.Attr.{Attr}
 use Rattle.shfl_core.specs.Runner.{Lock, opened}
 use Rattle.shfl_core.specs.Worlds.{World, run, opening}
 use Rattle.sim_model.specs.declared.bench.Bench.{Bench}
 use Rattle.sim_line.specs.declared.events.Event.{Event}
+use Rattle.sim_line.specs.declared.events.Event.TheVariants.{Step as StepEvent}
 use Rattle.sim_model.specs.declared.setup.Setup.{Setup}
 use Rattle.sim_model.specs.declared.turns.Entry.{Entry}
 use Rattle.sim_model.specs.declared.turns.Turn.{Turn}
 use Rattle.sim_model.specs.declared.turns.Turn.TheVariants.{Call, Step, Gain, Free}
-use Rattle.sim_line.specs.Events.{event_of, turn_events, events_of, first_events}
+use Rattle.sim_line.specs.Events.{call_event, event_of, turn_events, events_of, first_events}
 use Rattle.sim_model.specs.Openings.{opening_bench}
-use Rattle.sim_model.specs.Runs.{Answers, State, state_of, after_moves, turn_moves, turn_bench, after_turn, next_turn, turning, moves_of, opening_state}
+use Rattle.sim_model.specs.Runs.{Answers, State, state_of, after_moves, call_move, and_step, turn_moves, turn_bench, after_turn, next_turn, turning, moves_of, opening_state}
+use Rattle.sim_model.specs.Tries.{mode_wanted, in_vain}
 
 -- a turn's events are those of its moves
-turn-events : (s : Setup) (answers : Answers) (w : World) (b : Bench) (p : ℕ) (turn : Turn) → map event_of (turn_moves s answers w b p turn) ≡ turn_events s b p turn
-turn-events s answers w b p Call = refl
+turn-events : (s : Setup) (answers : Answers) (w : World) (b : Bench) (p : ℕ) (turn : Turn) → map event_of (turn_moves s answers w b p turn) ≡ turn_events s w b p turn
+turn-events s answers w b p (Call tried) = elim (in_vain s w b p tried)
+    as (λ v. map event_of (cond v [] (and_step s answers w p (call_move s b p))) ≡ cond v [] (call_event (mode_wanted s b p) p ∷ StepEvent p ∷ [])) [
+      | true ↦ refl
+      | false ↦ refl
+    ]
 turn-events s answers w b p Step = refl
 turn-events s answers w b p Free = refl
 turn-events s answers w b p (Gain stolen) = refl
@@ -41,7 +47,7 @@ module _ (s : Setup) (answers : Answers) where
   pub turned-events : (n m : ℕ) (a b : Lock) (x y : Bench) (e : Entry)
       → m ≡ suc n → a.rules ≡ s.rules → next_turn s x ≡ Some e
       → b ≡ after_moves a (turn_moves s answers a.world x e.pass e.turn) → y ≡ turn_bench s answers a.world x e.pass e.at e.turn
-      → turn_events s x e.pass e.turn ++ events_of s answers n (state_of b y []) ≡ events_of s answers m (state_of a x [])
+      → turn_events s a.world x e.pass e.turn ++ events_of s answers n (state_of b y []) ≡ events_of s answers m (state_of a x [])
   turned-events n m a b x y e is rules next lock bench =
       let st : State = state_of a x [] in
       let world : b.world ≡ (after_turn s answers st e).world = ap (λ (l : Lock). l.world) lock ∙ ap (λ t. run t a.world (turn_moves s answers a.world x e.pass e.turn)) rules in

@@ -1,5 +1,5 @@
 -- Every state of a run is a lawful lock.
-use Rattle.std.proofs.Common.{◌≡◌, ℕ, zero, suc, ◌&&◌, false, cond, List, [], ◌∷◌, ◌++◌, sym, ap, subst, Option, Some, None}
+use Rattle.std.proofs.Common.{◌≡◌, ℕ, zero, suc, ◌&&◌, true, false, cond, List, [], ◌∷◌, ◌++◌, sym, ap, subst, Option, Some, None}
 use Rattle.shfl_line.specs.declared.events.Form.{Form}
 use Rattle.shfl_line.specs.declared.events.Mode.TheVariants.{Write, Read}
 use Rattle.shfl_core.specs.Lawful.{Lawful}
@@ -16,7 +16,8 @@ use Rattle.sim_model.specs.declared.turns.Turn.TheVariants.{Call, Step, Gain, Fr
 use Rattle.sim_model.specs.Calls.{mode_drawn}
 use Rattle.sim_model.specs.Draws.{reads}
 use Rattle.sim_line.specs.Laws.{RunsAreLawful}
-use Rattle.sim_model.specs.Runs.{Answers, State, after_turn, next_turn, turning, turn_moves, moves_of, opening_state}
+use Rattle.sim_model.specs.Runs.{Answers, State, call_move, and_step, after_turn, next_turn, turning, turn_moves, moves_of, opening_state}
+use Rattle.sim_model.specs.Tries.{in_vain}
 use Rattle.sim_model.proofs.Scheduled.{runs-are-schedules}
 
 may-append : (form : Form) (xs ys : List Move) → EachMayMove form xs → EachMayMove form ys → EachMayMove form (xs ++ ys)
@@ -30,7 +31,10 @@ writes s draw e = ap (λ b. cond (b && reads s.work.reads draw) Read Write) e
 
 module _ (s : Setup) (answers : Answers) where
   turn-may : (w : World) (b : Bench) (p : ℕ) (turn : Turn) → EachMayMove s.rules.form (turn_moves s answers w b p turn)
-  turn-may w b p Call = (λ none. writes s _ none, (tt, tt))
+  turn-may w b p (Call tried) = elim (in_vain s w b p tried) as (λ v. EachMayMove s.rules.form (cond v [] (and_step s answers w p (call_move s b p)))) [
+    | true ↦ tt
+    | false ↦ (λ none. writes s _ none, (tt, tt))
+  ]
   turn-may w b p Step = (tt, tt)
   turn-may w b p Free = (tt, (tt, tt))
   turn-may w b p (Gain stolen) = tt

@@ -73,7 +73,7 @@ events_text events = flat_map event_text events
 
 -- the first events of the run of a rule, of several seeds with the first
 unfoldable pub run_events : SetupModel → Rule → List Event
-run_events s rule = first_events (run_setup s s.load.seeds.first) (rule_advice rule) s.load.turns s.passes most_events
+run_events s rule = first_events (run_setup s s.load.seeds.first rule) (rule_advice rule) s.load.turns s.passes most_events
 
 -- the lock of the setup with this policy, its passes, and the first events of the run
 unfoldable pub schedule_text : SetupModel → CandidateModel → List ℕ

@@ -6,8 +6,8 @@ ghost use Rattle.sim_model.specs.Runs as runs;
 use shfl_core::PlainWorld;
 use shfl_line::{Attr, Mode, NoMemory};
 use sim_model::{
-    Adviser, AnyWaiter, Bench, Entry, Setup, Turn, mode_of, next_entry, open_lock, opening,
-    take_turn,
+    Adviser, AnyWaiter, Bench, Entry, Setup, Turn, in_vain, mode_of, next_entry, open_lock,
+    opening, take_turn,
 };
 use std::alloc::{AllocError, Global};
 
@@ -32,17 +32,22 @@ fn call_event(mode: Mode, pass: u32) -> Event
 // The events of a turn, behind those before it.
 fn note_turn(
     setup: &Setup,
+    lock: &PlainWorld<AnyWaiter>,
     bench: &Bench,
     entry: Entry,
     found: &mut Vec<Event>,
 ) -> Result<(), AllocError>
-    requires { entry.pass < 64 }
+    requires declared { entry.pass < length lock.now.world.passes }
+    requires few { length lock.now.world.passes ≤ 64 }
     ensures { IsOk result → found.new.items ≡ found.old.items
-        ++ events.turn_events setup.now bench.now entry.pass entry.turn }
+        ++ events.turn_events setup.now lock.now.world bench.now entry.pass entry.turn }
 {
     let pass = entry.pass;
     match entry.turn {
-        Turn::Call => {
+        Turn::Call { tried } => {
+            if in_vain(setup, lock, bench, pass, tried) {
+                return Ok(());
+            }
             let mut draw = bench.draws[pass as usize];
             found.push(call_event(mode_of(setup, &mut draw), pass))?;
         }
@@ -79,7 +84,7 @@ fn run_events<A: Adviser>(
         let Some(entry) = next_entry(setup, bench) else {
             return Ok(());
         };
-        note_turn(setup, bench, entry, found)?;
+        note_turn(setup, lock, bench, entry, found)?;
         take_turn(setup, adviser, lock, bench, entry);
     }
     Ok(())

@@ -145,7 +145,7 @@ fn run_events(alloc: Global, setup: &SimSetup, rule: &Rule) -> Result<Vec<Event>
     requires few { length setup.now.passes ≤ 64 }
     ensures { IfOk result (λ v. v.items ≡ texts.run_events setup.now rule.now) }
 {
-    let lock = run_setup(setup, setup.load.seeds.first);
+    let lock = run_setup(setup, setup.load.seeds.first, rule);
     let attrs = setup.passes.as_slice();
     let turns = setup.load.turns;
     match first_events(alloc, &lock, attrs, rule, turns, MOST_EVENTS) {

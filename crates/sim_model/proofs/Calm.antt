@@ -1,5 +1,5 @@
 -- In every state of a run each pass without a turn is quiet.
-use Rattle.std.proofs.Common.{◌≡◌, ◌≢◌, inl, inr, ℕ, zero, suc, ◌<◌, ◌≤◌, Bool, true, false, cond, List, length, set, refl, sym, ap, subst, ◌∙◌, Option, Some, None, arith, length-set, slice_index}
+use Rattle.std.proofs.Common.{◌≡◌, ◌≢◌, inl, inr, ℕ, zero, suc, ◌<◌, ◌≤◌, Bool, true, false, cond, List, [], length, set, refl, sym, ap, subst, ◌∙◌, Option, Some, None, arith, length-set}
 use Rattle.std.proofs.lemmas.Bool.{cases_eq}
 use Rattle.std.proofs.lemmas.List.{get_or-set_same, get_or-set_other, set-get_or}
 use Rattle.shfl_line.specs.declared.events.Mode.{Mode}
@@ -19,18 +19,19 @@ use Rattle.sim_model.specs.declared.turns.Stand.{Stand}
 use Rattle.sim_model.specs.declared.turns.Stand.TheVariants.{Due, Spins, Sleeps}
 use Rattle.sim_model.specs.declared.turns.Turn.{Turn}
 use Rattle.sim_model.specs.declared.turns.Turn.TheVariants.{Call, Step, Gain, Free}
-use Rattle.sim_model.specs.Calls.{mode_drawn}
 use Rattle.sim_model.specs.Clock.{plus}
 use Rattle.sim_model.specs.Laws.{IsSetUp, HasNoTurn, IsStill, PollsChangeNothing}
 use Rattle.sim_model.specs.Places.{is_load, line_of, rung}
-use Rattle.sim_model.specs.Runs.{Answers, State, with_call, with_gain, data_of, step_move, turn_moves, turn_bench, after_turn, next_turn, turning, ran, opening_state}
+use Rattle.sim_model.specs.Runs.{Answers, State, with_call, with_gain, data_of, step_move, call_move, and_step, turn_moves, turn_bench, after_turn, next_turn, turning, ran, opening_state}
 use Rattle.sim_model.specs.Steps.{advice_at, made_by, rest_of, ended, touched_by, with_touch, with_ring, stand_after, with_stand, settled}
+use Rattle.sim_model.specs.Tries.{mode_wanted, in_vain, with_attempt}
 use Rattle.sim_model.specs.Turns.{stand_at, woken, all_woken, soonest}
 use Rattle.sim_model.proofs.Kept.{Stands}
 use Rattle.sim_model.proofs.Mapped.{mapped-below}
 use Rattle.sim_model.proofs.Quiet.{Quiet, bell-case}
 use Rattle.sim_model.proofs.Settled.{Kept, known-same, known-other, admitted-step, ring-long, touch-long}
 use Rattle.sim_model.proofs.Still.{QuietAt, QuietOrRung, after_words, load-quiet, store-quiet, ring-quiet, own-quiet}
+use Rattle.sim_model.proofs.Tried.{attempt-quiet}
 use Rattle.sim_model.proofs.Turned.{found, in-time-some, kept-from, turn-kept, opening-kept, acquired-moves, released-moves, stands-at}
 
 -- how another pass stands after the access of a step
@@ -134,12 +135,17 @@ gain-calm s w b p at m stolen inside calm = λ k below.
 turn-calm : (s : Setup) (answers : Answers) (w : World) (b : Bench) (p at : ℕ) (turn : Turn) → at ≤ 18446744073709551615 → p < s.passes → Kept s at w b
     → stand_at b.stands p ≡ Due at turn → Calm s w b
     → Calm s (run s.rules w (turn_moves s answers w b p turn)) (turn_bench s answers w b p at turn)
-turn-calm s answers w b p at Call top lt k due calm =
+turn-calm s answers w b p at (Call tried) top lt k due calm =
     let q = known w.passes p in
     let fit : is_idle q.phase ≡ true = (subst (Stands at q) due (k.stands p lt)).fit in
-    let m = mode_drawn s (slice_index b.draws p) in
-    let e : after_move s.rules w (Acquire p m) ≡ placed_at w p (acquired m q) = ap (λ b. cond b (placed_at w p (acquired m q)) w) fit in
-    moved-calm s answers w (after_move s.rules w (Acquire p m)) (with_call s b p at) p at (acquired m q) top lt k.passes (let f = k.seats in let g = k.few in omega arith) calm e (acquired-moves m q fit)
+    let m = mode_wanted s b p in
+    let w1 = after_move s.rules w (Acquire p m) in
+    let e : w1 ≡ placed_at w p (acquired m q) = ap (λ b. cond b (placed_at w p (acquired m q)) w) fit in
+    let seats : s.passes ≤ length b.stands = let f = k.seats in let g = k.few in omega arith in
+    elim (in_vain s w b p tried) as (λ v. Calm s (run s.rules w (cond v [] (and_step s answers w p (call_move s b p)))) (cond v (with_attempt s b p tried at) (settled s (with_call s b p tried at) p (made_by s answers w1 p) at))) [
+      | true ↦ λ j below. attempt-quiet s w b p tried at j (omega arith) (calm j below)
+      | false ↦ moved-calm s answers w w1 (with_call s b p tried at) p at (acquired m q) top lt k.passes seats calm e (acquired-moves m q fit)
+    ]
 turn-calm s answers w b p at Step top lt k due calm =
     let fit : moving (known w.passes p) ≡ true = (subst (Stands at (known w.passes p)) due (k.stands p lt)).fit in
     step-calm s answers w b p at top lt k.passes (let f = k.seats in let g = k.few in omega arith) (λ j below differ. calm j below) fit

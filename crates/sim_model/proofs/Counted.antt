@@ -1,5 +1,5 @@
 -- The sums agree: each step is one access, each gain one wait and one of its pass.
-use Rattle.std.proofs.Common.{◌≡◌, ℕ, zero, suc, ◌+◌, ◌<◌, ◌≤◌, Bool, true, false, cond, List, [], ◌∷◌, ◌++◌, map, length, get_or, set, refl, sym, ap, subst, ◌∙◌, Option, Some, None, arith, length-append, length-set}
+use Rattle.std.proofs.Common.{◌≡◌, ℕ, zero, suc, ◌+◌, ◌<◌, ◌≤◌, ◌==◌, Bool, true, false, cond, List, [], ◌∷◌, ◌++◌, length, get_or, set, refl, sym, ap, subst, ◌∙◌, Option, Some, None, arith, length-append, length-set}
 use Rattle.std.specs.Prelude.{sum_by, nat_lt, ◌&&◌}
 use Rattle.std.proofs.lemmas.List.{length-replicate}
 use Rattle.std.proofs.lemmas.List.Sums.{sum_by-cons}
@@ -7,7 +7,7 @@ use Rattle.std.proofs.lemmas.List.Folds.{sum_by-replicate}
 use Rattle.shfl_line.specs.declared.events.Mode.{Mode}
 use Rattle.shfl_core.specs.declared.words.Word.{Word}
 use Rattle.shfl_core.specs.declared.words.Word.TheVariants.{Lock, Tail, Next, State as StateOf, Attr, Bell}
-use Rattle.shfl_core.specs.Worlds.{World}
+use Rattle.shfl_core.specs.Worlds.{World, after_move}
 use Rattle.sim_model.specs.declared.bench.Bench.{Bench}
 use Rattle.sim_model.specs.declared.counts.Counts.{Counts}
 use Rattle.sim_model.specs.declared.counts.Reaches.{Reaches}
@@ -25,8 +25,9 @@ use Rattle.sim_model.specs.Calls.{nobody_served, served_at, called, gained, over
 use Rattle.sim_model.specs.Clock.{plus}
 use Rattle.sim_model.specs.Counts.{reached, with_access, with_step}
 use Rattle.sim_model.specs.Sums.{reaches_of, accesses_of, gains_of, SumsAgree}
-use Rattle.sim_model.specs.Runs.{Answers, State, with_call, with_gain, listed, turn_bench, turn_wait, after_turn, next_turn, turning, ran, opening_state}
-use Rattle.sim_model.specs.Steps.{settled, with_touch, with_stand}
+use Rattle.sim_model.specs.Runs.{Answers, State, with_call, call_move, with_gain, listed, turn_bench, turn_wait, after_turn, next_turn, turning, ran, opening_state}
+use Rattle.sim_model.specs.Steps.{made_by, settled, with_touch, with_stand}
+use Rattle.sim_model.specs.Tries.{in_vain, begun, with_attempt}
 use Rattle.sim_model.specs.Turns.{soonest}
 use Rattle.sim_model.proofs.Mapped.{mapped-either, mapped-long}
 use Rattle.sim_model.proofs.Turned.{found, in-time-some}
@@ -79,8 +80,18 @@ gain-counts : (k : ℕ) (s : Setup) (b : Bench) (p at : ℕ) (m : Mode) (stolen 
 unfolding with_gain
 gain-counts k s b p at m stolen h = let s = h.steps in let f = h.few in record { steps = s; few = omega arith }
 
+-- an attempt in vain is no step
+attempt-counts : (k : ℕ) (s : Setup) (b : Bench) (p tried at : ℕ) → Counted k b.counts → Counted (suc k) (with_attempt s b p tried at).counts
+unfolding with_attempt
+attempt-counts k s b p tried at h = let s = h.steps in let f = h.few in record { steps = s; few = omega arith }
+
 turn-counted : (k : ℕ) (s : Setup) (answers : Answers) (w : World) (b : Bench) (p at : ℕ) (turn : Turn) → k < 18446744073709551615 → Counted k b.counts → Counted (suc k) (turn_bench s answers w b p at turn).counts
-turn-counted k s answers w b p at Call lt h = settled-counted k s (with_call s b p at) p at _ lt (record { steps = h.steps; few = h.few })
+turn-counted k s answers w b p at (Call tried) lt h =
+    let m = made_by s answers (after_move s.rules w (call_move s b p)) p in
+    elim (in_vain s w b p tried) as (λ v. Counted (suc k) (cond v (with_attempt s b p tried at) (settled s (with_call s b p tried at) p m at)).counts) [
+      | true ↦ attempt-counts k s b p tried at h
+      | false ↦ settled-counted k s (with_call s b p tried at) p at m lt (record { steps = h.steps; few = h.few })
+    ]
 turn-counted k s answers w b p at Step lt h = settled-counted k s b p at _ lt h
 turn-counted k s answers w b p at Free lt h = settled-counted k s b p at _ lt h
 turn-counted k s answers w b p at (Gain stolen) lt h = gain-counts k s b p at _ stolen h
@@ -155,24 +166,55 @@ gain-gained k s b waits p at m stolen wait lt below h =
           ∙ mapped-long (overtaken (served_at b.served p).called) b.served s.passes ∙ h.seats;
     }
 
--- a call, and any step, leave the gains
-called-gained : (k : ℕ) (s : Setup) (b : Bench) (waits : List ℕ) (p at : ℕ) → p < 1024 → Gained k b waits → Gained k (with_call s b p at) waits
-called-gained k s b waits p at below h =
+begun-gained : (x : Served) (tried at : ℕ) → (begun x tried at).gained ≡ x.gained
+begun-gained x tried at = elim (tried == 0) as (λ b. (cond b (called x at) x).gained ≡ x.gained) [ true ↦ refl | false ↦ refl ]
+
+-- that a call begins leaves the gains
+begun-same : (served : List Served) (p tried at : ℕ) → p < length served → gains_of (set served p (begun (served_at served p) tried at)) ≡ gains_of served
+begun-same served p tried at inside =
     let f : Served → ℕ = λ (x : Served). x.gained in
-    let own = called (served_at b.served p) at in
+    let own = begun (served_at served p) tried at in
+    let a : sum_by f (set served p own) + f (get_or served p nobody_served) ≡ sum_by f served + f own = sum-set f served p own nobody_served inside in
+    let g : f own ≡ f (get_or served p nobody_served) = begun-gained (served_at served p) tried at in
+    let same : sum_by f (set served p own) ≡ sum_by f served = omega arith in same
+
+called-gained : (k : ℕ) (s : Setup) (b : Bench) (waits : List ℕ) (p tried at : ℕ) → p < 1024 → Gained k b waits → Gained k (with_call s b p tried at) waits
+called-gained k s b waits p tried at below h =
     let inside : p < length b.served = let z = h.seats in omega arith in
-    let a : sum_by f (set b.served p own) + f (get_or b.served p nobody_served) ≡ sum_by f b.served + f own = sum-set f b.served p own nobody_served inside in
-    let same : sum_by f (set b.served p own) ≡ sum_by f b.served = omega arith in
-    record { served = same ∙ h.served; ended = h.ended; few = h.few; seats = length-set b.served p own ∙ h.seats }
+    record {
+      served = begun-same b.served p tried at inside ∙ h.served;
+      ended = h.ended;
+      few = h.few;
+      seats = length-set b.served p (begun (served_at b.served p) tried at) ∙ h.seats;
+    }
+
+no-wait : (waits : List ℕ) → length (waits ++ []) ≡ length waits
+no-wait waits = length-append waits [] ∙ (let e : length waits + 0 ≡ length waits = omega arith in e)
+
+attempt-gained : (k : ℕ) (s : Setup) (b : Bench) (waits : List ℕ) (p tried at : ℕ) → p < 1024 → Gained k b waits → Gained (suc k) (with_attempt s b p tried at) (waits ++ [])
+unfolding with_attempt
+attempt-gained k s b waits p tried at below h = let few = h.few in
+    let inside : p < length b.served = let z = h.seats in omega arith in
+    record {
+      served = begun-same b.served p tried at inside ∙ h.served;
+      ended = no-wait waits ∙ h.ended;
+      few = omega arith;
+      seats = length-set b.served p (begun (served_at b.served p) tried at) ∙ h.seats;
+    }
 
 settled-gained : (k : ℕ) (s : Setup) (b : Bench) (waits : List ℕ) (p at : ℕ) (m : Made) → Gained k b waits → Gained (suc k) (settled s b p m at) (waits ++ [])
 unfolding with_stand with_touch
 settled-gained k s b waits p at m h = let few = h.few in
-    record { served = h.served; ended = length-append waits [] ∙ (let e : length waits + 0 ≡ length waits = omega arith in e) ∙ h.ended; few = omega arith; seats = h.seats }
+    record { served = h.served; ended = no-wait waits ∙ h.ended; few = omega arith; seats = h.seats }
 
 turn-gained : (k : ℕ) (s : Setup) (answers : Answers) (w : World) (b : Bench) (waits : List ℕ) (p at : ℕ) (turn : Turn) → k < 18446744073709551615 → p < 1024 → Gained k b waits
     → Gained (suc k) (turn_bench s answers w b p at turn) (waits ++ listed (turn_wait b p at turn))
-turn-gained k s answers w b waits p at Call lt below h = settled-gained k s (with_call s b p at) waits p at _ (called-gained k s b waits p at below h)
+turn-gained k s answers w b waits p at (Call tried) lt below h =
+    let m = made_by s answers (after_move s.rules w (call_move s b p)) p in
+    elim (in_vain s w b p tried) as (λ v. Gained (suc k) (cond v (with_attempt s b p tried at) (settled s (with_call s b p tried at) p m at)) (waits ++ [])) [
+      | true ↦ attempt-gained k s b waits p tried at below h
+      | false ↦ settled-gained k s (with_call s b p tried at) waits p at m (called-gained k s b waits p tried at below h)
+    ]
 turn-gained k s answers w b waits p at Step lt below h = settled-gained k s b waits p at _ h
 turn-gained k s answers w b waits p at Free lt below h = settled-gained k s b waits p at _ h
 turn-gained k s answers w b waits p at (Gain stolen) lt below h = gain-gained k s b waits p at _ stolen _ lt below h

@@ -1,3 +1,4 @@
+pub mod Attempts
 pub mod Calm
 pub mod Counted
 pub mod Kept
@@ -7,4 +8,5 @@ pub mod Running
 pub mod Scheduled
 pub mod Settled
 pub mod Still
+pub mod Tried
 pub mod Turned

@@ -1,5 +1,5 @@
 -- A turn keeps how the passes stand, and each of its moves is admitted.
-use Rattle.std.proofs.Common.{◌≡◌, inl, inr, ℕ, zero, suc, ◌+◌, ◌<◌, ◌≤◌, Bool, true, false, cond, List, [], ◌∷◌, ◌++◌, length, get_or, set, slice_index, refl, sym, ap, subst, ◌∙◌, Option, Some, None, arith, length-set, add-zero}
+use Rattle.std.proofs.Common.{◌≡◌, inl, inr, ℕ, zero, suc, ◌+◌, ◌<◌, ◌≤◌, Bool, true, false, cond, List, [], ◌∷◌, ◌++◌, length, get_or, set, refl, sym, ap, subst, ◌∙◌, Option, Some, None, arith, length-set, add-zero}
 use Rattle.std.proofs.lemmas.Bool.{cases_eq, leb-true, leb-false}
 use Rattle.std.proofs.lemmas.List.{get_or-set_same, get_or-set_other, length-replicate}
 use Rattle.std.specs.Prelude.{nat_le}
@@ -24,17 +24,19 @@ use Rattle.sim_model.specs.declared.turns.Stand.{Stand}
 use Rattle.sim_model.specs.declared.turns.Stand.TheVariants.{Due, Spins, Sleeps}
 use Rattle.sim_model.specs.declared.turns.Turn.{Turn}
 use Rattle.sim_model.specs.declared.turns.Turn.TheVariants.{Call, Step, Gain, Free}
-use Rattle.sim_model.specs.Calls.{mode_drawn, data_touched}
+use Rattle.sim_model.specs.Calls.{data_touched}
 use Rattle.sim_model.specs.Clock.{plus}
 use Rattle.sim_model.specs.Draws.{thought, seeded}
 use Rattle.sim_model.specs.Laws.{IsFit, IsNotBefore, IsEachAdmitted, IsSetUp, RunsAreAdmitted, TimesNeverFall, IsRising, times_of}
 use Rattle.sim_model.specs.Openings.{stands_below}
 use Rattle.sim_model.specs.Places.{line_at, core_at}
-use Rattle.sim_model.specs.Runs.{Answers, State, with_call, with_gain, data_of, is_read, step_move, turn_moves, turn_bench, after_turn, in_time, next_turn, turning, moves_of, opening_state}
+use Rattle.sim_model.specs.Runs.{Answers, State, with_call, with_gain, data_of, is_read, step_move, call_move, and_step, turn_moves, turn_bench, after_turn, in_time, next_turn, turning, moves_of, opening_state}
 use Rattle.sim_model.specs.Steps.{made_by, settled}
+use Rattle.sim_model.specs.Tries.{mode_wanted, in_vain, with_attempt}
 use Rattle.sim_model.specs.Turns.{stand_at, sooner, soonest}
 use Rattle.sim_model.proofs.Kept.{Stands, plus-after}
 use Rattle.sim_model.proofs.Settled.{Between, Kept, known-same, known-other, step-kept, touch-after}
+use Rattle.sim_model.proofs.Tried.{attempt-kept}
 
 -- the soonest turn
 
@@ -171,13 +173,17 @@ gain-kept s w b p at m stolen top lt k h =
 pub turn-kept : (s : Setup) (answers : Answers) (w : World) (b : Bench) (p at : ℕ) (turn : Turn) → at ≤ 18446744073709551615 → p < s.passes → Kept s at w b
     → IsFit (known w.passes p) (Due at turn)
     → IsEachAdmitted s.rules w (turn_moves s answers w b p turn) × Kept s at (run s.rules w (turn_moves s answers w b p turn)) (turn_bench s answers w b p at turn)
-turn-kept s answers w b p at Call top lt k fit =
+turn-kept s answers w b p at (Call tried) top lt k fit =
     let q = known w.passes p in
-    let m = mode_drawn s (slice_index b.draws p) in
+    let m = mode_wanted s b p in
     let w1 = after_move s.rules w (Acquire p m) in
     let e : w1 ≡ placed_at w p (acquired m q) = ap (λ b. cond b (placed_at w p (acquired m q)) w) fit in
-    let two = two-moves s answers w w1 (with_call s b p at) p at (acquired m q) top lt (record { passes = k.passes; few = k.few; seats = k.seats; stands = k.stands }) e (acquired-moves m q fit) in
-    ((fit, (two.0, tt)), two.1)
+    let two = two-moves s answers w w1 (with_call s b p tried at) p at (acquired m q) top lt (record { passes = k.passes; few = k.few; seats = k.seats; stands = k.stands }) e (acquired-moves m q fit) in
+    elim (in_vain s w b p tried) as (λ v. IsEachAdmitted s.rules w (cond v [] (and_step s answers w p (call_move s b p)))
+    × Kept s at (run s.rules w (cond v [] (and_step s answers w p (call_move s b p)))) (cond v (with_attempt s b p tried at) (settled s (with_call s b p tried at) p (made_by s answers w1 p) at))) [
+      | true ↦ (tt, attempt-kept s w b p tried at top lt k fit)
+      | false ↦ ((fit, (two.0, tt)), two.1)
+    ]
 turn-kept s answers w b p at Step top lt k fit =
     ((fit, tt), step-kept s answers w b p at top lt (same-between s at w b p k) fit)
 turn-kept s answers w b p at Free top lt k fit =
@@ -228,10 +234,10 @@ stands-long : (s : Setup) (n : ℕ) → length (stands_below s n) ≡ 1024
 stands-long s zero = length-replicate 1024 (Sleeps 0)
 stands-long s (suc n) = length-set (stands_below s n) n _ ∙ stands-long s n
 
-pub stands-at : (s : Setup) (n p : ℕ) → p < n → n ≤ 1024 → stand_at (stands_below s n) p ≡ Due (thought s.work.think (seeded s.seed p)) Call
+pub stands-at : (s : Setup) (n p : ℕ) → p < n → n ≤ 1024 → stand_at (stands_below s n) p ≡ Due (thought s.work.think (seeded s.seed p)) (Call 0)
 stands-at s zero p lt few = absurd (omega arith)
 stands-at s (suc n) p lt few =
-    let up : ℕ → Stand = λ k. Due (thought s.work.think (seeded s.seed k)) Call in
+    let up : ℕ → Stand = λ k. Due (thought s.work.think (seeded s.seed k)) (Call 0) in
     let inside : n < length (stands_below s n) = let f = stands-long s n in omega arith in
     elim (cases_eq p n) as (λ _. stand_at (set (stands_below s n) n (up n)) p ≡ up p) [
       | inl same ↦ subst (λ (x : ℕ). stand_at (set (stands_below s n) n (up n)) x ≡ up x) (sym same) (get_or-set_same (stands_below s n) n (up n) (Sleeps 0) inside)
@@ -253,7 +259,7 @@ opening-kept s attrs up = record {
   few = up.few;
   seats = stands-long s s.passes;
   stands = λ q lt.
-      let own : Stands 0 (idle q) (Due (thought s.work.think (seeded s.seed q)) Call) = record { fit = refl; time = omega arith } in
+      let own : Stands 0 (idle q) (Due (thought s.work.think (seeded s.seed q)) (Call 0)) = record { fit = refl; time = omega arith } in
       subst (λ (x : PassState). Stands 0 x (stand_at (stands_below s s.passes) q)) (sym (idle-known attrs q))
       (subst (Stands 0 (idle q)) (sym (stands-at s s.passes q lt up.few)) own);
 }

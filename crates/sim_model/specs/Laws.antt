@@ -1,16 +1,18 @@
 -- What holds of every run.
 use Rattle.std.specs.Prelude.{◌≡◌, ℕ, zero, suc, ◌<◌, ◌≤◌, Bool, List, [], ◌∷◌, true, length}
+use Rattle.shfl_line.specs.declared.events.Mode.{Mode}
 use Rattle.shfl_line.specs.declared.words.Attr.{Attr}
 use Rattle.shfl_core.specs.declared.phase.Rules.{Rules}
 use Rattle.shfl_core.specs.declared.phase.PassState.{PassState}
-use Rattle.shfl_core.specs.Plan.{is_idle, is_resting, moving}
-use Rattle.shfl_core.specs.Worlds.{World, Move, Step as Advance, admitted, after_move, run, opening}
+use Rattle.shfl_core.specs.Plan.{is_awake, is_idle, is_resting, moving}
+use Rattle.shfl_core.specs.Worlds.{World, Move, Acquire, Step as Advance, known, admitted, after_move, run, opening}
 use Rattle.sim_model.specs.declared.setup.Setup.{Setup}
 use Rattle.sim_model.specs.declared.turns.Turn.{Turn}
 use Rattle.sim_model.specs.declared.turns.Turn.TheVariants.{Call, Step, Gain, Free}
 use Rattle.sim_model.specs.declared.turns.Stand.{Stand}
 use Rattle.sim_model.specs.declared.turns.Stand.TheVariants.{Due, Spins, Sleeps}
 use Rattle.sim_model.specs.Runs.{Answers, State, ran, moves_of, opening_state, next_turn, turning, after_turn}
+use Rattle.sim_model.specs.Tries.{wins}
 use Rattle.sim_model.specs.Turns.{stand_at}
 
 -- the lock after so many turns is that after their moves, in their order
@@ -20,7 +22,7 @@ RunsAreSchedules = (s : Setup) (answers : Answers) (n : ℕ) (st : State)
 
 -- how a pass stands fits what it does at its turn
 abbrev pub IsFitTurn : PassState → Turn → Type 0
-IsFitTurn q Call = is_idle q.phase ≡ true
+IsFitTurn q (Call tried) = is_idle q.phase ≡ true
 IsFitTurn q Step = moving q ≡ true
 IsFitTurn q (Gain stolen) = is_resting q ≡ true
 IsFitTurn q Free = is_resting q ≡ true
@@ -78,3 +80,9 @@ IsStill t w p = (choice : Bool) → after_move t w (Advance p choice) ≡ w
 abbrev pub PollsChangeNothing : Type 0
 PollsChangeNothing = (s : Setup) (answers : Answers) (n : ℕ) (attrs : List Attr) → IsSetUp s attrs → (p : ℕ) → p < s.passes
     → let st = ran s answers n (opening_state s attrs) in HasNoTurn (stand_at st.bench.stands p) → IsStill s.rules st.world p
+
+-- an attempt takes the lock just where the first step of the call would take it, whatever that were answered
+abbrev pub AttemptsAreFirstSteps : Type 0
+AttemptsAreFirstSteps = (t : Rules) (w : World) (p : ℕ) (m : Mode) (choice : Bool) → p < length w.passes
+    → is_idle (known w.passes p).phase ≡ true → is_awake (known w.passes p).nap ≡ true
+    → wins w p m ≡ is_resting (known (run t w (Acquire p m ∷ Advance p choice ∷ [])).passes p)

@@ -11,5 +11,6 @@ pub mod Steps
 pub mod Openings
 pub mod Runs
 pub mod Sums
+pub mod Tries
 pub mod Turns
 pub mod Calls

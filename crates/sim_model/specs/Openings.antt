@@ -54,7 +54,7 @@ opening_lines layout n = lines_below n
 -- the first n passes think before their first call
 abbrev pub stands_below : Setup → ℕ → List Stand
 stands_below s zero = replicate 1024 (Sleeps 0)
-stands_below s (suc n) = slice_set (stands_below s n) n (Due (thought s.work.think (seeded s.seed n)) Call)
+stands_below s (suc n) = slice_set (stands_below s n) n (Due (thought s.work.think (seeded s.seed n)) (Call 0))
 
 abbrev pub draws_below : Setup → ℕ → List ℕ
 draws_below s zero = replicate 1024 0
@@ -77,6 +77,7 @@ no_counts = record {
   tail = no_reaches;
   node = no_reaches;
   «data» = no_reaches;
+  tried = no_reaches;
 }
 
 -- nobody has gained: the hash is FNV's offset basis

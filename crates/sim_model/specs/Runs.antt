@@ -13,11 +13,12 @@ use Rattle.sim_model.specs.declared.turns.Turn.{Turn}
 use Rattle.sim_model.specs.declared.turns.Turn.TheVariants.{Call, Step, Gain, Free}
 use Rattle.sim_model.specs.declared.turns.Stand.TheVariants.{Due}
 use Rattle.sim_model.specs.declared.turns.Entry.{Entry}
-use Rattle.sim_model.specs.Calls.{served_at, mode_drawn, draw_after, called, gained, all_overtaken, in_order, DataTouched, data_touched}
+use Rattle.sim_model.specs.Calls.{served_at, draw_after, gained, all_overtaken, in_order, DataTouched, data_touched}
 use Rattle.sim_model.specs.Clock.{plus}
 use Rattle.sim_model.specs.Openings.{opening_bench}
 use Rattle.sim_model.specs.Places.{core_at}
 use Rattle.sim_model.specs.Steps.{advice_at, made_by, settled}
+use Rattle.sim_model.specs.Tries.{mode_wanted, in_vain, begun, with_attempt}
 use Rattle.sim_model.specs.Turns.{soonest}
 
 -- what a policy answers to a pass with these attributes
@@ -28,11 +29,11 @@ abbrev pub is_read : Mode → Bool
 is_read mode.Read = true
 is_read mode.Write = false
 
--- the pass calls, at a time: how it takes the lock is drawn
-abbrev pub with_call : Setup → Bench → ℕ → ℕ → Bench
-with_call s b p at = record b {
+-- the pass asks for the lock, at a time and after so many attempts: how it takes the lock is drawn
+abbrev pub with_call : Setup → Bench → ℕ → ℕ → ℕ → Bench
+with_call s b p tried at = record b {
   draws = slice_set b.draws p (draw_after s (slice_index b.draws p));
-  served = slice_set b.served p (called (served_at b.served p) at);
+  served = slice_set b.served p (begun (served_at b.served p) tried at);
 }
 
 -- for how long the pass has waited that gains at a time
@@ -57,22 +58,23 @@ abbrev pub step_move : Setup → Answers → World → ℕ → Move
 step_move s answers w p = Advance p (advice_at s answers w p).yes
 
 abbrev pub call_move : Setup → Bench → ℕ → Move
-call_move s b p = Acquire p (mode_drawn s (slice_index b.draws p))
+call_move s b p = Acquire p (mode_wanted s b p)
 
 -- a move of the pass, and its step after it
 abbrev pub and_step : Setup → Answers → World → ℕ → Move → List Move
 and_step s answers w p m = m ∷ step_move s answers (after_move s.rules w m) p ∷ []
 
--- the moves of the lock that a turn of a pass is
+-- the moves of the lock that a turn of a pass is: an attempt in vain is none
 abbrev pub turn_moves : Setup → Answers → World → Bench → ℕ → Turn → List Move
-turn_moves s answers w b p Call = and_step s answers w p (call_move s b p)
+turn_moves s answers w b p (Call tried) = cond (in_vain s w b p tried) [] (and_step s answers w p (call_move s b p))
 turn_moves s answers w b p Step = step_move s answers w p ∷ []
 turn_moves s answers w b p Free = and_step s answers w p (Release p)
 turn_moves s answers w b p (Gain stolen) = []
 
 -- what a turn at a time comes to besides
 abbrev pub turn_bench : Setup → Answers → World → Bench → ℕ → ℕ → Turn → Bench
-turn_bench s answers w b p at Call = settled s (with_call s b p at) p (made_by s answers (after_move s.rules w (call_move s b p)) p) at
+turn_bench s answers w b p at (Call tried) = cond (in_vain s w b p tried) (with_attempt s b p tried at)
+    (settled s (with_call s b p tried at) p (made_by s answers (after_move s.rules w (call_move s b p)) p) at)
 turn_bench s answers w b p at Step = settled s b p (made_by s answers w p) at
 turn_bench s answers w b p at Free = settled s b p (made_by s answers (after_move s.rules w (Release p)) p) at
 turn_bench s answers w b p at (Gain stolen) = with_gain s b p (known w.passes p).reg.mode stolen at

@@ -126,7 +126,7 @@ unfoldable pub stand_after : Setup → Rest → ℕ → ℕ → ℕ → Stand
 stand_after s Spins line ends draw = stands.Spins line ends
 stand_after s Sleeps line ends draw = stands.Sleeps (plus ends s.costs.park)
 stand_after s (Holds stolen) line ends draw = stands.Due ends (turns.Gain stolen)
-stand_after s Away line ends draw = stands.Due (plus ends (thought s.work.think draw)) turns.Call
+stand_after s Away line ends draw = stands.Due (plus ends (thought s.work.think draw)) (turns.Call 0)
 stand_after s Goes line ends draw = stands.Due ends turns.Step
 
 -- only a pass that has given the lock back draws how long it thinks

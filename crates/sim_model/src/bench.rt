@@ -41,6 +41,7 @@ const NOTHING: Counts = Counts {
     tail: NONE,
     node: NONE,
     data: NONE,
+    tried: NONE,
 };
 
 const NO_ORDER: Order = Order {
@@ -84,7 +85,7 @@ fn opening_stands(setup: &Setup) -> [Stand; PASSES]
         let mut draw = seeded(setup.seed, pass);
         stands[pass as usize] = Stand::Due {
             at: think(setup.work.think, &mut draw),
-            turn: Turn::Call,
+            turn: Turn::Call { tried: 0 },
         };
     }
     stands

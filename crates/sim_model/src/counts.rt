@@ -35,6 +35,8 @@ pub struct Counts {
     pub tail: Reaches,
     pub node: Reaches,
     pub data: Reaches,
+    /// The accesses to the lock word of attempts in vain.
+    pub tried: Reaches,
 }
 
 /// What is counted of one pass.

@@ -1,5 +1,5 @@
 //! What holds of every run. The functions do nothing when they run: their contracts are the laws.
-ghost use Rattle.sim_model.specs.Laws.{RunsAreSchedules, RunsAreAdmitted};
+ghost use Rattle.sim_model.specs.Laws.{RunsAreSchedules, RunsAreAdmitted, AttemptsAreFirstSteps};
 ghost use Rattle.sim_model.specs.Laws.{TimesNeverFall, PollsChangeNothing};
 ghost use Rattle.sim_model.specs.Sums.{SumsAgree};
 
@@ -24,4 +24,10 @@ pub fn polls_change_nothing()
 /// be counted in 64 bits.
 pub fn sums_agree()
     ensures { SumsAgree }
+{}
+
+/// An attempt takes the lock just where the first step of the call would take it: for a writer a word of 0, for a reader one that no
+/// writer has and whose stealing is enabled. So attempts let nobody in whom the steps wouldn't.
+pub fn attempts_are_first_steps()
+    ensures { AttemptsAreFirstSteps }
 {}

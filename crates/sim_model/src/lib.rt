@@ -16,6 +16,7 @@ mod run;
 mod sets;
 mod setup;
 mod steps;
+mod tries;
 mod turns;
 mod waiter;
 
@@ -24,10 +25,14 @@ pub use bench::{Bench, opening};
 pub use built_in::BuiltIn;
 pub use calls::mode_of;
 pub use counts::{Counts, Order, Reaches, Served};
-pub use laws::{polls_change_nothing, runs_are_schedules, sums_agree, times_never_fall};
+pub use laws::{
+    attempts_are_first_steps, polls_change_nothing, runs_are_schedules, sums_agree,
+    times_never_fall,
+};
 pub use lines::{Line, Reach};
 pub use locks::open_lock;
 pub use run::{Run, is_cut, next_entry, simulate, take_turn, time_reached};
-pub use setup::{Core, Costs, Layout, PASSES, Setup, Work, cores_of};
+pub use setup::{Core, Costs, Layout, PASSES, Setup, Tries, Work, cores_of};
+pub use tries::in_vain;
 pub use turns::{Entry, Stand, Turn};
 pub use waiter::AnyWaiter;

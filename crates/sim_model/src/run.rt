@@ -6,12 +6,13 @@ ghost use Rattle.sim_model.specs.Steps.{made_by, settled};
 
 use crate::adviser::Adviser;
 use crate::bench::{Bench, opening};
-use crate::calls::{called, gained, in_order, mode_of, overtake, served_at, touch_data};
+use crate::calls::{gained, in_order, mode_of, overtake, served_at, touch_data};
 use crate::clock::plus;
 use crate::locks::open_lock;
 use crate::places::core_at;
 use crate::setup::Setup;
 use crate::steps::{settle, step_lock};
+use crate::tries::{attempt, begun, in_vain};
 use crate::turns::{Entry, Stand, Turn, soonest};
 use crate::waiter::AnyWaiter;
 use shfl_core::PlainWorld;
@@ -46,18 +47,25 @@ fn step<A: Adviser>(
     settle(setup, bench, pass, &made, at);
 }
 
-// The pass asks for the lock.
-fn call(setup: &Setup, lock: &mut PlainWorld<AnyWaiter>, bench: &mut Bench, pass: u32, at: u64)
+// The pass asks for the lock, after so many attempts.
+fn call(
+    setup: &Setup,
+    lock: &mut PlainWorld<AnyWaiter>,
+    bench: &mut Bench,
+    pass: u32,
+    tried: u32,
+    at: u64,
+)
     requires declared { pass < length lock.old.world.passes }
     requires few { length lock.old.world.passes ≤ 1024 }
     requires rules { lock.old.rules ≡ setup.now.rules }
     ensures lock { lock.new ≡ runner.moved lock.old (runs.call_move setup.now bench.old pass) }
-    ensures bench { bench.new ≡ runs.with_call setup.now bench.old pass at }
+    ensures bench { bench.new ≡ runs.with_call setup.now bench.old pass tried at }
 {
     let mut draw = bench.draws[pass as usize];
     let mode = mode_of(setup, &mut draw);
     bench.draws[pass as usize] = draw;
-    bench.served[pass as usize] = called(served_at(&bench.served, pass), at);
+    bench.served[pass as usize] = begun(served_at(&bench.served, pass), tried, at);
     lock.acquire(pass, mode);
 }
 
@@ -112,7 +120,13 @@ pub fn take_turn<A: Adviser>(
 {
     let Entry { at, pass, turn } = entry;
     match turn {
-        Turn::Call => call(setup, lock, bench, pass, at),
+        Turn::Call { tried } => {
+            if in_vain(setup, lock, bench, pass, tried) {
+                attempt(setup, bench, pass, tried, at);
+                return None;
+            }
+            call(setup, lock, bench, pass, tried, at);
+        }
         Turn::Step => {}
         Turn::Free => {
             lock.release(pass);

@@ -49,6 +49,16 @@ pub struct Work {
     pub reads: u32,
 }
 
+/// How often a pass that calls tries to take the lock before it queues.
+#[derive(Clone, Copy, Drop)]
+pub struct Tries {
+    /// The most attempts of a call; with none it queues at once, where its first step doesn't find the lock free.
+    pub most: u32,
+    /// The ticks from the first attempt to the next, its operation not counted. After the second they are twice as many, after the
+    /// third four times, and after each further one eight times.
+    pub pause: u32,
+}
+
 /// Which words share a cache line.
 #[derive(Clone, Copy, Drop)]
 pub enum Layout {
@@ -78,6 +88,7 @@ pub struct Setup {
     pub layout: Layout,
     pub costs: Costs,
     pub work: Work,
+    pub tries: Tries,
     /// The last tick of the run.
     pub until: u64,
     pub seed: u64,

@@ -211,7 +211,7 @@ fn stand_after(setup: &Setup, rest: Rest, line: usize, ends: u64, draw: &mut u64
         },
         Rest::Away => Stand::Due {
             at: plus(ends, think(setup.work.think, draw)),
-            turn: Turn::Call,
+            turn: Turn::Call { tried: 0 },
         },
         Rest::Goes => Stand::Due {
             at: ends,

@@ -8,8 +8,8 @@ use crate::setup::PASSES;
 /// What a pass does at its turn.
 #[derive(Clone, Copy, Drop)]
 pub enum Turn {
-    /// It asks for the lock, and makes its first step.
-    Call,
+    /// It has made so many attempts in vain, and makes one more where it may; else it asks for the lock, and makes its first step.
+    Call { tried: u32 },
     /// It makes its next step.
     Step,
     /// It has the lock, taken past the queue or not, and touches the data.

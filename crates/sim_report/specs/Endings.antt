@@ -6,16 +6,18 @@ use Rattle.sim_model.specs.Openings.{cores_below}
 use Rattle.sim_model.specs.Runs.{State, ran, opening_state, is_cut, time_reached}
 use Rattle.sim_text.specs.declared.setup.Rule.{Rule}
 use Rattle.sim_text.specs.Answering.{rule_advice}
+use Rattle.sim_text.specs.Queueing.{tries_of}
 use Rattle.sim_text.specs.Setups.{SetupModel}
 use Rattle.sim_report.specs.Tallies.{rising}
 
--- what a run with this seed is set up with
-abbrev pub run_setup : SetupModel → ℕ → Setup
-run_setup s seed = record {
+-- what a run of a policy with this seed is set up with
+abbrev pub run_setup : SetupModel → ℕ → Rule → Setup
+run_setup s seed rule = record {
   rules = record { limit = s.machine.limit; form = s.machine.form };
   layout = s.machine.layout;
   costs = s.machine.costs;
   work = s.load.work;
+  tries = tries_of s.load.queueing rule;
   until = s.load.until;
   seed = seed;
   passes = length s.passes;
@@ -24,15 +26,15 @@ run_setup s seed = record {
 
 -- how the run of a policy with this seed ends
 unfoldable pub end_of : SetupModel → ℕ → Rule → State
-end_of s seed rule = ran (run_setup s seed) (rule_advice rule) s.load.turns (opening_state (run_setup s seed) s.passes)
+end_of s seed rule = ran (run_setup s seed rule) (rule_advice rule) s.load.turns (opening_state (run_setup s seed rule) s.passes)
 
 -- whether it had turns left then
 unfoldable pub cut_of : SetupModel → ℕ → Rule → Bool
-cut_of s seed rule = is_cut (run_setup s seed) (end_of s seed rule).bench
+cut_of s seed rule = is_cut (run_setup s seed rule) (end_of s seed rule).bench
 
 -- up to when it had come: a run without turns left to its end
 unfoldable pub time_of : SetupModel → ℕ → Rule → ℕ
-time_of s seed rule = time_reached (run_setup s seed) (end_of s seed rule).bench
+time_of s seed rule = time_reached (run_setup s seed rule) (end_of s seed rule).bench
 
 -- how a run ended: what was counted, the waits in rising order, whether it had turns left, and up to when it had come
 pub record EndedModel : Type 0 where

@@ -4,6 +4,8 @@ use Rattle.std.specs.List.{flat_map}
 use Rattle.shfl_line.specs.declared.words.Attr.{Attr}
 use Rattle.sim_model.specs.declared.counts.Counts.{Counts}
 use Rattle.sim_model.specs.declared.counts.Reaches.{Reaches}
+use Rattle.sim_text.specs.declared.setup.Queueing.{Queueing}
+use Rattle.sim_text.specs.declared.setup.Queueing.TheVariants.{AtOnce}
 use Rattle.sim_text.specs.declared.setup.Rule.{Rule}
 use Rattle.sim_text.specs.Setups.{SetupModel}
 use Rattle.sim_report.specs.declared.figures.Figure.{Figure}
@@ -75,6 +77,7 @@ figures_of line.Lock = figure.Hits ∷ figure.Near ∷ figure.Far ∷ []
 figures_of line.Tail = figure.Hits ∷ figure.Near ∷ figure.Far ∷ []
 figures_of line.Node = figure.Hits ∷ figure.Near ∷ figure.Far ∷ []
 figures_of line.Data = figure.Hits ∷ figure.Near ∷ figure.Far ∷ []
+figures_of line.Tried = figure.Hits ∷ figure.Near ∷ figure.Far ∷ []
 figures_of line.Waits = figure.Waited ∷ figure.Half ∷ figure.Most ∷ figure.Longest ∷ []
 figures_of line.Ends = figure.Cut ∷ []
 figures_of (line.Passes key value) = figure.Gained ∷ figure.Waited ∷ figure.Longest ∷ figure.Overtaken ∷ []
@@ -83,10 +86,15 @@ figures_of (line.Passes key value) = figure.Gained ∷ figure.Waited ∷ figure.
 abbrev pub passes_lines : Key → List Attr → List Line
 passes_lines key attrs = map (λ value. line.Passes key value) (values_of key attrs)
 
+-- attempts in vain have a line where the setup says how often its calls try
+abbrev pub tried_lines : Queueing → List Line
+tried_lines AtOnce = []
+tried_lines queueing = line.Tried ∷ []
+
 -- the lines of passes with these attributes
-abbrev pub lines_of : List Attr → List Line
-lines_of attrs = (line.Gains ∷ line.Work ∷ line.Lock ∷ line.Tail ∷ line.Node ∷ line.Data ∷ line.Waits ∷ line.Ends ∷ [])
-    ++ passes_lines Socket attrs ++ passes_lines Prio attrs ++ passes_lines Class attrs
+abbrev pub lines_of : Queueing → List Attr → List Line
+lines_of queueing attrs = (line.Gains ∷ line.Work ∷ line.Lock ∷ line.Tail ∷ line.Node ∷ line.Data ∷ []) ++ tried_lines queueing
+    ++ (line.Waits ∷ line.Ends ∷ []) ++ passes_lines Socket attrs ++ passes_lines Prio attrs ++ passes_lines Class attrs
 
 -- ---- what a line tells of
 
@@ -109,6 +117,7 @@ accesses_told c line.Lock = c.lock
 accesses_told c line.Tail = c.tail
 accesses_told c line.Node = c.node
 accesses_told c line.Data = c.«data»
+accesses_told c line.Tried = c.tried
 accesses_told c _ = no_accesses
 
 abbrev pub told_of : EndedModel → List Attr → Line → Told
@@ -129,7 +138,7 @@ line_figures e attrs line = map (value_of (told_of e attrs line)) (figures_of li
 
 -- those of its run with one seed
 unfoldable pub run_figures : SetupModel → Rule → ℕ → List ℕ
-run_figures s rule seed = flat_map (line_figures (ended s seed rule) s.passes) (lines_of s.passes)
+run_figures s rule seed = flat_map (line_figures (ended s seed rule) s.passes) (lines_of s.load.queueing s.passes)
 
 -- those of its runs with so many seeds, from the first on
 abbrev pub figures_below : SetupModel → Rule → ℕ → List (List ℕ)

@@ -56,6 +56,7 @@ lead_text line.Lock = codes "lock "
 lead_text line.Tail = codes "tail "
 lead_text line.Node = codes "node "
 lead_text line.Data = codes "data "
+lead_text line.Tried = codes "tried "
 lead_text (line.Passes key value) = value_text key value
 lead_text _ = []
 
@@ -98,7 +99,7 @@ order_text o = codes "order " ++ encode_lower (to_be_bytes w64 o.hash) ++ codes 
 
 -- a policy's name, whether its run was cut, and what it came to
 unfoldable pub run_text : SetupModel → List ℕ → EndedModel → List ℕ
-run_text s name e = name_text name ++ cut_text e.cut s.load.turns e.time ++ flat_map (told_text e s.passes) (lines_of s.passes)
+run_text s name e = name_text name ++ cut_text e.cut s.load.turns e.time ++ flat_map (told_text e s.passes) (lines_of s.load.queueing s.passes)
     ++ order_text e.bench.order
 
 abbrev pub policy_text : SetupModel → CandidateModel → List ℕ

@@ -67,11 +67,11 @@ spread_heading s = title_text ++ sizes_text s.machine.form s.machine.limit (leng
 
 -- the runs of a policy beside those of the first
 unfoldable pub beside_text : SetupModel → List (List ℕ) → CandidateModel → List ℕ
-beside_text s base c = runs_text c.name (lines_of s.passes) (all_figures s c.rule) ++ verdict_text base (all_figures s c.rule)
+beside_text s base c = runs_text c.name (lines_of s.load.queueing s.passes) (all_figures s c.rule) ++ verdict_text base (all_figures s c.rule)
 
 abbrev pub policies_text : SetupModel → List CandidateModel → List ℕ
 policies_text s [] = []
-policies_text s (c ∷ cs) = runs_text c.name (lines_of s.passes) (all_figures s c.rule) ++ flat_map (beside_text s (all_figures s c.rule)) cs
+policies_text s (c ∷ cs) = runs_text c.name (lines_of s.load.queueing s.passes) (all_figures s c.rule) ++ flat_map (beside_text s (all_figures s c.rule)) cs
 
 unfoldable pub spreads_text : SetupModel → List ℕ
 spreads_text s = spread_heading s ++ policies_text s s.policies ++ codes "end\n"

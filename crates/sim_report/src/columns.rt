@@ -61,7 +61,7 @@ fn run_figures(
     lines: &[Line],
 ) -> Result<Vec<u64>, NoMemory>
     requires within { IsWithin setup.now }
-    requires lines { lines.now ≡ list.lines_of setup.now.passes }
+    requires lines { lines.now ≡ list.lines_of setup.now.load.queueing setup.now.passes }
     ensures { IfOk result (λ v. v.items ≡ list.run_figures setup.now rule.now seed) }
 {
     let ended = run_of(alloc, setup, seed, rule)?;
@@ -87,7 +87,7 @@ pub fn all_figures(
     lines: &[Line],
 ) -> Result<Vec<Vec<u64>>, NoMemory>
     requires within { IsWithin setup.now }
-    requires lines { lines.now ≡ list.lines_of setup.now.passes }
+    requires lines { lines.now ≡ list.lines_of setup.now.load.queueing setup.now.passes }
     ensures { IfOk result (λ v. map (λ r. r.items) v.items
         ≡ list.all_figures setup.now rule.now) }
 {

@@ -7,14 +7,14 @@ ghost use Rattle.sim_text.specs.Setups.{IsWithin};
 use shfl_core::Rules;
 use shfl_line::NoMemory;
 use sim_model::{Bench, Setup, cores_of, is_cut, simulate, time_reached};
-use sim_text::{Rule, SimSetup};
+use sim_text::{Rule, SimSetup, tries_of};
 use std::alloc::Global;
 use std::marker::Model;
 
-/// What a run with this seed is set up with.
-pub fn run_setup(setup: &SimSetup, seed: u64) -> Setup
+/// What a run of a rule with this seed is set up with.
+pub fn run_setup(setup: &SimSetup, seed: u64, rule: &Rule) -> Setup
     requires { length setup.now.passes ≤ 1024 }
-    ensures { result ≡ endings.run_setup setup.now seed }
+    ensures { result ≡ endings.run_setup setup.now seed rule.now }
 {
     Setup {
         rules: Rules {
@@ -24,6 +24,7 @@ pub fn run_setup(setup: &SimSetup, seed: u64) -> Setup
         layout: setup.machine.layout,
         costs: setup.machine.costs,
         work: setup.load.work,
+        tries: tries_of(setup.load.queueing, rule),
         until: setup.load.until,
         seed,
         passes: setup.passes.len() as u32,
@@ -70,7 +71,7 @@ pub fn run_of(alloc: Global, setup: &SimSetup, seed: u64, rule: &Rule) -> Result
     requires { IsWithin setup.now }
     ensures { IfOk result (λ e. e ≡ endings.ended setup.now seed rule.now) }
 {
-    let lock = run_setup(setup, seed);
+    let lock = run_setup(setup, seed, rule);
     let attrs = setup.passes.as_slice();
     let run = simulate(alloc, &lock, attrs, rule, setup.load.turns)?;
     let cut = is_cut(&lock, &run.bench);

@@ -33,7 +33,8 @@ pub enum Figure {
     Cut,
 }
 
-/// A line of figures: of all passes, of the accesses to a word or to the data, or of the passes with one value of a key.
+/// A line of figures: of all passes, of the accesses to a word, to the data or of attempts in vain, or of the passes with one value of a
+/// key.
 #[derive(Clone, Copy, Drop)]
 pub enum Line {
     Gains,
@@ -42,6 +43,7 @@ pub enum Line {
     Tail,
     Node,
     Data,
+    Tried,
     Waits,
     Ends,
     Passes(Key, u32),
@@ -134,7 +136,7 @@ pub fn figures_of(line: Line) -> &'static [Figure]
             Figure::Parks,
             Figure::Rings,
         ],
-        Line::Lock | Line::Tail | Line::Node | Line::Data => {
+        Line::Lock | Line::Tail | Line::Node | Line::Data | Line::Tried => {
             &[Figure::Hits, Figure::Near, Figure::Far]
         }
         Line::Waits => &[Figure::Waited, Figure::Half, Figure::Most, Figure::Longest],
@@ -162,6 +164,7 @@ fn accesses_told(counts: &Counts, line: Line) -> Reaches
         Line::Tail => counts.tail,
         Line::Node => counts.node,
         Line::Data => counts.data,
+        Line::Tried => counts.tried,
         _ => NO_ACCESSES,
     }
 }

@@ -106,7 +106,7 @@ fn push_run(
     ended: &Ended,
 ) -> Result<(), AllocError>
     requires few { length setup.now.passes ≤ 1024 }
-    requires lines { lines.now ≡ lines_of setup.now.passes }
+    requires lines { lines.now ≡ lines_of setup.now.load.queueing setup.now.passes }
     ensures { OnOk result (out.new.items
         ≡ out.old.items ++ texts.run_text setup.now name.now ended.now) }
 {
@@ -125,7 +125,7 @@ fn push_policy(
     candidate: &Candidate,
 ) -> Result<(), NoMemory>
     requires within { IsWithin setup.now }
-    requires lines { lines.now ≡ lines_of setup.now.passes }
+    requires lines { lines.now ≡ lines_of setup.now.load.queueing setup.now.passes }
     ensures { OnOk result (out.new.items
         ≡ out.old.items ++ texts.policy_text setup.now candidate.now) }
 {
@@ -141,7 +141,7 @@ pub fn single_of(alloc: Global, setup: &SimSetup) -> Result<Vec<u8>, NoMemory>
     ensures { IfOk result (λ text. text.items ≡ single_text setup.now) }
 {
     let mut out = Vec::new(alloc);
-    let lines = lines_of(alloc, setup.passes.as_slice())?;
+    let lines = lines_of(alloc, setup.load.queueing, setup.passes.as_slice())?;
     push_heading(&mut out, setup)?;
     for candidate in &setup.policies {
         push_policy(alloc, &mut out, setup, lines.as_slice(), candidate)?;

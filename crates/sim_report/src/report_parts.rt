@@ -55,6 +55,7 @@ pub fn push_lead(out: &mut Vec<u8>, line: Line) -> Result<(), AllocError>
         Line::Tail => out.extend_from_slice(b"tail "),
         Line::Node => out.extend_from_slice(b"node "),
         Line::Data => out.extend_from_slice(b"data "),
+        Line::Tried => out.extend_from_slice(b"tried "),
         Line::Passes(key, value) => push_value(out, key, value),
         _ => Ok(()),
     }

@@ -23,7 +23,7 @@ fn push_runs(
     lines: &[Line],
     runs: &[Vec<u64>],
 ) -> Result<(), NoMemory>
-    requires { length lines.now ≤ 3080 }
+    requires { length lines.now ≤ 3081 }
     ensures { OnOk result (out.new.items ≡ out.old.items
         ++ spreads.runs_text name.now lines.now (map (λ r. r.items) runs.now)) }
 {
@@ -95,8 +95,8 @@ fn push_beside(
     candidate: &Candidate,
 ) -> Result<(), NoMemory>
     requires within { IsWithin setup.now }
-    requires lines { lines.now ≡ figures.lines_of setup.now.passes }
-    requires few { length lines.now ≤ 3080 }
+    requires lines { lines.now ≡ figures.lines_of setup.now.load.queueing setup.now.passes }
+    requires few { length lines.now ≤ 3081 }
     ensures { OnOk result (out.new.items ≡ out.old.items
         ++ spreads.beside_text setup.now (map (λ r. r.items) base.now) candidate.now) }
 {
@@ -121,7 +121,7 @@ fn push_policies(alloc: Global, out: &mut Vec<u8>, setup: &SimSetup) -> Result<(
     let Some((first, others)) = setup.policies.as_slice().split_first() else {
         return Ok(());
     };
-    let lines = lines_of(alloc, setup.passes.as_slice())?;
+    let lines = lines_of(alloc, setup.load.queueing, setup.passes.as_slice())?;
     let base = all_figures(alloc, setup, &first.rule, lines.as_slice())?;
     push_runs(
         alloc,

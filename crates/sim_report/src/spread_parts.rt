@@ -77,7 +77,7 @@ pub fn push_lines(
     runs: &[Vec<u64>],
     lines: &[Line],
 ) -> Result<(), NoMemory>
-    requires { length lines.now ≤ 3080 }
+    requires { length lines.now ≤ 3081 }
     ensures { OnOk result (out.new.items ≡ out.old.items
         ++ spreads.lines_spread (map (λ r. r.items) runs.now) 0 lines.now) }
 {

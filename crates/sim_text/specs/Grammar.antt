@@ -19,8 +19,9 @@ use Rattle.sim_text.specs.declared.setup.Rule.{Rule}
 use Rattle.sim_text.specs.declared.setup.Rule.TheVariants as rules
 use Rattle.sim_text.specs.declared.policies.RuleLine.{RuleLine}
 use Rattle.sim_text.specs.declared.policies.RuleLine.TheVariants as said
-use Rattle.sim_text.specs.Lines.{layout_in, costs_in, work_in, until_in, seeds_in, PolicyLine, policy_in}
+use Rattle.sim_text.specs.Lines.{layout_in, costs_in, until_in, seeds_in, PolicyLine, policy_in}
 use Rattle.sim_text.specs.Setups.{CandidateModel, SetupModel}
+use Rattle.sim_text.specs.Works.{work_in}
 
 -- ---- the lines up to the policies
 
@@ -33,7 +34,7 @@ machine_in ps = fixed_due 1 TITLE (codes "syncord-sim 1") ps >>= λ ps. one_of 2
 -- The work, the end and the seeds: faults 8 to 10.
 unfoldable pub load_in : List (List ℕ) → Result (Load × List (List ℕ)) Fault
 load_in ps = one_of 7 WORK work_in ps >>= λ work. one_of 8 UNTIL until_in work.1 >>= λ until. one_of 9 SEEDS seeds_in until.1 >>= λ seeds.
-    Ok (record { work = work.0; until = until.0.0; turns = until.0.1; seeds = seeds.0 }, seeds.1)
+    Ok (record { work = work.0.0; queueing = work.0.1; until = until.0.0; turns = until.0.1; seeds = seeds.0 }, seeds.1)
 
 -- ---- the policies
 

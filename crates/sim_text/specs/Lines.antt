@@ -7,13 +7,12 @@ use Rattle.policy_text.specs.Programs.{source_in}
 use Rattle.sim_model.specs.declared.setup.Costs.{Costs}
 use Rattle.sim_model.specs.declared.setup.Layout.{Layout}
 use Rattle.sim_model.specs.declared.setup.Layout.TheVariants as layouts
-use Rattle.sim_model.specs.declared.setup.Work.{Work}
 use Rattle.sim_model.specs.declared.built_in.BuiltIn.{BuiltIn}
 use Rattle.sim_model.specs.declared.built_in.BuiltIn.TheVariants as simple
 use Rattle.sim_text.specs.declared.policies.RuleLine.{RuleLine}
 use Rattle.sim_text.specs.declared.policies.RuleLine.TheVariants as said
 use Rattle.sim_text.specs.declared.setup.Seeds.{Seeds}
-use Rattle.sim_text.specs.Words.{number_next, name_next, none_left}
+use Rattle.sim_text.specs.Words.{otherwise, number_next, name_next, none_left}
 
 -- ---- the lock
 
@@ -81,13 +80,7 @@ is_usual ws = false
 unfoldable pub costs_in : List (List ℕ) → Option Costs
 costs_in ws = name_next (codes "costs") ws >>? λ left. if is_usual left then Some usual_costs else costs_named left
 
--- ---- the work, the end and the seed
-
--- `work HOLD LINES THINK READS`: at most 64 lines, and at most 1000 reads of a thousand calls
-abbrev pub work_in : List (List ℕ) → Option Work
-work_in ws = five ws >>? λ w. if same w.0 (codes "work") then
-    (number_in 4294967295 w.1 >>? λ hold. number_in 64 w.2 >>? λ lines. number_in 4294967295 w.3 >>? λ think. number_in 1000 w.4 >>? λ reads.
-    Some (record { hold = hold; lines = lines; think = think; reads = reads })) else None
+-- ---- the end and the seed
 
 -- a number of 64 bits
 abbrev pub wide_in : List ℕ → Option ℕ
@@ -105,11 +98,6 @@ turns_in word = number_in 100000000 word >>? λ n. if n == 0 then None else Some
 abbrev pub until_turns : List (List ℕ) → Option (ℕ × ℕ)
 until_turns ws = four ws >>? λ w. if same w.0 (codes "until") && same w.2 (codes "turns") then
     (wide_in w.1 >>? λ t. turns_in w.3 >>? λ n. Some (t, n)) else None
-
--- the first value, or else the second
-abbrev pub otherwise : {A : Type 0} → Option A → Option A → Option A
-otherwise None second = second
-otherwise (Some a) second = Some a
 
 abbrev pub until_in : List (List ℕ) → Option (ℕ × ℕ)
 until_in ws = otherwise (until_alone ws) (until_turns ws)

@@ -1,14 +1,14 @@
 //! The lines of a setup up to its policies, word by word.
 ghost use Rattle.std.specs.Prelude.{◌≡◌, ◌<◌, ◌≤◌, ◌+◌, IfSome, nat_le, option_map};
 ghost use Rattle.doc_text.specs.Words.{words};
-ghost use Rattle.sim_text.specs.Lines.{layout_named, layout_in, work_in};
+ghost use Rattle.sim_text.specs.Lines.{layout_named, layout_in};
 ghost use Rattle.sim_text.specs.Lines.{one_seed, count_in, several_seeds, seeds_in};
 ghost use Rattle.sim_text.specs.Lines.{wide_in, until_alone, until_turns, turns_in, until_in};
 
 use crate::setup::Seeds;
-use doc_text::{five_words, four_words, is_same, number, three_words};
+use doc_text::{four_words, is_same, number, three_words};
 use lock_words::behind;
-use sim_model::{Layout, Work};
+use sim_model::Layout;
 
 fn layout_named(word: &[u8]) -> Option<Layout>
     ensures { result ≡ layout_named word.now }
@@ -29,27 +29,6 @@ pub fn layout_of(text: &[u8]) -> Option<Layout>
     ensures { result ≡ layout_in (words text.now) }
 {
     layout_named(behind(b"layout", text)?)
-}
-
-/// `work HOLD LINES THINK READS`.
-pub fn work_of(text: &[u8]) -> Option<Work>
-    ensures exact { result ≡ work_in (words text.now) }
-    ensures lines { IfSome result (λ w. w.lines ≤ 64) }
-{
-    let (word, hold, lines, think, reads) = five_words(text)?;
-    if !is_same(word, b"work") {
-        return None;
-    }
-    let hold = number(4_294_967_295, hold)? as u32;
-    let lines = number(64, lines)? as u32;
-    let think = number(4_294_967_295, think)? as u32;
-    let reads = number(1000, reads)? as u32;
-    Some(Work {
-        hold,
-        lines,
-        think,
-        reads,
-    })
 }
 
 // A number of 64 bits.

@@ -2,13 +2,15 @@
 ghost use Rattle.std.specs.Prelude.{◌≡◌, ◌<◌, ◌≤◌, ◌+◌, IfOk};
 ghost use Rattle.doc_text.specs.Text.{pieces};
 ghost use Rattle.doc_text.specs.Faults.{Gives, one_of};
-ghost use Rattle.sim_text.specs.Lines.{layout_in, costs_in, work_in, until_in, seeds_in};
+ghost use Rattle.sim_text.specs.Lines.{layout_in, costs_in, until_in, seeds_in};
+ghost use Rattle.sim_text.specs.Works.{work_in};
 ghost use Rattle.sim_text.specs.Grammar.{machine_in, load_in, front_in};
 
 use crate::costs::costs_of;
 use crate::faults::{COSTS, FORM, LAYOUT, LIMIT, PROFILE, SEEDS, TITLE, UNTIL, WORK};
-use crate::front::{layout_of, seeds_of, until_of, work_of};
-use crate::setup::{Load, Machine, Seeds};
+use crate::front::{layout_of, seeds_of, until_of};
+use crate::setup::{Load, Machine, Queueing, Seeds};
+use crate::work::work_of;
 use doc_text::{Fault, fixed_due, line_due, or_fault};
 use lock_words::{form_due, limit_due};
 use policy_text::profile_due;
@@ -33,10 +35,10 @@ fn costs_due(bytes: &[u8]) -> Result<(Costs, &[u8]), Fault>
 }
 
 #[tactic(auto, unfolding(doc_text::specs::Faults::one_of))]
-fn work_due(bytes: &[u8]) -> Result<(Work, &[u8]), Fault>
+fn work_due(bytes: &[u8]) -> Result<((Work, Queueing), &[u8]), Fault>
     ensures exact { Gives (λ x. (x.0, pieces x.1.now)) result
         (one_of 7 WORK work_in (pieces bytes.now)) }
-    ensures lines { IfOk result (λ x. x.0.lines ≤ 64) }
+    ensures lines { IfOk result (λ x. x.0.0.lines ≤ 64) }
 {
     let (text, rest) = line_due(bytes, 7, WORK)?;
     let Some(work) = work_of(text) else {
@@ -102,11 +104,12 @@ fn load_of(bytes: &[u8]) -> Result<(Load, &[u8]), Fault>
     ensures some { IfOk result (λ x. 0 < x.0.seeds.count) }
     ensures wide { IfOk result (λ x. x.0.seeds.first + x.0.seeds.count ≤ 18446744073709551616) }
 {
-    let (work, rest) = work_due(bytes)?;
+    let ((work, queueing), rest) = work_due(bytes)?;
     let ((until, turns), rest) = until_due(rest)?;
     let (seeds, rest) = seeds_due(rest)?;
     let load = Load {
         work,
+        queueing,
         until,
         turns,
         seeds,

@@ -2,7 +2,7 @@
 use bpf_isa::Profile;
 use shfl_line::{Attr, Form};
 use shfl_policy::Policy;
-use sim_model::{BuiltIn, Costs, Layout, Work};
+use sim_model::{BuiltIn, Costs, Layout, Tries, Work};
 use std::marker::Model;
 
 /// The lock, and the machine that it stands on.
@@ -22,10 +22,22 @@ pub struct Machine {
 pub struct Load {
     /// At most 64 lines of data, and at most 1,000 of a thousand calls read.
     pub work: Work,
+    pub queueing: Queueing,
     /// The last tick of a run, and the most turns of one, 1 to 100,000,000.
     pub until: u64,
     pub turns: u32,
     pub seeds: Seeds,
+}
+
+/// When a pass that calls joins the queue.
+#[derive(Clone, Copy, Drop)]
+pub enum Queueing {
+    /// With its first step, unless that finds the lock free.
+    AtOnce,
+    /// After so many attempts in vain, at most 1,000.
+    After(Tries),
+    /// At once under a policy that may move waiters up, and else after a few attempts. The pause after the first is of so many ticks.
+    ByPolicy { pause: u32 },
 }
 
 /// The seeds with which each policy is run, one after the other.

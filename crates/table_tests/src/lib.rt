@@ -12,12 +12,6 @@ mod driven;
 #[cfg(test)]
 mod head;
 #[cfg(test)]
-mod orders;
-#[cfg(test)]
-mod rounds;
-#[cfg(test)]
-mod sleeping;
-#[cfg(test)]
 mod straight;
 #[cfg(test)]
 mod threads;

@@ -1,4 +1,7 @@
 //! The pauses between attempts, before a waiter queues.
+ghost use Rattle.std.specs.Prelude.{◌≡◌, nat_lt};
+ghost use Rattle.waiter_sleep.specs.Waits.{sleeps};
+
 use shfl_line::Form;
 use std::sync::Wait;
 use std::sync::atomic::AtomicU64;
@@ -16,7 +19,9 @@ const AWAKE: u32 = 12;
 const NAP: u32 = 50;
 
 /// Whether waiters sleep in the lock's form.
-pub fn sleeps(form: Form) -> bool {
+pub fn sleeps(form: Form) -> bool
+    ensures { result ≡ sleeps form }
+{
     matches!(form, Form::Park | Form::RwPark)
 }
 
@@ -27,7 +32,9 @@ fn nap<R: Wait>(rt: &R, micros: u32) {
 
 /// Spins after the attempt of this number, from 0 on, where it is one of the first: whether it is. After a later one the processor is given away,
 /// by `give_way`.
-pub fn spins_after(tried: u32) -> bool {
+pub fn spins_after(tried: u32) -> bool
+    ensures { result ≡ nat_lt tried 10 }
+{
     if tried >= SPINNING {
         return false;
     }

@@ -1,4 +1,9 @@
 //! What a waiter in the queue does between two looks at a word that doesn't change, and between two rounds that move nobody.
+ghost use Rattle.std.specs.Prelude.{◌≡◌, ◌≢◌, false};
+ghost use Rattle.waiter_sleep.specs.Waits.{gives_way, is_sleep};
+ghost use Rattle.waiter_sleep.specs.declared.pauses.Pause.TheVariants.{Look};
+ghost use Rattle.waiter_sleep.specs.declared.pauses.Stand.TheVariants.{Leaving, Queued};
+
 use crate::sleeper::Sleeper;
 use crate::waiter::Waiter;
 use std::sync::Wait;
@@ -52,7 +57,9 @@ pub enum Pause {
 
 impl Pause {
     /// Whether the waiter gives its processor away.
-    pub fn gives_way(self) -> bool {
+    pub fn gives_way(self) -> bool
+        ensures { result ≡ gives_way self }
+    {
         !matches!(self, Pause::Look)
     }
 }
@@ -133,7 +140,9 @@ impl Pauses {
     }
 
     /// What comes after a look in vain. Who has the lock word and waits for its successor gives its processor away last.
-    pub fn after_look(&mut self, waiter: &Waiter<'_>, stand: Stand) -> Pause {
+    pub fn after_look(&mut self, waiter: &Waiter<'_>, stand: Stand) -> Pause
+        ensures leaving { stand ≡ Leaving → is_sleep result ≡ false }
+    {
         let looks = self.looks;
         self.looks = looks.saturating_add(1);
         if looks < self.looks_before_sleep(waiter, stand) {
@@ -147,7 +156,9 @@ impl Pauses {
     }
 
     /// What comes after a round that moved nobody, longer each time. The head goes on: it looks for the lock.
-    pub fn after_round(&mut self, waiter: &Waiter<'_>, stand: Stand) -> Pause {
+    pub fn after_round(&mut self, waiter: &Waiter<'_>, stand: Stand) -> Pause
+        ensures elsewhere { stand ≢ Queued → result ≡ Look }
+    {
         if !matches!(stand, Stand::Queued) {
             return Pause::Look;
         }

@@ -1,8 +1,7 @@
-use Rattle.std.proofs.Common.{◌+◌, suc, take, drop, get_or, sym, ◌∙◌, subst, arith}
+use Rattle.std.proofs.Common.{◌+◌, suc, take, drop, sym, ◌∙◌, subst, arith}
 use Rattle.shfl_workers.specs.Progress.{Progress}
-use Rattle.shfl_workers.specs.Asked.{AskInTurn}
 use Rattle.shfl_workers.proofs.AskedTurns.{turned}
-use Rattle.shfl_workers.proofs.Turns.{at_place, made_one, past_place}
+use Rattle.shfl_workers.proofs.Turns.{at_place, past_place}
 use Rattle.shfl_workers.proofs.worker.take_turns.Goals as goal
 
 pub take_turn-requires-clause-progress : goal.take_turn-requires-clause-progress
@@ -21,7 +20,6 @@ loop-call-preserved g c =
       worker = e.worker ∙ v.worker;
       progress = subst (λ w. Progress g.D.SharedDir.made g.D.SharedDir.left c.args.registry.now w (take (i + 1) calls) (drop (i + 1) calls) c.take_turn.new.pass c.take_turn.new.attaching) v.worker
           (past_place _ _ _ _ calls i _ _ _ (omega arith) next);
-      asked = turned _ (g.D.SharedDir.worker c.args.pass.now) calls i _ _ _ _ _ _ _ (omega arith) v.asked
-          (subst (λ w. AskInTurn g.D.SharedDir.asks (made_one w (get_or calls i _)) c.loop-call.pass c.take_turn.new.pass (g.C.Chooser.told c.loop-call.chooser) (g.C.Chooser.told c.take_turn.new.chooser)) v.worker e.asked);
+      asked = turned _ _ _ v.worker calls i _ _ _ _ _ _ _ (omega arith) v.asked e.asked;
       home = e.home ∙ v.home;
     }

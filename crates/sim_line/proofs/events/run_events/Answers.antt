@@ -23,7 +23,7 @@ loop-turn-preserved g c =
     let left : c.args.turns - c.loop-turn.turn ≡ suc n = omega arith in
     let next : next_turn s c.loop-turn.bench ≡ Some c.in-Some.entry = sym c.next_entry.ensures.next ∙ c.in-Some.is in
     let old = c.loop-turn.found.items in
-    let these = turn_events s c.loop-turn.bench e.pass e.turn in
+    let these = turn_events s c.loop-turn.lock.world c.loop-turn.bench e.pass e.turn in
     let others = events_of s answers n (state_of c.take_turn.new.lock c.take_turn.new.bench []) in
     record {
       found = ap (λ l. l ++ others) (c.in_ok-note_turn.ensures refl) ∙ append_assoc old these others

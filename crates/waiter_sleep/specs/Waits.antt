@@ -1,0 +1,25 @@
+-- What a waiter does between two looks.
+use Rattle.std.specs.Prelude.{Bool, true, false}
+use Rattle.shfl_line.specs.declared.events.Form.{Form}
+use Rattle.shfl_line.specs.declared.events.Form.TheVariants.{Spin, Rw, Park, RwPark}
+use Rattle.waiter_sleep.specs.declared.pauses.Pause.{Pause}
+use Rattle.waiter_sleep.specs.declared.pauses.Pause.TheVariants.{Look, Yield, Sleep}
+
+-- the waiters of a form sleep
+abbrev pub sleeps : Form → Bool
+sleeps Spin = false
+sleeps Rw = false
+sleeps Park = true
+sleeps RwPark = true
+
+-- the waiter gives its processor away
+abbrev pub gives_way : Pause → Bool
+gives_way Look = false
+gives_way Yield = true
+gives_way (Sleep micros) = true
+
+-- it sleeps
+abbrev pub is_sleep : Pause → Bool
+is_sleep Look = false
+is_sleep Yield = false
+is_sleep (Sleep micros) = true

@@ -1,0 +1,9 @@
+//! Tests of how waiters sleep, and in which order threads that wait hold the lock.
+#![tactic(auto)]
+
+#[cfg(test)]
+mod orders;
+#[cfg(test)]
+mod rounds;
+#[cfg(test)]
+mod sleeping;
