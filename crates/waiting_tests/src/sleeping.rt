@@ -15,6 +15,23 @@ fn in_a_row(alloc: Global) -> Result<Sleepers, NoMemory> {
     Ok(sleepers)
 }
 
+// The waiters of one queue, and its front.
+#[derive(Drop)]
+struct Queue {
+    sleepers: Sleepers,
+    front: QueueFront,
+}
+
+impl Queue {
+    fn waiter(&self, number: u32) -> Waiter<'_> {
+        Waiter {
+            number,
+            sleepers: &self.sleepers,
+            front: Some(&self.front),
+        }
+    }
+}
+
 // Whether the waiter of this number announces that it sleeps: not where it was woken before.
 fn announces(sleepers: &Sleepers, number: u32) -> bool {
     match sleepers.place(number) {
@@ -157,44 +174,40 @@ fn first_pause(pauses: &mut Pauses, waiter: &Waiter<'_>, stand: Stand) -> (u32, 
 
 #[test]
 fn a_waiter_announces_its_sleep_and_sleeps_longer_each_time(rt: HostRuntime) -> Result<(), Fail> {
-    let sleepers = in_a_row(rt.alloc())?;
-    let front = QueueFront::new();
-    let waiter = Waiter {
-        number: 1,
-        sleepers: &sleepers,
-        front: Some(&front),
+    let queue = Queue {
+        sleepers: in_a_row(rt.alloc())?,
+        front: QueueFront::new(),
     };
+    let waiter = queue.waiter(1);
     let mut pauses = Pauses::begin(&waiter);
-    assert_eq!(rt; front.waiting(), 1);
+    assert_eq!(rt; queue.front.waiting(), 1);
     let first = first_pause(&mut pauses, &waiter, Stand::Queued);
     assert_eq!(rt; first, (101, Pause::Sleep { micros: 50 }));
     pauses.take(&rt, &waiter, first.1);
     let second = pauses.after_look(&waiter, Stand::Queued);
     assert_eq!(rt; second, Pause::Sleep { micros: 100 });
     pauses.end(&waiter);
-    assert_eq!(rt; front.waiting(), 0);
-    assert!(rt; !sleepers.rouse(1));
+    assert_eq!(rt; queue.front.waiting(), 0);
+    assert!(rt; !queue.sleepers.rouse(1));
     Ok(())
 }
 
 #[test]
 fn the_head_that_sleeps_is_noted(rt: HostRuntime) -> Result<(), Fail> {
-    let sleepers = in_a_row(rt.alloc())?;
-    let front = QueueFront::new();
-    let waiter = Waiter {
-        number: 2,
-        sleepers: &sleepers,
-        front: Some(&front),
+    let queue = Queue {
+        sleepers: in_a_row(rt.alloc())?,
+        front: QueueFront::new(),
     };
+    let waiter = queue.waiter(2);
     let mut pauses = Pauses::begin(&waiter);
     let first = first_pause(&mut pauses, &waiter, Stand::Head);
     assert_eq!(rt; first, (1001, Pause::Sleep { micros: 50 }));
-    assert_eq!(rt; front.asleep(), Some(2));
-    sleepers.after_free(&front);
+    assert_eq!(rt; queue.front.asleep(), Some(2));
+    queue.sleepers.after_free(&queue.front);
     pauses.take(&rt, &waiter, first.1);
     assert_eq!(rt; pauses.after_look(&waiter, Stand::Head), Pause::Look);
     pauses.end(&waiter);
-    assert_eq!(rt; front.asleep(), None);
+    assert_eq!(rt; queue.front.asleep(), None);
     Ok(())
 }
 
