@@ -223,9 +223,10 @@ impl<V: Drop> ArenaSeat<V> {
         Err(found)
     }
 
-    // Gives back a lock that it holds in this mode: `release` and the step that follows, in one. No register is written.
+    /// Gives back a lock that it holds in this mode, with its value in and in front where it has one: `release` and the step that follows, in
+    /// one. Nobody is woken, which `free` does besides; it is for callers whose threads wait in places of their own.
     #[inline(always)]
-    pub(crate) fn leave(&mut self, arena: &Arena<V>, lock: u32, mode: Mode)
+    pub fn leave(&mut self, arena: &Arena<V>, lock: u32, mode: Mode)
         requires arena { self.old.arena ≡ arena.now.id }
         requires rests { plan.moving self.old.own ≡ false }
         requires lock { lock < self.old.arena.shape.locks }

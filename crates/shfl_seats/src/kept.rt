@@ -9,7 +9,7 @@ ghost use Rattle.shfl_arena.specs.Threads.{mode_held, without_lock};
 ghost use Rattle.shfl_arena.specs.Waits.{Frees};
 ghost use Rattle.shfl_seats.specs.Tickets.{noted};
 
-use shfl_arena::{Arena, ArenaSeat, free};
+use shfl_arena::{Arena, ArenaSeat};
 use shfl_core::{Ask, Nap, Phase, Watch};
 use shfl_line::{Attr, Form, Mode, NoMemory};
 use std::alloc::Global;
@@ -213,7 +213,7 @@ impl KeptSeat {
         requires holds { mode_held lock self.old.holds ≡ Some mode }
         ensures { Frees lock mode self.old self.new }
     {
-        free(arena, &mut self.seat, lock, mode);
+        self.seat.leave(arena, lock, mode);
         forget(&mut self.held, lock);
     }
 
