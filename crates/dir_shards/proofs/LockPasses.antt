@@ -104,10 +104,10 @@ module _ (table : TableId) (room number : ℕ) where
 
   -- and it is free again
   pub stand_frees : (out : ℕ → Type 0) (place : ℕ) (old new : List LockPass) → ¬ out place → Stand (and_also place out) old → FreesAt place old new → Stand out new
-  stand_frees out place old new free stand f dir p is = elim (got_set old place dir (as_free f.before) p (sym (ap (λ l. slice_get l dir) f.others) ∙ is)) [
+  stand_frees out place old new free stand f dir p is = elim (got_set old place dir (as_free f.word f.before) p (sym (ap (λ l. slice_get l dir) f.others) ∙ is)) [
     | inl here ↦
         let was = stand place f.before f.was in
-        let at : Stands (out dir) dir (as_free f.before) = record {
+        let at : Stands (out dir) dir (as_free f.word f.before) = record {
           unseen = was.unseen;
           one = was.one;
           number_is = was.number_is;
@@ -153,7 +153,7 @@ pub of_locks-takes : (place : ℕ) (old new : List LockPass) (kept : KeptShardMo
 of_locks-takes place old new kept locks t of_locks = taken_from place old new locks t.before t.after t.was t.same.board t.others of_locks
 
 pub of_locks-frees : (place : ℕ) (old new : List LockPass) (locks : List BoardId) → FreesAt place old new → AreOfLocks old locks → AreOfLocks new locks
-of_locks-frees place old new locks f of_locks = taken_from place old new locks f.before (as_free f.before) f.was refl f.others of_locks
+of_locks-frees place old new locks f of_locks = taken_from place old new locks f.before (as_free f.word f.before) f.was refl f.others of_locks
 
 -- the pass of a place is of the lock of that place
 pub board_at : (passes : List LockPass) (boards : List BoardModel) (place : ℕ) (p : LockPass) (b : BoardModel) → place < length passes → AreOfLocks passes (map (λ b. b.id) boards)
@@ -185,7 +185,7 @@ pub passes-takes : (place : ℕ) (old new : List LockPass) (kept : KeptShardMode
 passes-takes place old new kept t = ap length t.others ∙ length-set old place t.after
 
 pub passes-frees : (place : ℕ) (old new : List LockPass) → FreesAt place old new → length new ≡ length old
-passes-frees place old new f = ap length f.others ∙ length-set old place (as_free f.before)
+passes-frees place old new f = ap length f.others ∙ length-set old place (as_free f.word f.before)
 
 -- no other lock asks anything while one is taken, and none while one is freed
 pub decisions-takes : (place dir : ℕ) (old new : List LockPass) (kept : KeptShardModel) → TakesAt place old kept new → dir ≢ place → decisions_at new dir ≡ decisions_at old dir
@@ -196,5 +196,5 @@ decisions-takes place dir old new kept t other =
 pub all_decisions-frees : (place : ℕ) (old new : List LockPass) → FreesAt place old new → map (λ (p : LockPass). p.decisions) new ≡ map (λ (p : LockPass). p.decisions) old
 all_decisions-frees place old new f =
     ap (map (λ (p : LockPass). p.decisions)) f.others
-    ∙ map-set_same (λ (p : LockPass). p.decisions) old place (as_free f.before) (as_free f.before)
-    (ap (λ (p : LockPass). p.decisions) (sym (get_or_from_slice_get old place f.before (as_free f.before) f.was)))
+    ∙ map-set_same (λ (p : LockPass). p.decisions) old place (as_free f.word f.before) (as_free f.word f.before)
+    (ap (λ (p : LockPass). p.decisions) (sym (get_or_from_slice_get old place f.before (as_free f.word f.before) f.was)))

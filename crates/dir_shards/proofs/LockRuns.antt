@@ -35,7 +35,7 @@ pub none_told : (before : List ShardPassModel) → HaveTold 0 before []
 none_told before = record { asked = λ k p below at. absurd (omega arith); each = λ k p below at. absurd (omega arith) }
 
 pub told_more : (place : ℕ) (before : List ShardPassModel) (parts : List Part) (old : ShardPassModel) (x : Part) → HaveTold place before parts → slice_get before place ≡ Some old
-    → length old.decisions ≡ length old.locks → x ≡ part_at (length old.locks - 1) x.steps_taken x.attempts old → HaveTold (place + 1) before (x ∷ parts)
+    → length old.decisions ≡ length old.locks → x ≡ part_at (length old.locks - 1) x.steps_taken x.found x.attempts old → HaveTold (place + 1) before (x ∷ parts)
 told_more place before parts old x told was asked is = record {
   asked = λ k p below at. elim (dec_le place k) [
     | yes high ↦
@@ -105,8 +105,8 @@ run_before place dir count lock before now same below run = record {
   parts = run.parts;
   told = all_got (HasPart dir run.parts) before (λ k p at.
       let s = same.each k p at in let t = all_at (HasPart dir run.parts) now k s.0 run.told s.1 in let x = t.0 in
-      let alike : part_at dir x.steps_taken x.attempts s.0 ≡ part_at dir x.steps_taken x.attempts p =
-      (λ i. record { number = s.2 i; steps_taken = x.steps_taken; attempts = x.attempts; decisions = s.3 dir below i }) in
+      let alike : part_at dir x.steps_taken x.found x.attempts s.0 ≡ part_at dir x.steps_taken x.found x.attempts p =
+      (λ i. record { number = s.2 i; steps_taken = x.steps_taken; found = x.found; attempts = x.attempts; decisions = s.3 dir below i }) in
       (x, t.1, t.2 ∙ alike));
   run = run.run;
 }

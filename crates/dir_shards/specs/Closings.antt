@@ -39,13 +39,13 @@ pub record AreInPlace (journal : JournalValue) (shards : List ShardValue) : Type
   pub room : (place : ℕ) (s : ShardValue) → slice_get shards place ≡ Some s → s.room ≡ journal.room
   pub up_to : (place : ℕ) (s : ShardValue) → slice_get shards place ≡ Some s → IsUpTo journal.entries s
 
--- what a pass did at the lock of this directory, in so many steps and with so many attempts
-abbrev pub part_at : ℕ → ℕ → ℕ → ShardPassModel → Part
-part_at dir steps_taken attempts p = record { number = p.number; steps_taken = steps_taken; attempts = attempts; decisions = asked_at p dir }
+-- what a pass did at the lock of this directory, in so many steps, which found these words, and with so many attempts
+abbrev pub part_at : ℕ → ℕ → List ℕ → ℕ → ShardPassModel → Part
+part_at dir steps_taken found attempts p = record { number = p.number; steps_taken = steps_taken; found = found; attempts = attempts; decisions = asked_at p dir }
 
 -- one of these is what the pass did at the lock of this directory
 abbrev pub HasPart : ℕ → List Part → ShardPassModel → Type 0
-HasPart dir parts p = (x : Part) × IsAmong x parts × (x ≡ part_at dir x.steps_taken x.attempts p)
+HasPart dir parts p = (x : Part) × IsAmong x parts × (x ≡ part_at dir x.steps_taken x.found x.attempts p)
 
 -- all that was done to the lock of this directory, for so many passes, is a run of the model, in which each of these asked what it tells;
 -- no history is kept behind the lock

@@ -1,5 +1,5 @@
 -- How a pass takes and frees a directory's lock.
-use Rattle.std.specs.Prelude.{◌≡◌, ℕ, ◌+◌, true, List, [], ◌∷◌, map, set, slice_get, slice_index_or, Some, None}
+use Rattle.std.specs.Prelude.{◌≡◌, ℕ, ◌+◌, true, List, [], ◌∷◌, ◌++◌, map, set, slice_get, slice_index_or, Some, None}
 use Rattle.shfl_line.specs.declared.events.Mode.TheVariants.{Write}
 use Rattle.shfl_core.specs.Plan.{is_idle, is_resting}
 use Rattle.shfl_table.specs.declared.view.Decision.{Decision}
@@ -32,9 +32,9 @@ pub record IsSamePass (old new : LockPass) : Type 0 where
   pub number : new.own.reg.me ≡ old.own.reg.me
   pub state : new.initial_state ≡ old.initial_state
 
--- the pass that has freed its lock
-abbrev pub as_free : LockPass → LockPass
-as_free p = record p { own = as_idle p.own; steps_taken = p.steps_taken + 1; values = [] }
+-- the pass that has freed its lock, by a step that found this word
+abbrev pub as_free : ℕ → LockPass → LockPass
+as_free word p = record p { own = as_idle p.own; steps_taken = p.steps_taken + 1; found = p.found ++ word ∷ []; values = [] }
 
 -- the pass of this place took its lock, with what lies behind it
 pub record TakesAt (place : ℕ) (old : List LockPass) (kept : KeptShardModel) (new : List LockPass) : Type 0 where
@@ -49,8 +49,9 @@ pub record TakesAt (place : ℕ) (old : List LockPass) (kept : KeptShardModel) (
 -- the pass of this place put it back, and freed its lock
 pub record FreesAt (place : ℕ) (old new : List LockPass) : Type 0 where
   pub before : LockPass
+  pub word : ℕ
   pub was : slice_get old place ≡ Some before
-  pub others : new ≡ set old place (as_free before)
+  pub others : new ≡ set old place (as_free word before)
 
 -- what the lock of this place asked the policy
 abbrev pub decisions_at : List LockPass → ℕ → List Decision

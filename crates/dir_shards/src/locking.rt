@@ -38,7 +38,7 @@ fn free_lock(board: &SharedBoard<KeptShard>, pass: &mut Pass<KeptShard>, kept: K
     requires board { pass.old.board ≡ board.now.id }
     requires out { HasOut pass.old }
     requires kept { state_of kept ≡ pass.old.initial_state }
-    ensures { pass.new ≡ as_free pass.old }
+    ensures { (word : ℕ) × (pass.new ≡ as_free word pass.old) }
 {
     pass.put_value(board, 0, kept);
     free(board, pass);

@@ -74,7 +74,7 @@ impl ShardPass {
         ensures idle { is_idle result.own.phase ≡ true }
         ensures given { as_given result ≡ record { number = self.old.number; history = [] } }
         ensures part { as_part result ≡ part_at (length self.old.locks - 1)
-            result.steps_taken result.attempts self.old }
+            result.steps_taken result.found result.attempts self.old }
         ensures asked { length self.old.decisions ≡ length self.old.locks }
     {
         let Some(pass) = self.passes.pop() else {

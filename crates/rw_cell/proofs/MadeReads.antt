@@ -16,7 +16,7 @@ use Rattle.rw_cell.proofs.MadeWrites.{cell_pass}
 -- q0 before the call, q1 as it holds the lock, q2 once it freed it
 module _ {E : Type 0} (reply_at state_after : List ℕ → List ℕ → List ℕ) (q0 q1 q2 : PassModel BookModel) (left : ℕ) (attr : Attr) (reads : List E) (call reply : List ℕ) (place : ℕ) (entry : E) (now : List E) (items : now ≡ reads ++ entry ∷ [])
     (knew : HasSeen q1.history q0.own.reg.me q0.history) (num : q1.own.reg.me ≡ q0.own.reg.me) (initial : q1.initial_state ≡ q0.initial_state) (board : q1.board ≡ q0.board)
-    (is : q2 ≡ record q1 { own = as_idle q1.own; steps_taken = q1.steps_taken + 1; values = [] }) where
+    (is : q2 ≡ record q1 { own = as_idle q1.own; steps_taken = q1.steps_taken + 1; found = q2.found; values = [] }) where
   seen : q2.history ≡ q1.history
   seen = ap (λ (z : PassModel BookModel). z.history) is
 

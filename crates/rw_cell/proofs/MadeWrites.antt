@@ -5,22 +5,25 @@ use Rattle.shfl_line.specs.declared.words.Attr.{Attr}
 use Rattle.shfl_core.specs.Plan.{is_idle}
 use Rattle.shfl_table.specs.declared.kept.Action.{Action}
 use Rattle.shfl_table.specs.Histories.{actions_by, HasSeen}
+use Rattle.shfl_line.specs.declared.events.Mode.{Mode}
+use Rattle.shfl_line.specs.declared.events.Mode.TheVariants.{Write, Read}
 use Rattle.shfl_table.specs.PassModel.{PassModel, BoardId}
+use Rattle.shfl_table.specs.PassSteps.{LosesAttempt, attempt_steps}
 use Rattle.shfl_table.specs.Waits.{as_idle}
 use Rattle.shfl_table.specs.Books.{BookModel, opening_of, allowed_of, operations_of}
 use Rattle.shfl_table.proofs.CallRoom.{actions_by-own}
 use Rattle.rw_cell.specs.KeptReads.{KeepsReads}
-use Rattle.rw_cell.specs.RwCells.{RwPassModel, RwPassInvariant, MakesWrite, number}
+use Rattle.rw_cell.specs.RwCells.{RwPassModel, RwPassInvariant, MakesWrite, number, turned_away}
 use Rattle.rw_cell.proofs.KeptReads.{keeps-seen}
 
 -- the cell's pass over a pass of the board
 abbrev pub cell_pass : {E : Type 0} → PassModel BookModel → ℕ → Attr → List E → RwPassModel E
-cell_pass q left attr reads = record { cell = q.board; reg = q.own.reg; steps_taken = q.steps_taken; decisions = q.decisions; attempts = q.attempts; opening = opening_of q.initial_state; seen = q.history; reads = reads; left = left; attr = attr }
+cell_pass q left attr reads = record { cell = q.board; reg = q.own.reg; steps_taken = q.steps_taken; found = q.found; decisions = q.decisions; attempts = q.attempts; opening = opening_of q.initial_state; seen = q.history; reads = reads; left = left; attr = attr }
 
 -- q0 before the call, q1 as it holds the lock, q2 once it freed it
 module _ {E : Type 0} (reply_at state_after : List ℕ → List ℕ → List ℕ) (q0 q1 q2 : PassModel BookModel) (left : ℕ) (attr : Attr) (reads : List E) (call reply : List ℕ) (place : ℕ)
     (knew : HasSeen q1.history q0.own.reg.me q0.history) (num : q1.own.reg.me ≡ q0.own.reg.me) (initial : q1.initial_state ≡ q0.initial_state) (board : q1.board ≡ q0.board)
-    (is : q2 ≡ record q1 { own = as_idle q1.own; steps_taken = q1.steps_taken + 1; values = []; history = q1.history ++ record { worker = q1.own.reg.me; call = call; reply = reply } ∷ [] }) where
+    (is : q2 ≡ record q1 { own = as_idle q1.own; steps_taken = q1.steps_taken + 1; found = q2.found; values = []; history = q1.history ++ record { worker = q1.own.reg.me; call = call; reply = reply } ∷ [] }) where
   abbrev made : Action
   made = record { worker = q0.own.reg.me; call = call; reply = reply }
 
@@ -75,3 +78,24 @@ module _ {E : Type 0} (reply_at state_after : List ℕ → List ℕ → List ℕ
     keeps = subst (λ (z : ℕ × List ℕ). KeepsReads action point fits (opening_of z.1) z.0 q2.history reads) (λ j. (sym me j, sym initials j))
         (keeps-seen action point fits (opening_of q0.initial_state) q0.own.reg.me q0.history (knew.0.0 ++ made ∷ []) q2.history reads grown inv.keeps);
   }
+
+nothing-more : (l : List ℕ) → length l + 1 ≡ 1 → l ≡ []
+nothing-more [] e = refl
+nothing-more (x ∷ xs) e = absurd (omega arith)
+
+one-more : (l : List ℕ) → length l + 1 ≡ 2 → (word : ℕ) × (l ≡ word ∷ [])
+one-more [] e = absurd (omega arith)
+one-more (x ∷ []) e = (x, refl)
+one-more (x ∷ y ∷ ys) e = absurd (omega arith)
+
+-- a try in vain
+module _ {E : Type 0} (q0 q1 : PassModel BookModel) (left : ℕ) (attr : Attr) (reads : List E) (word : ℕ) (p : RwPassModel E) (same : cell_pass q0 left attr reads ≡ p) where
+  turned : (mode : Mode) (more : List ℕ) → LosesAttempt mode word q0 q1 → q1.found ≡ q0.found ++ word ∷ more → cell_pass q1 left attr reads ≡ turned_away mode word more p
+  turned mode more l found = ap (λ (z : PassModel BookModel). cell_pass z left attr reads) l.1
+      ∙ ((λ j. record (cell_pass q0 left attr reads) { reg = record q0.own.reg { mode = mode; saw = word }; steps_taken = q0.steps_taken + attempt_steps mode; found = found j; attempts = q0.attempts + 1 }) ∙ ap (turned_away mode word more) same)
+
+  pub write-turned : LosesAttempt Write word q0 q1 → cell_pass q1 left attr reads ≡ turned_away Write word [] p
+  write-turned l = turned Write [] l (l.2.2 ∙ ap (λ (m : List ℕ). q0.found ++ word ∷ m) (nothing-more l.2.0 l.2.1))
+
+  pub read-turned : LosesAttempt Read word q0 q1 → (more : ℕ) × (cell_pass q1 left attr reads ≡ turned_away Read word (more ∷ []) p)
+  read-turned l = let m = one-more l.2.0 l.2.1 in (m.0, turned Read (m.0 ∷ []) l (l.2.2 ∙ ap (λ (m : List ℕ). q0.found ++ word ∷ m) m.1))

@@ -32,7 +32,7 @@ module _ {O C R : Type 0} (call : C → List ℕ) (reply : R → List ℕ) where
 
 -- what a pass did
 abbrev pub part : {E : Type 0} → RwPassModel E → Part
-part p = record { number = p.reg.me; steps_taken = p.steps_taken; attempts = p.attempts; decisions = p.decisions }
+part p = record { number = p.reg.me; steps_taken = p.steps_taken; found = p.found; attempts = p.attempts; decisions = p.decisions }
 
 -- each of these is what the pass at its place did
 abbrev pub ArePartsOf : {E : Type 0} → List (RwPassModel E) → List Part → Type 0

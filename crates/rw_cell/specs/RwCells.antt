@@ -26,12 +26,13 @@ pub record RwCellModel : Type 0 where
 abbrev pub cell_on : BoardModel → RwCellModel
 cell_on b = record { id = b.id; count = b.count; opening = opening_of b.initial_state; allowed = allowed_of b.initial_state }
 
--- a pass: its cell, its registers, how many steps it took, what it asked the policy, how often it tried to take the lock without
+-- a pass: its cell, its registers, how many steps it took and what they found, what it asked the policy, how often it tried to take the lock without
 -- queueing, the object's state at the opening, the writes that it has seen, the reads that it made, and how many calls it may still make
 pub record RwPassModel (E : Type 0) : Type 0 where
   pub cell : BoardId
   pub reg : Registers
   pub steps_taken : ℕ
+  pub found : List ℕ
   pub decisions : List Decision
   pub attempts : ℕ
   pub opening : List ℕ
@@ -73,16 +74,16 @@ pub record MakesRead {E : Type 0} (reply_at state_after : List ℕ → List ℕ 
   pub reads : new.reads ≡ old.reads ++ entry ∷ []
   pub stays : StaysPass old new
 
--- the pass after a try in a mode that found this word
-abbrev pub turned_away : {E : Type 0} → Mode → ℕ → RwPassModel E → RwPassModel E
-turned_away mode word p = record p { reg = record p.reg { mode = mode; saw = word }; steps_taken = p.steps_taken + attempt_steps mode; attempts = p.attempts + 1 }
+-- the pass after a try in a mode that found this word, and then these
+abbrev pub turned_away : {E : Type 0} → Mode → ℕ → List ℕ → RwPassModel E → RwPassModel E
+turned_away mode word more p = record p { reg = record p.reg { mode = mode; saw = word }; steps_taken = p.steps_taken + attempt_steps mode; found = p.found ++ word ∷ more; attempts = p.attempts + 1 }
 
 abbrev pub no_attr : Attr
 no_attr = record { socket = 0; prio = 0; class = 0; kind = 0 }
 
 -- a pass that has made no call
 abbrev pub fresh : {E : Type 0} → RwCellModel → ℕ → ℕ → Attr → RwPassModel E
-fresh cell k left attr = record { cell = cell.id; reg = blank k; steps_taken = 0; decisions = []; attempts = 0; opening = cell.opening; seen = []; reads = []; left = left; attr = attr }
+fresh cell k left attr = record { cell = cell.id; reg = blank k; steps_taken = 0; found = []; decisions = []; attempts = 0; opening = cell.opening; seen = []; reads = []; left = left; attr = attr }
 
 -- what is always true of a pass between its calls: it is idle, its calls add up to those that it may make, and it has room for their entries
 pub record RwPassInvariant {X E : Type 0} (action : E → Action) (point : E → ℕ) (fits : List ℕ → List Action → E → Type 0)

@@ -88,6 +88,7 @@ impl<V: Kept + Drop, E: KeptRead + Drop> Model for RwPassOf<V, E> {
       cell = p.pass.board;
       reg = p.pass.own.reg;
       steps_taken = p.pass.steps_taken;
+      found = p.pass.found;
       decisions = p.pass.decisions;
       attempts = p.pass.attempts;
       opening = opening_of p.pass.initial_state;

@@ -1,11 +1,11 @@
 //! Reads: the pass looks at its own copy.
-ghost use Rattle.std.specs.Prelude.{◌≡◌, ◌+◌, ◌<◌, ◌≤◌, ◌∷◌, ◌++◌, ◌||◌, [], true, false, length, IfOk, OnOk, IfErr, Some};
+ghost use Rattle.std.specs.Prelude.{◌≡◌, ℕ, ◌+◌, ◌<◌, ◌≤◌, ◌∷◌, ◌++◌, ◌||◌, [], true, false, length, IfOk, OnOk, IfErr, Some};
 ghost use Rattle.hist_log.specs.History.{state_left};
 ghost use Rattle.shfl_line.specs.Words.{held_of, closed_of};
 ghost use Rattle.shfl_line.specs.declared.events.Mode.TheVariants.{Read};
 ghost use Rattle.shfl_core.specs.Plan as plan;
 ghost use Rattle.shfl_table.specs.Queueing.{attempts_before};
-ghost use Rattle.shfl_table.specs.Waits.{as_idle, AsksInRounds};
+ghost use Rattle.shfl_table.specs.Waits.{as_idle, AsksInRounds, FindsMore};
 ghost use Rattle.shfl_table.specs.declared.queueing.Queueing.TheVariants.{ByPolicy};
 ghost use Rattle.shfl_table.specs.Books.{pack, opening_of, operations_of};
 ghost use Rattle.rw_cell.specs.CallOrder.{calls_of};
@@ -39,8 +39,10 @@ fn read_and_free<O: Object + Drop>(
     ensures pass { pass.new ≡ record pass.old {
       own = as_idle pass.old.own;
       steps_taken = pass.old.steps_taken + 1;
+      found = pass.new.found;
       values = [];
     } }
+    ensures finds { FindsMore pass.old.found pass.new.found }
 {
     let number = pass.number();
     let (reply, place) = pass.visit(board, number, LookCall::<O> { call });
@@ -71,12 +73,15 @@ impl<O: Object + Drop> RwCellOf<Book<O>, Entry<O>, O> {
             } ∷ []) }
         ensures mode { OnOk result (pass.new.reg.mode ≡ Read) }
         ensures steps { OnOk result (pass.new.steps_taken ≡ pass.old.steps_taken + 2) }
+        ensures finds { OnOk result (FindsMore pass.old.found pass.new.found) }
         ensures asks_nobody { OnOk result (pass.new.decisions ≡ pass.old.decisions) }
         ensures tried { OnOk result (pass.new.attempts ≡ pass.old.attempts + 1) }
         ensures busy { IfErr result (λ busy.
             (held_of busy.word || closed_of busy.word) ≡ true) }
-        ensures turned_away { IfErr result (λ busy.
-            pass.new ≡ turned_away Read busy.word pass.old) }
+
+        // Its second step takes the count back, and finds this word.
+        ensures turned_away { IfErr result (λ busy. (word : ℕ)
+            × (pass.new ≡ turned_away Read busy.word (word ∷ []) pass.old)) }
     {
         let RwPassOf {
             before: _,
@@ -133,6 +138,7 @@ impl<O: Object + Drop> RwCellOf<Book<O>, Entry<O>, O> {
 
         // The lock was held for reading.
         ensures mode { pass.new.reg.mode ≡ Read }
+        ensures finds { FindsMore pass.old.found pass.new.found }
         ensures tried { pass.new.attempts
             ≤ pass.old.attempts + attempts_before ByPolicy (C.moves_waiters chooser.old) }
         ensures asked { AsksInRounds pass.old.attr pass.old.decisions pass.new.decisions

@@ -6,7 +6,7 @@ ghost use Rattle.shfl_core.specs.Plan as plan;
 ghost use Rattle.shfl_table.specs.Histories.{actions_by};
 ghost use Rattle.shfl_table.specs.Places.{Every};
 ghost use Rattle.shfl_table.specs.Queueing.{attempts_before};
-ghost use Rattle.shfl_table.specs.Waits.{as_idle, AsksInRounds};
+ghost use Rattle.shfl_table.specs.Waits.{as_idle, AsksInRounds, FindsMore};
 ghost use Rattle.shfl_table.specs.declared.queueing.Queueing.TheVariants.{ByPolicy};
 ghost use Rattle.shfl_table.specs.Books.{pack, opening_of, allowed_of, operations_of};
 ghost use Rattle.rw_cell.specs.CallOrder.{calls_of};
@@ -114,6 +114,7 @@ fn write_and_free<O: Object + Drop>(
     ensures pass { pass.new ≡ record pass.old {
       own = as_idle pass.old.own;
       steps_taken = pass.old.steps_taken + 1;
+      found = pass.new.found;
       values = [];
       history = pass.old.history ++ record {
         worker = pass.old.own.reg.me;
@@ -121,6 +122,7 @@ fn write_and_free<O: Object + Drop>(
         reply = O.reply_numbers result.0;
       } ∷ [];
     } }
+    ensures finds { FindsMore pass.old.found pass.new.found }
 {
     let (reply, place, trail) = write_copy(board, pass, 0, call);
     for k in 1..places {
@@ -153,11 +155,12 @@ impl<O: Object + Drop> RwCellOf<Book<O>, Entry<O>, O> {
             } ∷ []) }
         ensures mode { OnOk result (pass.new.reg.mode ≡ Write) }
         ensures steps { OnOk result (pass.new.steps_taken ≡ pass.old.steps_taken + 2) }
+        ensures finds { OnOk result (FindsMore pass.old.found pass.new.found) }
         ensures asks_nobody { OnOk result (pass.new.decisions ≡ pass.old.decisions) }
         ensures tried { OnOk result (pass.new.attempts ≡ pass.old.attempts + 1) }
         ensures busy { IfErr result (λ busy. busy.word ≢ 0) }
         ensures turned_away { IfErr result (λ busy.
-            pass.new ≡ turned_away Write busy.word pass.old) }
+            pass.new ≡ turned_away Write busy.word [] pass.old) }
     {
         let RwPassOf {
             before: _,
@@ -203,6 +206,7 @@ impl<O: Object + Drop> RwCellOf<Book<O>, Entry<O>, O> {
 
         // The lock was held for writing.
         ensures mode { pass.new.reg.mode ≡ Write }
+        ensures finds { FindsMore pass.old.found pass.new.found }
         ensures tried { pass.new.attempts
             ≤ pass.old.attempts + attempts_before ByPolicy (C.moves_waiters chooser.old) }
         ensures asked { AsksInRounds pass.old.attr pass.old.decisions pass.new.decisions

@@ -8,10 +8,10 @@ use Rattle.shfl_table.specs.declared.kept.Action.{Action}
 use Rattle.shfl_table.specs.Histories.{actions_by, HasSeen, IsCurrent}
 use Rattle.shfl_table.specs.Places.{Every}
 use Rattle.shfl_table.specs.PassModel.{PassModel, BoardId}
-use Rattle.shfl_table.specs.PassSteps.{SeesValues}
+use Rattle.shfl_table.specs.PassSteps.{LosesAttempt, SeesValues}
 use Rattle.shfl_table.specs.Waits.{as_idle}
 use Rattle.shfl_table.specs.Books.{BookModel, pack, opening_of, allowed_of, operations_of}
-use Rattle.shfl_cell.specs.Cells.{CellPassModel, MakesCall, number}
+use Rattle.shfl_cell.specs.Cells.{CellPassModel, MakesCall, number, turned_away}
 use Rattle.shfl_table.proofs.CallRoom.{actions_by-own}
 
 -- the one value that a pass then has
@@ -27,12 +27,12 @@ one-value old new s initial one = by s.1.0 s.1.1 (s.1.2 ∙ one) s.1.3
 
 -- the cell's pass over a pass of the board
 abbrev cell_pass : PassModel BookModel → ℕ → Attr → CellPassModel
-cell_pass q left attr = record { cell = q.board; reg = q.own.reg; steps_taken = q.steps_taken; decisions = q.decisions; attempts = q.attempts; opening = opening_of q.initial_state; seen = q.history; left = left; attr = attr }
+cell_pass q left attr = record { cell = q.board; reg = q.own.reg; steps_taken = q.steps_taken; found = q.found; decisions = q.decisions; attempts = q.attempts; opening = opening_of q.initial_state; seen = q.history; left = left; attr = attr }
 
 -- q0 before the call, q1 as it holds the lock, q2 once it freed it
 module _ (reply_at state_after : List ℕ → List ℕ → List ℕ) (q0 q1 q2 : PassModel BookModel) (left : ℕ) (attr : Attr) (call reply : List ℕ) (place : ℕ)
     (knew : HasSeen q1.history q0.own.reg.me q0.history) (num : q1.own.reg.me ≡ q0.own.reg.me) (initial : q1.initial_state ≡ q0.initial_state) (board : q1.board ≡ q0.board)
-    (is : q2 ≡ record q1 { own = as_idle q1.own; steps_taken = q1.steps_taken + 1; values = []; history = q1.history ++ record { worker = q1.own.reg.me; call = call; reply = reply } ∷ [] }) where
+    (is : q2 ≡ record q1 { own = as_idle q1.own; steps_taken = q1.steps_taken + 1; found = q2.found; values = []; history = q1.history ++ record { worker = q1.own.reg.me; call = call; reply = reply } ∷ [] }) where
   abbrev made : Action
   made = record { worker = q0.own.reg.me; call = call; reply = reply }
 
@@ -75,3 +75,13 @@ module _ (reply_at state_after : List ℕ → List ℕ → List ℕ) (q0 q1 q2 :
     subst (λ (z : ℕ × List ℕ). length (actions_by z.0 q2.history) + (left - 1) ≡ slice_index (allowed_of z.1) z.0) (λ j. (sym me j, sym initials j))
         (let a = ap length own in let b = length-append (actions_by q0.own.reg.me q0.history) (made ∷ []) in omega arith),
   )
+
+nothing-more : (l : List ℕ) → length l + 1 ≡ 1 → l ≡ []
+nothing-more [] e = refl
+nothing-more (x ∷ xs) e = absurd (omega arith)
+
+-- a try in vain
+pub turned : (q0 q1 : PassModel BookModel) (left : ℕ) (attr : Attr) (word : ℕ) → LosesAttempt Write word q0 q1 → (p : CellPassModel) → cell_pass q0 left attr ≡ p → cell_pass q1 left attr ≡ turned_away word p
+turned q0 q1 left attr word l p same = let found : q1.found ≡ q0.found ++ word ∷ [] = l.2.2 ∙ ap (λ (m : List ℕ). q0.found ++ word ∷ m) (nothing-more l.2.0 l.2.1) in
+    ap (λ (z : PassModel BookModel). cell_pass z left attr) l.1
+    ∙ ((λ j. record (cell_pass q0 left attr) { reg = record q0.own.reg { mode = Write; saw = word }; steps_taken = q0.steps_taken + 1; found = found j; attempts = q0.attempts + 1 }) ∙ ap (turned_away word) same)

@@ -25,12 +25,13 @@ pub record CellModel : Type 0 where
 abbrev pub cell_on : BoardModel → CellModel
 cell_on b = record { id = b.id; count = b.count; opening = opening_of b.initial_state; allowed = allowed_of b.initial_state }
 
--- a pass: its cell, its registers, how many steps it took, what it asked the policy, how often it tried to take the lock without
+-- a pass: its cell, its registers, how many steps it took and what they found, what it asked the policy, how often it tried to take the lock without
 -- queueing, the object's state at the opening, the history that it has seen, and how many calls it may still make
 pub record CellPassModel : Type 0 where
   pub cell : BoardId
   pub reg : Registers
   pub steps_taken : ℕ
+  pub found : List ℕ
   pub decisions : List Decision
   pub attempts : ℕ
   pub opening : List ℕ
@@ -54,14 +55,14 @@ pub record MakesCall (reply_at state_after : List ℕ → List ℕ → List ℕ)
 
 -- the pass after a try that found this word
 abbrev pub turned_away : ℕ → CellPassModel → CellPassModel
-turned_away word p = record p { reg = record p.reg { mode = Write; saw = word }; steps_taken = p.steps_taken + 1; attempts = p.attempts + 1 }
+turned_away word p = record p { reg = record p.reg { mode = Write; saw = word }; steps_taken = p.steps_taken + 1; found = p.found ++ word ∷ []; attempts = p.attempts + 1 }
 
 abbrev pub no_attr : Attr
 no_attr = record { socket = 0; prio = 0; class = 0; kind = 0 }
 
 -- a pass that has made no call
 abbrev pub fresh : CellModel → ℕ → ℕ → Attr → CellPassModel
-fresh cell k left attr = record { cell = cell.id; reg = blank k; steps_taken = 0; decisions = []; attempts = 0; opening = cell.opening; seen = []; left = left; attr = attr }
+fresh cell k left attr = record { cell = cell.id; reg = blank k; steps_taken = 0; found = []; decisions = []; attempts = 0; opening = cell.opening; seen = []; left = left; attr = attr }
 
 -- what a pass gives back: its number, and the history that it saw last
 abbrev pub given : CellPassModel → Given
@@ -69,7 +70,7 @@ given p = record { number = p.reg.me; history = p.seen }
 
 -- what it did
 abbrev pub part : CellPassModel → Part
-part p = record { number = p.reg.me; steps_taken = p.steps_taken; attempts = p.attempts; decisions = p.decisions }
+part p = record { number = p.reg.me; steps_taken = p.steps_taken; found = p.found; attempts = p.attempts; decisions = p.decisions }
 
 -- each of these is what the pass at its place did
 abbrev pub ArePartsOf : List CellPassModel → List Part → Type 0

@@ -5,7 +5,7 @@ ghost use Rattle.shfl_line.specs.declared.events.Mode.TheVariants.{Write};
 ghost use Rattle.shfl_core.specs.Plan as plan;
 ghost use Rattle.shfl_table.specs.Histories.{actions_by};
 ghost use Rattle.shfl_table.specs.Queueing.{attempts_before};
-ghost use Rattle.shfl_table.specs.Waits.{as_idle, AsksInRounds};
+ghost use Rattle.shfl_table.specs.Waits.{as_idle, AsksInRounds, FindsMore};
 ghost use Rattle.shfl_table.specs.declared.queueing.Queueing.TheVariants.{ByPolicy};
 ghost use Rattle.shfl_table.specs.Books.{pack, opening_of, allowed_of, operations_of};
 ghost use Rattle.shfl_cell.specs.Cells.{MakesCall, number, turned_away};
@@ -38,6 +38,7 @@ fn call_and_free<O: Object + Drop>(
     ensures pass { pass.new ≡ record pass.old {
       own = as_idle pass.old.own;
       steps_taken = pass.old.steps_taken + 1;
+      found = pass.new.found;
       values = [];
       history = pass.old.history ++ record {
         worker = pass.old.own.reg.me;
@@ -45,6 +46,7 @@ fn call_and_free<O: Object + Drop>(
         reply = O.reply_numbers result.0;
       } ∷ [];
     } }
+    ensures finds { FindsMore pass.old.found pass.new.found }
 {
     let worker = pass.number();
     let (reply, place, _) = pass.visit(board, 0, ApplyCall::<O> { worker, call });
@@ -68,6 +70,7 @@ impl<O: Object + Drop> ShflCellOf<Book<O>> {
           reply = O.reply_numbers r.0;
         }) r.1.place pass.new) }
         ensures steps { OnOk result (pass.new.steps_taken ≡ pass.old.steps_taken + 2) }
+        ensures finds { OnOk result (FindsMore pass.old.found pass.new.found) }
         ensures asks_nobody { OnOk result (pass.new.decisions ≡ pass.old.decisions) }
         ensures tried { OnOk result (pass.new.attempts ≡ pass.old.attempts + 1) }
         ensures busy { IfErr result (λ busy. busy.word ≢ 0) }
@@ -108,6 +111,7 @@ impl<O: Object + Drop> ShflCellOf<Book<O>> {
           call = O.call_numbers call.now;
           reply = O.reply_numbers result.0;
         }) result.1.place pass.new }
+        ensures finds { FindsMore pass.old.found pass.new.found }
         ensures tried { pass.new.attempts
             ≤ pass.old.attempts + attempts_before ByPolicy (C.moves_waiters chooser.old) }
         ensures asked { AsksInRounds pass.old.attr pass.old.decisions pass.new.decisions

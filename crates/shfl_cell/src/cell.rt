@@ -54,6 +54,7 @@ impl<V: Kept + Drop> Model for CellPassOf<V> {
       cell = p.pass.board;
       reg = p.pass.own.reg;
       steps_taken = p.pass.steps_taken;
+      found = p.pass.found;
       decisions = p.pass.decisions;
       attempts = p.pass.attempts;
       opening = opening_of p.pass.initial_state;

@@ -14,7 +14,7 @@ use Rattle.shfl_table.specs.PassInvariant.{Carries, IsGoodUnder, PassInvariant}
 use Rattle.shfl_table.proofs.Turning.{Entry, entry, some_same}
 
 module _ {X : Type 0} (initial_state : X → List ℕ) (history : X → List Action) (rules : Rules) (own : PassState) (id : TableId) (me : Me (Option X) View) (k : PassInvariant initial_state history rules own id me) (m : PassModel X) (place : ℕ) (y : Option X)
-    (is : record { board = record { table = id; rules = rules; attrs = me.0.attrs }; own = own; steps_taken = me.0.steps_taken; decisions = me.0.decisions; attempts = me.0.attempts; initial_state = me.0.initial_state; history = me.0.history; values = values_of me.1 } ≡ m)
+    (is : record { board = record { table = id; rules = rules; attrs = me.0.attrs }; own = own; steps_taken = me.0.steps_taken; found = me.0.found; decisions = me.0.decisions; attempts = me.0.attempts; initial_state = me.0.initial_state; history = me.0.history; values = values_of me.1 } ≡ m)
     (held : is_held m.own.phase ≡ true) (mine : m.own.reg.mode ≡ Read → place ≡ m.own.reg.me) (there : slice_get m.values (place_index m.own.reg.mode place) ≡ Some y) where
   pub at : Entry initial_state history id.slots own me.0 me.1 k.carries place y
   at = subst (λ (z : PassModel X). is_held z.own.phase ≡ true → (z.own.reg.mode ≡ Read → place ≡ z.own.reg.me) → slice_get z.values (place_index z.own.reg.mode place) ≡ Some y → Entry initial_state history id.slots own me.0 me.1 k.carries place y) is
@@ -27,8 +27,8 @@ module _ {X : Type 0} (initial_state : X → List ℕ) (history : X → List Act
     pub move-kept : PassInvariant initial_state history rules own id' me'
     move-kept = subst (λ (w : TableId × View). PassInvariant initial_state history rules own w.0 (w.1, me'.1)) (λ j. (sym same j, sym view j)) (record { live = k.live; seen = k.seen; range = k.range; carries = moved.0; back = k.back; parts = k.parts; asks = k.asks })
 
-    pub move-told : record { board = record { table = id'; rules = rules; attrs = me'.0.attrs }; own = own; steps_taken = me'.0.steps_taken; decisions = me'.0.decisions; attempts = me'.0.attempts; initial_state = me'.0.initial_state; history = me'.0.history; values = values_of me'.1 } ≡ record m { values = set m.values (place_index m.own.reg.mode place) z }
-    move-told = (λ j. record { board = record { table = same j; rules = rules; attrs = (view j).attrs }; own = own; steps_taken = (view j).steps_taken; decisions = (view j).decisions; attempts = (view j).attempts; initial_state = (view j).initial_state; history = (view j).history; values = moved.1 j })
+    pub move-told : record { board = record { table = id'; rules = rules; attrs = me'.0.attrs }; own = own; steps_taken = me'.0.steps_taken; found = me'.0.found; decisions = me'.0.decisions; attempts = me'.0.attempts; initial_state = me'.0.initial_state; history = me'.0.history; values = values_of me'.1 } ≡ record m { values = set m.values (place_index m.own.reg.mode place) z }
+    move-told = (λ j. record { board = record { table = same j; rules = rules; attrs = (view j).attrs }; own = own; steps_taken = (view j).steps_taken; found = (view j).found; decisions = (view j).decisions; attempts = (view j).attempts; initial_state = (view j).initial_state; history = (view j).history; values = moved.1 j })
         ∙ (λ j. record (is j) { values = set (is j).values (place_index (is j).own.reg.mode place) z })
 
   pub good-in : (x : X) → (initial_state x ≡ m.initial_state) × GrowsUnder (Some m.own.reg.mode) m.own.reg.me m.history (history x) → IsGoodUnder initial_state history me.0.initial_state (Some own.reg.mode) own.reg.me me.0.history (Some x)

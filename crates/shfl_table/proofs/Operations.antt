@@ -43,9 +43,9 @@ use Rattle.shfl_table.proofs.Values.{all-home, freed-ruled, own-home, read-ruled
 use Rattle.std.proofs.lemmas.List.{length-map}
 
 -- an operation of a pass, whichever it is
-module _ {V : Type 0} (initial_state : V → List ℕ) (history : V → List Action) (t : Terms) (r : List ℕ) (slots id : ℕ) (m : Me (Option V) View) (a : Access) (next : ℕ → PassState) (qs : Deeds) (live : m.0.live ≡ true) (blind : (n : ℕ) → next (told a n) ≡ next n)
+module _ {V : Type 0} (initial_state : V → List ℕ) (history : V → List Action) (t : Terms) (r : List ℕ) (slots id : ℕ) (m : Me (Option V) View) (a : Access) (next : ℕ → PassState) (qs : ℕ → Deeds) (live : m.0.live ≡ true) (blind : (n : ℕ) → next (told a n) ≡ next n)
     (law : number m.0 ≡ id → (w : World) → Lawful t w → get_elem? w.passes id ≡ some m.0.pass → Lawful t (after_access w id a (next (look w.words (site a)))))
-    (grows : number m.0 ≡ id → (w : World) → Lawful t w → get_elem? w.passes id ≡ some m.0.pass → GoesOn t.rules w id qs (after_access w id a (next (look w.words (site a)))))
+    (grows : number m.0 ≡ id → (w : World) → Lawful t w → get_elem? w.passes id ≡ some m.0.pass → GoesOn t.rules w id (qs (told a (look w.words (site a)))) (after_access w id a (next (look w.words (site a)))))
     (steady : (n : ℕ) (x y : Mode) → hold_of m.0.pass ≡ Some x → hold_of (next n) ≡ Some y → x ≡ y)
     (ready : (n : ℕ) (x : Mode) → hold_of m.0.pass ≡ Some x → hold_of (next n) ≡ None → MayFree initial_state history x slots m) where
   module _ (s : State (Option V) View) (ok : BoardRule initial_state history t r s) (long : length s.homes ≡ slots) (at : get_elem? s.views id ≡ some m.0) where
@@ -65,8 +65,8 @@ module _ {V : Type 0} (initial_state : V → List ℕ) (history : V → List Act
     lawful : Lawful t (record { words = written s.words a; passes = set (passes_from 0 s.views) id (next (told a (look s.words (site a)))) })
     lawful = subst (λ (z : PassState). Lawful t (record { words = written s.words a; passes = set (passes_from 0 s.views) id z })) (sym (blind (look s.words (site a)))) (law num (world_of s) ok.lawful (pass-there s.views id m.0 at live))
 
-    grown : GoesOn t.rules (world_of s) id qs (record { words = written s.words a; passes = set (passes_from 0 s.views) id (next (told a (look s.words (site a)))) })
-    grown = subst (λ (z : PassState). GoesOn t.rules (world_of s) id qs (record { words = written s.words a; passes = set (passes_from 0 s.views) id z })) (sym (blind (look s.words (site a)))) (grows num (world_of s) ok.lawful (pass-there s.views id m.0 at live))
+    grown : GoesOn t.rules (world_of s) id (qs (told a (look s.words (site a)))) (record { words = written s.words a; passes = set (passes_from 0 s.views) id (next (told a (look s.words (site a)))) })
+    grown = subst (λ (z : PassState). GoesOn t.rules (world_of s) id (qs (told a (look s.words (site a)))) (record { words = written s.words a; passes = set (passes_from 0 s.views) id z })) (sym (blind (look s.words (site a)))) (grows num (world_of s) ok.lawful (pass-there s.views id m.0 at live))
 
     like : (k : ℕ) → IsHome initial_state history r ok.total s.homes k → (x : V) × (get_elem? s.homes k ≡ some (some (Some x))) × IsCurrent initial_state history r ok.total x
     like k h = (h.0, h.1, (h.2, h.3))
@@ -74,10 +74,10 @@ module _ {V : Type 0} (initial_state : V → List ℕ) (history : V → List Act
     keep : hold_of m.0.pass ≡ hold_of (next (told a (look s.words (site a)))) → (w : View) × (act : Act (Option V)) × Valid s.homes m.1 act × BoardRule initial_state history t r (stepped s (index (site a)) (put a (look s.words (site a))) id m.1 w act)
         × MovesValues initial_state history next qs slots m (told a (look s.words (site a))) (w, carried_after m.1 act)
     keep e = (
-      view_after qs m.0 (next (told a (look s.words (site a)))) m.0.history,
+      view_after (qs (told a (look s.words (site a)))) m.0 (next (told a (look s.words (site a)))) m.0.history,
       keeps,
       tt,
-      stays-ruled initial_state history qs t r id m.0 s ok at live q (written s.words a) lawful grown e,
+      stays-ruled initial_state history (qs (told a (look s.words (site a)))) t r id m.0 s ok at live q (written s.words a) lawful grown e,
       record {
         stays = λ _. (refl, refl);
         gains = λ mode x y. absurd (none-some (hold_of q) mode (sym e ∙ x) y);
@@ -88,11 +88,11 @@ module _ {V : Type 0} (initial_state : V → List ℕ) (history : V → List Act
     take-all : hold_of m.0.pass ≡ None → hold_of (next (told a (look s.words (site a)))) ≡ Some Write → (w : View) × (act : Act (Option V)) × Valid s.homes m.1 act × BoardRule initial_state history t r (stepped s (index (site a)) (put a (look s.words (site a))) id m.1 w act)
         × MovesValues initial_state history next qs slots m (told a (look s.words (site a))) (w, carried_after m.1 act)
     take-all out now = let o = ok.seated id m.0 at in
-        let c = collected (IsCurrent initial_state history r ok.total) s.homes (length s.homes) 0 (λ k l u. like k (all-home initial_state history qs t r id m.0 s ok at live q (written s.words a) lawful grown now out k (omega arith))) in let ys = map Some c.0 in (
-          view_after qs m.0 (next (told a (look s.words (site a)))) ok.total,
+        let c = collected (IsCurrent initial_state history r ok.total) s.homes (length s.homes) 0 (λ k l u. like k (all-home initial_state history (qs (told a (look s.words (site a)))) t r id m.0 s ok at live q (written s.words a) lawful grown now out k (omega arith))) in let ys = map Some c.0 in (
+          view_after (qs (told a (look s.words (site a)))) m.0 (next (told a (look s.words (site a)))) ok.total,
           take_all 0 ys,
           may_take s.homes m.1 0 ys c.2,
-          write-ruled initial_state history qs t r id m.0 s ok at live q (written s.words a) lawful grown now out (homes_after s.homes m.1 (take_all 0 ys)),
+          write-ruled initial_state history (qs (told a (look s.words (site a)))) t r id m.0 s ok at live q (written s.words a) lawful grown now out (homes_after s.homes m.1 (take_all 0 ys)),
           record {
             stays = λ e. absurd (none-some (hold_of q) Write (sym e ∙ out) now);
             gains = λ mode x y. by mode (let z : Some Write ≡ Some mode = sym now ∙ y in cc) c (taken m.1 0 ys);
@@ -101,7 +101,7 @@ module _ {V : Type 0} (initial_state : V → List ℕ) (history : V → List Act
         )
       where
         by : (mode : Mode) → Write ≡ mode → (c : (xs : List V) × (length xs ≡ length s.homes) × AtHome s.homes 0 (map Some xs) × Every (IsCurrent initial_state history r ok.total) xs) → carried_after m.1 (take_all 0 (map Some c.0)) ≡ numbered 0 (map Some c.0) ++ m.1
-            → GainsHold initial_state history qs mode slots m (next (told a (look s.words (site a)))) (view_after qs m.0 (next (told a (look s.words (site a)))) ok.total, carried_after m.1 (take_all 0 (map Some c.0)))
+            → GainsHold initial_state history (qs (told a (look s.words (site a)))) mode slots m (next (told a (look s.words (site a)))) (view_after (qs (told a (look s.words (site a)))) m.0 (next (told a (look s.words (site a)))) ok.total, carried_after m.1 (take_all 0 (map Some c.0)))
         by Write e c got = let o = ok.seated id m.0 at in record {
           values = c.0;
           told = ok.total;
@@ -115,12 +115,12 @@ module _ {V : Type 0} (initial_state : V → List ℕ) (history : V → List Act
 
     take-own : hold_of m.0.pass ≡ None → hold_of (next (told a (look s.words (site a)))) ≡ Some Read → (w : View) × (act : Act (Option V)) × Valid s.homes m.1 act × BoardRule initial_state history t r (stepped s (index (site a)) (put a (look s.words (site a))) id m.1 w act)
         × MovesValues initial_state history next qs slots m (told a (look s.words (site a))) (w, carried_after m.1 act)
-    take-own out now = let home = own-home initial_state history qs t r id m.0 s ok at live q (written s.words a) lawful grown now out in
+    take-own out now = let home = own-home initial_state history (qs (told a (look s.words (site a)))) t r id m.0 s ok at live q (written s.words a) lawful grown now out in
         let c = collected (IsCurrent initial_state history r ok.total) s.homes (min 1 (slots - id)) id (λ k l u. let e : k ≡ id = omega arith in like k (subst (λ z. IsHome initial_state history r ok.total s.homes z) (sym e) (home (omega arith)))) in let ys = map Some c.0 in let size = length-map c.0 Some in let small = c.1 in (
-          view_after qs m.0 (next (told a (look s.words (site a)))) ok.total,
+          view_after (qs (told a (look s.words (site a)))) m.0 (next (told a (look s.words (site a)))) ok.total,
           take_all id ys,
           may_take s.homes m.1 id ys c.2,
-          read-ruled initial_state history qs t r id m.0 s ok at live q (written s.words a) lawful grown now out (homes_after s.homes m.1 (take_all id ys)) (taken_length s.homes m.1 id ys)
+          read-ruled initial_state history (qs (told a (look s.words (site a)))) t r id m.0 s ok at live q (written s.words a) lawful grown now out (homes_after s.homes m.1 (take_all id ys)) (taken_length s.homes m.1 id ys)
               (λ k ne. taken_else s.homes m.1 id ys k (dite (dec_lt k id) (λ h. inl h) (λ h. inr (omega arith)))),
           record {
             stays = λ e. absurd (none-some (hold_of q) Read (sym e ∙ out) now);
@@ -130,7 +130,7 @@ module _ {V : Type 0} (initial_state : V → List ℕ) (history : V → List Act
         )
       where
         by : (mode : Mode) → Read ≡ mode → (c : (xs : List V) × (length xs ≡ min 1 (slots - id)) × AtHome s.homes id (map Some xs) × Every (IsCurrent initial_state history r ok.total) xs) → carried_after m.1 (take_all id (map Some c.0)) ≡ numbered id (map Some c.0) ++ m.1
-            → GainsHold initial_state history qs mode slots m (next (told a (look s.words (site a)))) (view_after qs m.0 (next (told a (look s.words (site a)))) ok.total, carried_after m.1 (take_all id (map Some c.0)))
+            → GainsHold initial_state history (qs (told a (look s.words (site a)))) mode slots m (next (told a (look s.words (site a)))) (view_after (qs (told a (look s.words (site a)))) m.0 (next (told a (look s.words (site a)))) ok.total, carried_after m.1 (take_all id (map Some c.0)))
         by Read e c got = let o = ok.seated id m.0 at in record {
           values = c.0;
           told = ok.total;
@@ -148,17 +148,17 @@ module _ {V : Type 0} (initial_state : V → List ℕ) (history : V → List Act
         let seen : m.0.history ≡ ok.total = o.holder live (λ x. none-some (hold_of m.0.pass) Write x was) in
         let is : homes_after s.homes m.1 (give_all ys) ≡ homes_after s.homes (numbered 0 ys) (give_all ys) = ap (λ d. homes_after s.homes d (give_all ys)) R.carried in
         let wide = R.long in let sized = ap length is ∙ given_length s.homes 0 ys in (
-          view_after qs m.0 (next (told a (look s.words (site a)))) new,
+          view_after (qs (told a (look s.words (site a)))) m.0 (next (told a (look s.words (site a)))) new,
           give_all ys,
           may_give s.homes m.1 ys,
-          freed-ruled initial_state history qs t r id m.0 s ok at live q (written s.words a) lawful grown was now (homes_after s.homes m.1 (give_all ys)) new
+          freed-ruled initial_state history (qs (told a (look s.words (site a)))) t r id m.0 s ok at live q (written s.words a) lawful grown was now (homes_after s.homes m.1 (give_all ys)) new
               (λ k small. let e = each_home (IsCurrent initial_state history r new) (homes_after s.homes (numbered 0 ys) (give_all ys)) R.values 0 (given_here s.homes 0 ys (omega arith)) (subst (λ (z : List ℕ). Every (IsCurrent initial_state history z new) R.values) (o.root_is live) R.alike) k (omega arith) (omega arith) in
               (e.0, ap (λ h. get_elem? h k) is ∙ e.1, e.2.0, e.2.1))
               (subst (λ (z : ℕ × List Action). Continues z.0 z.1 new) (λ j. (num j, seen j)) R.grew),
           record {
             stays = λ e. absurd (none-some (hold_of q) Write now (sym e ∙ was));
             gains = λ mode x y. absurd (none-some (hold_of m.0.pass) Write x was);
-            frees = λ mode x y i zs says. (ap (λ d. carried_after d (give_all ys)) R.carried ∙ given_all 0 ys, ap (λ (z : List V). view_after qs m.0 (next (told a (look s.words (site a)))) (common_history history m.0.history z)) (same_carried 0 i R.values zs m.1 R.carried says));
+            frees = λ mode x y i zs says. (ap (λ d. carried_after d (give_all ys)) R.carried ∙ given_all 0 ys, ap (λ (z : List V). view_after (qs (told a (look s.words (site a)))) m.0 (next (told a (look s.words (site a)))) (common_history history m.0.history z)) (same_carried 0 i R.values zs m.1 R.carried says));
           },
         )
 
@@ -171,17 +171,17 @@ module _ {V : Type 0} (initial_state : V → List ℕ) (history : V → List Act
         let is : homes_after s.homes m.1 (give_all ys) ≡ homes_after s.homes (numbered id ys) (give_all ys) = ap (λ d. homes_after s.homes d (give_all ys)) carried in
         let wide = R.long in let sized = ap length is ∙ given_length s.homes id ys in
         let alike : Every (IsCurrent initial_state history r ok.total) R.values = subst (λ (z : List ℕ × List Action). Every (IsCurrent initial_state history z.0 z.1) R.values) (λ j. (o.root_is live j, same j)) R.alike in (
-          view_after qs m.0 (next (told a (look s.words (site a)))) ok.total,
+          view_after (qs (told a (look s.words (site a)))) m.0 (next (told a (look s.words (site a)))) ok.total,
           give_all ys,
           may_give s.homes m.1 ys,
-          unread-ruled initial_state history qs t r id m.0 s ok at live q (written s.words a) lawful grown was now (homes_after s.homes m.1 (give_all ys)) sized
+          unread-ruled initial_state history (qs (told a (look s.words (site a)))) t r id m.0 s ok at live q (written s.words a) lawful grown was now (homes_after s.homes m.1 (give_all ys)) sized
               (λ k ne. ap (λ h. get_elem? h k) is ∙ given_else s.homes id ys k (dite (dec_lt k id) (λ h. inl h) (λ h. inr (let z = num in omega arith))))
               (λ small. let e = each_home (IsCurrent initial_state history r ok.total) (homes_after s.homes (numbered id ys) (give_all ys)) R.values id (given_here s.homes id ys (let z = num in omega arith)) alike id (omega arith) (let z = num in omega arith) in
               (e.0, ap (λ h. get_elem? h id) is ∙ e.1, e.2.0, e.2.1)),
           record {
             stays = λ e. absurd (none-some (hold_of q) Read now (sym e ∙ was));
             gains = λ mode x y. absurd (none-some (hold_of m.0.pass) Read x was);
-            frees = λ mode x y i zs says. (ap (λ d. carried_after d (give_all ys)) carried ∙ given_all id ys, ap (view_after qs m.0 (next (told a (look s.words (site a))))) (sym same) ∙ ap (λ (z : List V). view_after qs m.0 (next (told a (look s.words (site a)))) (common_history history m.0.history z)) (same_carried id i R.values zs m.1 carried says));
+            frees = λ mode x y i zs says. (ap (λ d. carried_after d (give_all ys)) carried ∙ given_all id ys, ap (view_after (qs (told a (look s.words (site a)))) m.0 (next (told a (look s.words (site a))))) (sym same) ∙ ap (λ (z : List V). view_after (qs (told a (look s.words (site a)))) m.0 (next (told a (look s.words (site a)))) (common_history history m.0.history z)) (same_carried id i R.values zs m.1 carried says));
           },
         )
 
@@ -238,7 +238,7 @@ pub row-permits : {V : Type 0} (initial_state : V → List ℕ) (history : V →
 row-permits initial_state history t r slots id m q choice live seen goes ready = operate-permits initial_state history t r slots id m (plan t.rules (number m.0) q) (λ i. take t.rules (number m.0) q i choice) (step_deeds t.rules q choice) live
     (λ n. store-blind t.rules (number m.0) q n choice)
     (λ num w ok at. subst (λ k. Lawful t (after_access w id (plan t.rules k q) (take t.rules k q (look w.words (site (plan t.rules k q))) choice))) (sym num) (own-step t w id q m.0.pass ok at seen choice).lawful)
-    (λ num w ok at. subst (λ k. GoesOn t.rules w id (step_deeds t.rules q choice) (after_access w id (plan t.rules k q) (take t.rules k q (look w.words (site (plan t.rules k q))) choice))) (sym num) (step-goes-on t.rules w id q m.0.pass choice at seen goes))
+    (λ num w ok at. subst (λ k. GoesOn t.rules w id (step_deeds t.rules q choice (told (plan t.rules k q) (look w.words (site (plan t.rules k q))))) (after_access w id (plan t.rules k q) (take t.rules k q (look w.words (site (plan t.rules k q))) choice))) (sym num) (step-goes-on t.rules w id q m.0.pass choice at seen goes))
     (λ n x y e f. same-mode (is_holding q.phase) (is_holding (take t.rules (number m.0) q n choice).phase) q.reg.mode (take t.rules (number m.0) q n choice).reg.mode x y (take-mode t.rules (number m.0) q n choice) (hold-seen t.rules.form q m.0.pass seen ∙ e) f)
     (λ n x e f. let h = hold-seen t.rules.form q m.0.pass seen ∙ e in ready x h (frees-only t.rules (number m.0) q n choice x h f))
   where

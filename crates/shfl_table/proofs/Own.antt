@@ -65,13 +65,13 @@ module _ {X : Type 0} (initial_state : X → List ℕ) (history : X → List Act
       }
 
   -- the values after an operation, by what it tells
-  module _ (slots : ℕ) (own own' : PassState) (me me' : Me (Option X) View) (next : ℕ → PassState) (qs : Deeds) (n : ℕ) (is : own' ≡ next n) (num : number me.0 ≡ own.reg.me) (num' : own'.reg.me ≡ own.reg.me) (alike : hold_of own ≡ hold_of me.0.pass)
+  module _ (slots : ℕ) (own own' : PassState) (me me' : Me (Option X) View) (next : ℕ → PassState) (qs : ℕ → Deeds) (n : ℕ) (is : own' ≡ next n) (num : number me.0 ≡ own.reg.me) (num' : own'.reg.me ≡ own.reg.me) (alike : hold_of own ≡ hold_of me.0.pass)
       (steady : (x y : Mode) → hold_of own ≡ Some x → hold_of own' ≡ Some y → x ≡ y) (still : is_releasing own'.phase ≡ true → own'.phase ≡ own.phase)
       (k : Carries initial_state history slots own me.0 me.1) (r : MovesValues initial_state history next qs slots me n me') where
     now-is : hold_of own' ≡ hold_of (next n)
     now-is = ap hold_of is
 
-    kept : hold_of own ≡ hold_of own' → (me'.1 ≡ me.1) × (me'.0 ≡ view_after qs me.0 (next n) me.0.history)
+    kept : hold_of own ≡ hold_of own' → (me'.1 ≡ me.1) × (me'.0 ≡ view_after (qs n) me.0 (next n) me.0.history)
     kept e = r.stays (sym alike ∙ (e ∙ now-is))
 
     keep : hold_of own ≡ hold_of own' → Carries initial_state history slots own' me'.0 me'.1
@@ -96,7 +96,7 @@ module _ {X : Type 0} (initial_state : X → List ℕ) (history : X → List Act
         goes Read i t u e = e
 
     gain : (m : Mode) → hold_of own ≡ None → hold_of own' ≡ Some m → Carries initial_state history slots own' me'.0 me'.1
-    gain m e f = let g : GainsHold initial_state history qs m slots me (next n) me' = r.gains m (sym alike ∙ e) (sym now-is ∙ f) in
+    gain m e f = let g : GainsHold initial_state history (qs n) m slots me (next n) me' = r.gains m (sym alike ∙ e) (sym now-is ∙ f) in
         let none : me.1 ≡ [] = k.is ∙ ap (λ v. numbered (first_place (hold_of own) own.reg.me) v) (bare k.values (k.long ∙ ap (λ h. place_count h own.reg.me slots) e)) in
         let here : number me.0 ≡ own'.reg.me = num ∙ sym num' in let roots : me.0.initial_state ≡ me'.0.initial_state = sym (ap (λ (v : View). v.initial_state) g.view) in let tales : g.told ≡ me'.0.history = sym (ap (λ (v : View). v.history) g.view) in record {
           values = map Some g.values;
@@ -121,9 +121,9 @@ module _ {X : Type 0} (initial_state : X → List ℕ) (history : X → List Act
     carries-after (Some m) None e f only = free m e f (only m e f)
     carries-after (Some x) (Some y) e f only = keep (e ∙ (ap Some (steady x y e f) ∙ sym f))
 
-    pub view-by : (h h' : Option Mode) → hold_of own ≡ h → hold_of own' ≡ h' → ((m : Mode) → hold_of own ≡ Some m → hold_of own' ≡ None → is_releasing own.phase ≡ true) → (seen : List Action) × (me'.0 ≡ view_after qs me.0 (next n) seen)
+    pub view-by : (h h' : Option Mode) → hold_of own ≡ h → hold_of own' ≡ h' → ((m : Mode) → hold_of own ≡ Some m → hold_of own' ≡ None → is_releasing own.phase ≡ true) → (seen : List Action) × (me'.0 ≡ view_after (qs n) me.0 (next n) seen)
     view-by None None e f only = (me.0.history, (kept (e ∙ sym f)).1)
-    view-by None (Some m) e f only = let g : GainsHold initial_state history qs m slots me (next n) me' = r.gains m (sym alike ∙ e) (sym now-is ∙ f) in (g.told, g.view)
+    view-by None (Some m) e f only = let g : GainsHold initial_state history (qs n) m slots me (next n) me' = r.gains m (sym alike ∙ e) (sym now-is ∙ f) in (g.told, g.view)
     view-by (Some m) None e f only = let v = k.leaving (only m e f) in (common_history history me.0.history v.0, (r.frees m (sym alike ∙ e) (sym now-is ∙ f) (first_place (hold_of own) own.reg.me) v.0 (k.is ∙ ap (numbered (first_place (hold_of own) own.reg.me)) v.1)).1)
     view-by (Some x) (Some y) e f only = (me.0.history, (kept (e ∙ (ap Some (steady x y e f) ∙ sym f))).1)
 
@@ -168,7 +168,7 @@ module _ {X : Type 0} (initial_state : X → List ℕ) (history : X → List Act
     only : (m : Mode) → hold_of own ≡ Some m → hold_of q ≡ None → is_releasing own.phase ≡ true
     only m a b = frees-only rules own.reg.me own n choice m a (sym (ap hold_of e) ∙ b)
 
-    view : (seen : List Action) × (me'.0 ≡ view_after (step_deeds rules own choice) me.0 (take rules own.reg.me own n choice) seen)
+    view : (seen : List Action) × (me'.0 ≡ view_after (step_deeds rules own choice n) me.0 (take rules own.reg.me own n choice) seen)
     view = view-by initial_state history id.slots own q me me' (λ i. take rules own.reg.me own i choice) (step_deeds rules own choice) n e number-is num' alike steady still k.carries r (hold_of own) (hold_of q) refl refl only
 
     finds : t.attrs ≡ me.0.attrs → is_store (plan rules own.reg.me own) ≡ false → (p : ℕ) → site (plan rules own.reg.me own) ≡ AttrOf p → n ≡ slice_index me.0.attrs p
@@ -188,22 +188,22 @@ module _ {X : Type 0} (initial_state : X → List ℕ) (history : X → List Act
           (asks-after rules own.reg.me own n choice me.0.attrs k.asks (finds told));
     }
 
-    pub told-row : (id' : TableId) → id' ≡ id → t.rules ≡ rules → t.attrs ≡ me.0.attrs → TakesStep initial_state history (record { board = record { table = id; rules = rules; attrs = me.0.attrs }; own = own; steps_taken = me.0.steps_taken; decisions = me.0.decisions; attempts = me.0.attempts; initial_state = me.0.initial_state; history = me.0.history; values = values_of me.1 }) choice (record { board = record { table = id'; rules = rules; attrs = me'.0.attrs }; own = q; steps_taken = me'.0.steps_taken; decisions = me'.0.decisions; attempts = me'.0.attempts; initial_state = me'.0.initial_state; history = me'.0.history; values = values_of me'.1 })
+    pub told-row : (id' : TableId) → id' ≡ id → t.rules ≡ rules → t.attrs ≡ me.0.attrs → TakesStep initial_state history (record { board = record { table = id; rules = rules; attrs = me.0.attrs }; own = own; steps_taken = me.0.steps_taken; found = me.0.found; decisions = me.0.decisions; attempts = me.0.attempts; initial_state = me.0.initial_state; history = me.0.history; values = values_of me.1 }) choice (record { board = record { table = id'; rules = rules; attrs = me'.0.attrs }; own = q; steps_taken = me'.0.steps_taken; found = me'.0.found; decisions = me'.0.decisions; attempts = me'.0.attempts; initial_state = me'.0.initial_state; history = me'.0.history; values = values_of me'.1 })
     told-row id' same ruled told = record {
       found = n;
       there = (
         me.0.pass,
         k.seen,
         subst (λ (z : Rules × List ℕ × Part). FoundInRun z.0 z.1 z.2 me.0.history me.0.pass (plan rules own.reg.me own) n)
-            (λ j. (ruled j, told j, record { number = number-is j; steps_taken = me.0.steps_taken; attempts = me.0.attempts; decisions = me.0.decisions })) go.there,
+            (λ j. (ruled j, told j, record { number = number-is j; steps_taken = me.0.steps_taken; found = me.0.found; attempts = me.0.attempts; decisions = me.0.decisions })) go.there,
       );
       form = go.form;
       attr = finds told;
       asks = asks-now rules own me.0.attrs k.asks;
       number = num';
-      row = λ j. record { board = record { table = same j; rules = rules; attrs = (view.1 j).attrs }; own = e j; steps_taken = (view.1 j).steps_taken; decisions = (view.1 j).decisions; attempts = (view.1 j).attempts; initial_state = (view.1 j).initial_state; history = me'.0.history; values = values_of me'.1 };
+      row = λ j. record { board = record { table = same j; rules = rules; attrs = (view.1 j).attrs }; own = e j; steps_taken = (view.1 j).steps_taken; found = (view.1 j).found; decisions = (view.1 j).decisions; attempts = (view.1 j).attempts; initial_state = (view.1 j).initial_state; history = me'.0.history; values = values_of me'.1 };
       stays = λ x. let s = r.stays (sym alike ∙ (x ∙ ap hold_of e)) in (ap values_of s.0, ap (λ (v : View). v.history) s.1);
-      gains = λ mode a b. let g : GainsHold initial_state history (step_deeds rules own choice) mode id.slots me (take rules own.reg.me own n choice) me' = r.gains mode (sym alike ∙ a) (sym (ap hold_of e) ∙ b) in let tales : g.told ≡ me'.0.history = sym (ap (λ (v : View). v.history) g.view) in
+      gains = λ mode a b. let g : GainsHold initial_state history (step_deeds rules own choice n) mode id.slots me (take rules own.reg.me own n choice) me' = r.gains mode (sym alike ∙ a) (sym (ap hold_of e) ∙ b) in let tales : g.told ≡ me'.0.history = sym (ap (λ (v : View). v.history) g.view) in
           let none : me.1 ≡ [] = nothing initial_state history id.slots own q me me' (λ i. take rules own.reg.me own i choice) (step_deeds rules own choice) n e number-is num' alike steady still k.carries r a in (
             subst (λ (z : List Action × ℕ). HasSeen z.0 z.1 me.0.history) (λ j. (tales j, number-is j)) g.knew,
             (
@@ -217,7 +217,7 @@ module _ {X : Type 0} (initial_state : X → List ℕ) (history : X → List Act
           let g = r.frees mode (sym alike ∙ a) (sym (ap hold_of e) ∙ b) (first_place (hold_of own) own.reg.me) xs (v.is ∙ ap (numbered (first_place (hold_of own) own.reg.me)) w) in (ap values_of g.0, ap (λ (x : View). x.history) g.1);
     }
 
-    pub row-told : (id' : TableId) (m : PassModel X) → id' ≡ id → t.rules ≡ rules → t.attrs ≡ me.0.attrs → record { board = record { table = id; rules = rules; attrs = me.0.attrs }; own = own; steps_taken = me.0.steps_taken; decisions = me.0.decisions; attempts = me.0.attempts; initial_state = me.0.initial_state; history = me.0.history; values = values_of me.1 } ≡ m → (outcome : Outcome) → IsOutcome own n q outcome
-        → (s : TakesStep initial_state history m choice (record { board = record { table = id'; rules = rules; attrs = me'.0.attrs }; own = q; steps_taken = me'.0.steps_taken; decisions = me'.0.decisions; attempts = me'.0.attempts; initial_state = me'.0.initial_state; history = me'.0.history; values = values_of me'.1 })) × IsOutcome m.own s.found q outcome
+    pub row-told : (id' : TableId) (m : PassModel X) → id' ≡ id → t.rules ≡ rules → t.attrs ≡ me.0.attrs → record { board = record { table = id; rules = rules; attrs = me.0.attrs }; own = own; steps_taken = me.0.steps_taken; found = me.0.found; decisions = me.0.decisions; attempts = me.0.attempts; initial_state = me.0.initial_state; history = me.0.history; values = values_of me.1 } ≡ m → (outcome : Outcome) → IsOutcome own n q outcome
+        → (s : TakesStep initial_state history m choice (record { board = record { table = id'; rules = rules; attrs = me'.0.attrs }; own = q; steps_taken = me'.0.steps_taken; found = me'.0.found; decisions = me'.0.decisions; attempts = me'.0.attempts; initial_state = me'.0.initial_state; history = me'.0.history; values = values_of me'.1 })) × IsOutcome m.own s.found q outcome
     unfolding told-row
-    row-told id' m same ruled told is outcome came = subst (λ (z : PassModel X). (s : TakesStep initial_state history z choice (record { board = record { table = id'; rules = rules; attrs = me'.0.attrs }; own = q; steps_taken = me'.0.steps_taken; decisions = me'.0.decisions; attempts = me'.0.attempts; initial_state = me'.0.initial_state; history = me'.0.history; values = values_of me'.1 })) × IsOutcome z.own s.found q outcome) is (told-row id' same ruled told, came)
+    row-told id' m same ruled told is outcome came = subst (λ (z : PassModel X). (s : TakesStep initial_state history z choice (record { board = record { table = id'; rules = rules; attrs = me'.0.attrs }; own = q; steps_taken = me'.0.steps_taken; found = me'.0.found; decisions = me'.0.decisions; attempts = me'.0.attempts; initial_state = me'.0.initial_state; history = me'.0.history; values = values_of me'.1 })) × IsOutcome z.own s.found q outcome) is (told-row id' same ruled told, came)

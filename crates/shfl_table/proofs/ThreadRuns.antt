@@ -8,9 +8,11 @@ use Rattle.shfl_line.specs.declared.events.Mode.{Mode}
 use Rattle.shfl_core.specs.declared.phase.Phase.TheVariants.{Idle}
 use Rattle.shfl_core.specs.declared.phase.PassState.{PassState}
 use Rattle.shfl_core.specs.declared.phase.Rules.{Rules}
-use Rattle.shfl_core.specs.Plan.{moving}
+use Rattle.shfl_core.specs.Words.{look, site, told}
+use Rattle.shfl_core.specs.Plan.{moving, plan, attempt_plan, is_idle, is_resting}
+use Rattle.shfl_core.specs.Take.{acquired, released}
 use Rattle.shfl_core.specs.Waiting.{MayUse, idle}
-use Rattle.shfl_core.specs.Worlds.{World, known, stepped, tried, Step}
+use Rattle.shfl_core.specs.Worlds.{World, known, placed_at, stepped, tried, Step}
 use Rattle.shfl_core.specs.Lawful.{Terms}
 use Rattle.shfl_core.proofs.Lists.{set-again, seen-at}
 use Rattle.shfl_laws.specs.Changes.{Change, Moves, Tries, Disables, is_idle_there, after_change, after_changes, EachMayChange}
@@ -18,7 +20,7 @@ use Rattle.shfl_laws.specs.Holds.{hold_of}
 use Rattle.shfl_laws.specs.Moves.{first_seated}
 use Rattle.shfl_laws.specs.Runs.{unseen_move}
 use Rattle.shfl_laws.specs.Seen.{SeenAs, Alike, Enters, Leaves}
-use Rattle.shfl_laws.specs.Stealing.{stealing_disabled}
+use Rattle.shfl_laws.specs.Stealing.{disable_plan, stealing_disabled}
 use Rattle.shfl_laws.proofs.laws.Holds.{hold-seen}
 use Rattle.shfl_laws.proofs.runs.OwnChanges.{stands, step-changes-lead}
 use Rattle.shfl_laws.proofs.runs.Runs.{after-both, there-is, tries}
@@ -29,7 +31,7 @@ use Rattle.shfl_table.specs.declared.view.View.{View}
 use Rattle.shfl_table.specs.MadeInHolds.{RunEvent, changes_of, MakesInHold, RunMakes}
 use Rattle.shfl_table.specs.Places.{Every}
 use Rattle.shfl_table.specs.Views.{Deeds, step_deeds, attempt_deeds, no_deeds, part_of, passes_from, view_after, IsSpent}
-use Rattle.shfl_table.specs.ThreadRuns.{own_deeds, did_in, attempts_in, decisions_in, part_in, IsTold, AreApart, TellsParts, HasRun}
+use Rattle.shfl_table.specs.ThreadRuns.{found_there, own_deeds, did_in, attempts_in, decisions_in, found_in, part_in, IsTold, AreApart, TellsParts, HasRun}
 use Rattle.shfl_table.proofs.MadeInHolds.{PutsIn, ending, ending-changes, ending-in-holds, ending-makes, changes-both, makes-more}
 use Rattle.shfl_table.proofs.Places.{there}
 use Rattle.shfl_table.proofs.SeatViews.{passes-set, live-pass, pass-there, dead_stays, not_dead, hold-here, hold-was}
@@ -64,41 +66,52 @@ unseen-does t w p k own seen (Alike e) = refl
 unseen-does t w p k own seen (Enters m may f e) = refl
 unseen-does t w p k own seen (Leaves r e) = refl
 
+-- and changes no word
+same-words : (w v : World) (b : Bool) → v.words ≡ w.words → (cond b v w).words ≡ w.words
+same-words w v true e = e
+same-words w v false e = refl
+
+unseen-words : (t : Rules) (w : World) (p : ℕ) (own seen : PassState) (as_seen : SeenAs t.form own seen) → (after_changes t w (unseen_move p as_seen)).words ≡ w.words
+unseen-words t w p own seen (Alike e) = refl
+unseen-words t w p own seen (Enters m may f e) = same-words w (placed_at w p (acquired m (known w.passes p))) (is_idle (known w.passes p).phase) refl
+unseen-words t w p own seen (Leaves r e) = same-words w (placed_at w p (released (known w.passes p))) (is_resting (known w.passes p)) refl
+
 -- the step of a pass
-pub step-goes-on : (t : Rules) (w : World) (p : ℕ) (own seen : PassState) (choice : Bool) → get_elem? w.passes p ≡ some seen → SeenAs t.form own seen → moving own ≡ true → GoesOn t w p (step_deeds t own choice) (stepped t w p own choice)
+pub step-goes-on : (t : Rules) (w : World) (p : ℕ) (own seen : PassState) (choice : Bool) → get_elem? w.passes p ≡ some seen → SeenAs t.form own seen → moving own ≡ true → GoesOn t w p (step_deeds t own choice (found_there w (plan t p own))) (stepped t w p own choice)
 step-goes-on t w p own seen choice at as_seen goes = let s = step-changes-lead t w p own seen at choice goes as_seen in let v : World = after_changes t w (unseen_move p as_seen) in
-    let k : known v.passes p ≡ own = stands t w p own seen at as_seen in
+    let k : known v.passes p ≡ own = stands t w p own seen at as_seen in let words : v.words ≡ w.words = unseen-words t w p own seen as_seen in
     let split = λ (z : ℕ). did-both t w z (unseen_move p as_seen) (Moves (Step p choice) ∷ []) ∙ ap (λ (l : List Deeds). l ++ did_in t v z (Moves (Step p choice) ∷ [])) (unseen-does t w p z own seen as_seen) in record {
       before = unseen_move p as_seen;
       last = Moves (Step p choice);
       may = s.0;
       leads = s.1;
-      own = split p ∙ (mine p (moving (known v.passes p)) (step_deeds t (known v.passes p) choice ∷ []) (ap moving k ∙ goes) ∙ ap (λ (q : PassState). step_deeds t q choice ∷ []) k);
-      others = λ z ne. split z ∙ theirs p z (moving (known v.passes p)) (step_deeds t (known v.passes p) choice ∷ []) ne;
+      own = split p ∙ (mine p (moving (known v.passes p)) (step_deeds t (known v.passes p) choice (found_there v (plan t p (known v.passes p))) ∷ []) (ap moving k ∙ goes)
+          ∙ (λ j. step_deeds t (k j) choice (told (plan t p (k j)) (look (words j) (site (plan t p (k j))))) ∷ []));
+      others = λ z ne. split z ∙ theirs p z (moving (known v.passes p)) (step_deeds t (known v.passes p) choice (found_there v (plan t p (known v.passes p))) ∷ []) ne;
       holds = ap hold_of k ∙ (hold-seen t.form own seen as_seen ∙ sym (ap hold_of (seen-at w.passes p seen (idle p) at).0));
     }
 
 -- the one operation of an attempt
-pub attempt-goes-on : (t : Rules) (w : World) (p : ℕ) (q : PassState) (mode : Mode) → get_elem? w.passes p ≡ some q → q.phase ≡ Idle → MayUse t.form mode → GoesOn t w p attempt_deeds (tried w p q mode)
+pub attempt-goes-on : (t : Rules) (w : World) (p : ℕ) (q : PassState) (mode : Mode) → get_elem? w.passes p ≡ some q → q.phase ≡ Idle → MayUse t.form mode → GoesOn t w p (attempt_deeds (found_there w (attempt_plan mode))) (tried w p q mode)
 attempt-goes-on t w p q mode at rests may = record {
   before = [];
   last = Tries p mode;
   may = (may, tt);
   leads = tries t w p q mode at rests;
-  own = mine p (is_idle_there w p) (attempt_deeds ∷ []) (there-is w p q at rests).0;
-  others = λ z ne. theirs p z (is_idle_there w p) (attempt_deeds ∷ []) ne;
+  own = mine p (is_idle_there w p) (attempt_deeds (found_there w (attempt_plan mode)) ∷ []) (there-is w p q at rests).0;
+  others = λ z ne. theirs p z (is_idle_there w p) (attempt_deeds (found_there w (attempt_plan mode)) ∷ []) ne;
   holds = refl;
 }
 
 -- stealing disabled beside the rows, by a pass that stands as it stood
-pub disabling-goes-on : (t : Rules) (w : World) (p : ℕ) (q : PassState) → get_elem? w.passes p ≡ some q → GoesOn t w p no_deeds (record { words = (stealing_disabled w).words; passes = set w.passes p q })
+pub disabling-goes-on : (t : Rules) (w : World) (p : ℕ) (q : PassState) → get_elem? w.passes p ≡ some q → GoesOn t w p (no_deeds (found_there w disable_plan)) (record { words = (stealing_disabled w).words; passes = set w.passes p q })
 disabling-goes-on t w p q at = record {
   before = [];
   last = Disables p;
   may = (tt, tt);
   leads = λ j. record { words = (stealing_disabled w).words; passes = sym (set-again w.passes p q at) j };
-  own = (λ j. cond (eq-eqb p p refl j) (no_deeds ∷ []) [] ++ []);
-  others = λ z ne. (λ j. cond (ne_eqb p z (λ e. ne (sym e)) j) (no_deeds ∷ []) [] ++ []);
+  own = (λ j. cond (eq-eqb p p refl j) (no_deeds (found_there w disable_plan) ∷ []) [] ++ []);
+  others = λ z ne. (λ j. cond (ne_eqb p z (λ e. ne (sym e)) j) (no_deeds (found_there w disable_plan) ∷ []) [] ++ []);
   holds = refl;
 }
 
@@ -106,6 +119,10 @@ disabling-goes-on t w p q at = record {
 attempts-more : (ds : List Deeds) (d : Deeds) → attempts_in (ds ++ d ∷ []) ≡ attempts_in ds + cond d.attempts 1 0
 attempts-more [] d = omega arith
 attempts-more (x ∷ xs) d = let h = attempts-more xs d in omega arith
+
+found-more : (ds : List Deeds) (d : Deeds) → found_in (ds ++ d ∷ []) ≡ found_in ds ++ d.found ∷ []
+found-more [] d = refl
+found-more (x ∷ xs) d = ap (λ (l : List ℕ). x.found ∷ l) (found-more xs d)
 
 decisions-more : (ds : List Deeds) (d : Deeds) → decisions_in (ds ++ d ∷ []) ≡ decisions_in ds ++ d.decisions
 decisions-more [] d = append-nil d.decisions
@@ -120,6 +137,7 @@ part-after : (d : Deeds) (v : View) (q : PassState) (seen : List Action) (seat :
 part-after d v q seen seat ds told num = λ j. record {
   number = num j;
   steps_taken = (ap (λ (x : Part). x.steps_taken + 1) told ∙ sym (length-append ds (d ∷ []))) j;
+  found = (ap (λ (x : Part). x.found ++ d.found ∷ []) told ∙ sym (found-more ds d)) j;
   attempts = (counted d.attempts v.attempts ∙ (ap (λ (x : Part). x.attempts + cond d.attempts 1 0) told ∙ sym (attempts-more ds d))) j;
   decisions = (ap (λ (x : Part). x.decisions ++ d.decisions) told ∙ sym (decisions-more ds d)) j;
 }

@@ -1,5 +1,5 @@
 -- A pass that waits, step by step; and one that gives the lock back.
-use Rattle.std.proofs.Common.{length, ◌≡◌, ℕ, ◌+◌, Bool, true, false, cond, List, [], ◌∷◌, ◌++◌, map, flat_map, Option, Some, None, refl, sym, ap, ◌∙◌, subst, append-nil, arith, ◌≤◌}
+use Rattle.std.proofs.Common.{length, ◌≡◌, ℕ, ◌+◌, Bool, true, false, cond, List, [], ◌∷◌, ◌++◌, map, flat_map, Option, Some, None, refl, sym, ap, ◌∙◌, subst, append-nil, append_assoc, arith}
 use Rattle.std.specs.Prelude.{◌&&◌, not}
 use Rattle.shfl_line.specs.declared.words.Attr.{Attr}
 use Rattle.shfl_line.specs.declared.choosers.Told.{Told}
@@ -21,7 +21,6 @@ use Rattle.shfl_core.specs.Waiting.{ask}
 use Rattle.shfl_core.proofs.Rounds.{told-step}
 use Rattle.shfl_laws.proofs.laws.MoveLaws.{resting-is}
 use Rattle.shfl_table.specs.declared.kept.Action.{Action}
-use Rattle.shfl_table.specs.declared.view.Decision.{Decision}
 use Rattle.shfl_laws.specs.Holds.{hold_of, is_ending, is_releasing}
 use Rattle.shfl_table.specs.Places.{place_count, Every}
 use Rattle.shfl_table.specs.Histories.{HasSeen, IsCurrent, common_history}
@@ -31,7 +30,7 @@ use Rattle.shfl_table.specs.PassModel.{AreIn, BoardId, PassModel}
 use Rattle.shfl_table.specs.PassSteps.{SeesValues, TakesStep}
 use Rattle.shfl_laws.proofs.laws.Holds.{take-mode, frees-only}
 use Rattle.shfl_laws.proofs.laws.Waits.{waits-on}
-use Rattle.shfl_table.specs.Waits.{AsksInRounds, TriedInVain, WaitsFor, answers_of, as_idle}
+use Rattle.shfl_table.specs.Waits.{AsksInRounds, FindsMore, TriedInVain, WaitsFor, answers_of, as_idle}
 
 -- one ask has one answer
 answers-entry : (anchor : Attr) (choice : Bool) (a : Ask) → flat_map (answers_of anchor) (decision_on choice a) ≡ answer_of anchor a choice
@@ -75,6 +74,9 @@ leaves-ends Release e = refl
 leaves-ends ReadRelease e = refl
 leaves-ends _ e = absurd (cc)
 
+pub finds-both : (a b c : List ℕ) → FindsMore a b → FindsMore b c → FindsMore a c
+finds-both a b c x y = (x.0 ++ y.0, y.1 ∙ (ap (λ (l : List ℕ). l ++ y.0) x.1 ∙ append_assoc a x.0 y.0))
+
 module _ {X : Type 0} (initial_state : X → List ℕ) (history : X → List Action) (attempts : ℕ) (mode : Mode) where
   -- a pass that begins
   pub waits-first : (old : PassModel X) → is_idle old.own.phase ≡ true → old.values ≡ [] → WaitsFor initial_state history attempts mode old (record old { own = acquired mode old.own })
@@ -88,6 +90,7 @@ module _ {X : Type 0} (initial_state : X → List ℕ) (history : X → List Act
         number = refl;
         mode_is = refl;
         tried = omega arith;
+        finds = ([], sym (append-nil old.found));
         goes_on = begins mode;
         out = λ _. (none, refl);
         within = λ x h. absurd (no-hold mode mode x h);
@@ -109,6 +112,7 @@ module _ {X : Type 0} (initial_state : X → List ℕ) (history : X → List Act
     number = w.number ∙ v.number;
     mode_is = w.mode_is;
     tried = (let a = w.tried in let b = v.tried in omega arith);
+    finds = finds-both old.found tried.found new.found v.finds w.finds;
     goes_on = w.goes_on;
     out = λ e. let b = w.out e in (b.0, b.1 ∙ v.seen);
     within = λ m e. earlier m (w.within m e);
@@ -119,13 +123,14 @@ module _ {X : Type 0} (initial_state : X → List ℕ) (history : X → List Act
           (λ j. (v.number j, v.seen j, v.root_is j, v.board j)) g
 
   -- where stealing is disabled meanwhile, it waits on
-  pub waits-beside : (old now : PassModel X) (n : ℕ) → WaitsFor initial_state history attempts mode old now → WaitsFor initial_state history attempts mode old (record now { steps_taken = n })
-  waits-beside old now n w = record {
+  pub waits-beside : (old now : PassModel X) (n : ℕ) (more : List ℕ) → WaitsFor initial_state history attempts mode old now → WaitsFor initial_state history attempts mode old (record now { steps_taken = n; found = now.found ++ more })
+  waits-beside old now n more w = record {
     board = w.board;
     root_is = w.root_is;
     number = w.number;
     mode_is = w.mode_is;
     tried = w.tried;
+    finds = finds-both old.found now.found (now.found ++ more) w.finds (more, refl);
     goes_on = w.goes_on;
     out = w.out;
     within = w.within;
@@ -168,6 +173,7 @@ module _ {X : Type 0} (initial_state : X → List ℕ) (history : X → List Act
       number = s.number ∙ w.number;
       mode_is = mode-so;
       tried = (let a = ap (λ (z : PassModel X). z.attempts) s.row in let b = w.tried in omega arith);
+      finds = finds-both old.found now.found new.found w.finds (s.found ∷ [], ap (λ (z : PassModel X). z.found) s.row);
       goes_on = on;
       out = out-so (hold_of now.own) refl;
       within = λ m. in-so m (hold_of now.own) refl;
@@ -201,16 +207,16 @@ module _ {X : Type 0} (initial_state : X → List ℕ) (history : X → List Act
   freed-own = ap (λ b. cond b (record old.own { phase = exit old.own.reg.mode }) old.own) rests ∙ (λ j. record { phase = exit old.own.reg.mode; reg = old.own.reg; nap = (resting-is old.own rests).1 j })
 
   pub frees-lock : (moved : Bool) → moved ≡ moving (released old.own) → (moved ≡ true → TakesStep initial_state history (record old { own = released old.own }) false new) → (xs : List X) → old.values ≡ map Some xs
-      → new ≡ record old { own = as_idle old.own; steps_taken = old.steps_taken + 1; history = common_history history old.history xs; values = [] }
+      → (word : ℕ) × (new ≡ record old { own = as_idle old.own; steps_taken = old.steps_taken + 1; found = old.found ++ word ∷ []; history = common_history history old.history xs; values = [] })
   frees-lock moved is step xs says = by old.own.reg.mode refl
     where
-      by : (m : Mode) → old.own.reg.mode ≡ m → new ≡ record old { own = as_idle old.own; steps_taken = old.steps_taken + 1; history = common_history history old.history xs; values = [] }
+      by : (m : Mode) → old.own.reg.mode ≡ m → (word : ℕ) × (new ≡ record old { own = as_idle old.own; steps_taken = old.steps_taken + 1; found = old.found ++ word ∷ []; history = common_history history old.history xs; values = [] })
       by m e = let at : released old.own ≡ record { phase = exit m; reg = old.own.reg; nap = Awake } = freed-own ∙ (λ j. record { phase = exit (e j); reg = old.own.reg; nap = Awake }) in
           let s = step (is ∙ (ap moving at ∙ moves m)) in
           let went : take old.board.rules old.own.reg.me (released old.own) s.found false ≡ as_idle old.own = ap (λ (q : PassState). take old.board.rules old.own.reg.me q s.found false) at ∙ goes m s.found in
           let ends_at = ap (λ (z : PassModel X). z.own) s.row ∙ (ap (λ (k : ℕ). take old.board.rules k (released old.own) s.found false) (ap (λ (q : PassState). q.reg.me) at) ∙ went) in
           let f = s.frees old.own.reg.mode (ap hold_of at ∙ held m) (ap hold_of ends_at) xs says in
-          s.row ∙ (λ j. record { board = old.board; own = (ap (λ (k : ℕ). take old.board.rules k (released old.own) s.found false) (ap (λ (q : PassState). q.reg.me) at) ∙ went) j; steps_taken = old.steps_taken + 1; decisions = (ap (λ (q : PassState). old.decisions ++ step_decisions old.board.rules q false) at ∙ (quiet m ∙ append-nil old.decisions)) j; attempts = old.attempts; initial_state = old.initial_state; history = f.1 j; values = f.0 j })
+          (s.found, s.row ∙ (λ j. record { board = old.board; own = (ap (λ (k : ℕ). take old.board.rules k (released old.own) s.found false) (ap (λ (q : PassState). q.reg.me) at) ∙ went) j; steps_taken = old.steps_taken + 1; found = old.found ++ s.found ∷ []; decisions = (ap (λ (q : PassState). old.decisions ++ step_decisions old.board.rules q false) at ∙ (quiet m ∙ append-nil old.decisions)) j; attempts = old.attempts; initial_state = old.initial_state; history = f.1 j; values = f.0 j }))
         where
           moves : (m : Mode) → moving (record { phase = exit m; reg = old.own.reg; nap = Awake }) ≡ true
           moves Write = refl

@@ -33,6 +33,8 @@ pub record PassModel (X : Type 0) : Type 0 where
   -- where the pass stands: phase, registers and park state
   pub own : PassState
   pub steps_taken : ℕ
+  -- the words that its operations found, in their order; of a store, what it stored
+  pub found : List ℕ
   -- what its steps asked the policy, with the choices
   pub decisions : List Decision
   -- how often it tried to take the lock without queueing
@@ -54,6 +56,7 @@ fresh_pass initial_state board k = record {
   board = board;
   own = idle k;
   steps_taken = 0;
+  found = [];
   decisions = [];
   attempts = 0;
   initial_state = initial_state;
@@ -83,9 +86,9 @@ AreIn {X} history seen values = (xs : List X) × (values ≡ map Some xs) × Eve
 abbrev pub as_given : {X : Type 0} → PassModel X → Given
 as_given p = record { number = p.own.reg.me; history = p.history }
 
--- and what it did: its operations, its attempts, and what it asked the policy
+-- and what it did: its operations and what they found, its attempts, and what it asked the policy
 abbrev pub as_part : {X : Type 0} → PassModel X → Part
-as_part p = record { number = p.own.reg.me; steps_taken = p.steps_taken; attempts = p.attempts; decisions = p.decisions }
+as_part p = record { number = p.own.reg.me; steps_taken = p.steps_taken; found = p.found; attempts = p.attempts; decisions = p.decisions }
 
 -- a board that is closing: the passes that it has taken back, and what each of them did
 pub record ClosingModel : Type 0 where

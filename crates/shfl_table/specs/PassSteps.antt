@@ -1,5 +1,5 @@
 -- What a step and an attempt do to a pass.
-use Rattle.std.specs.Prelude.{◌≡◌, ◌≢◌, ◌||◌, ℕ, ◌+◌, Bool, true, false, List, [], ◌++◌, map, length, slice_index, Some, None}
+use Rattle.std.specs.Prelude.{◌≡◌, ◌≢◌, ◌||◌, ℕ, ◌+◌, Bool, true, false, List, [], ◌∷◌, ◌++◌, map, length, slice_index, Some, None}
 use Rattle.shfl_line.specs.declared.events.Mode.{Mode}
 use Rattle.shfl_line.specs.declared.events.Mode.TheVariants.{Write, Read}
 use Rattle.shfl_line.specs.declared.words.Attr.{Attr}
@@ -58,6 +58,7 @@ pub record TakesStep {X : Type 0} (initial_state : X → List ℕ) (history : X 
   pub row : new ≡ record old {
     own = take old.board.rules old.own.reg.me old.own found choice;
     steps_taken = old.steps_taken + 1;
+    found = old.found ++ found ∷ [];
     decisions = old.decisions ++ step_decisions old.board.rules old.own choice;
     history = new.history;
     values = new.values;
@@ -73,6 +74,7 @@ pub record TriesOnce {X : Type 0} (initial_state : X → List ℕ) (history : X 
   pub row : new ≡ record old {
     own = attempted mode old.own.reg n;
     steps_taken = old.steps_taken + 1;
+    found = old.found ++ n ∷ [];
     attempts = old.attempts + 1;
     history = new.history;
     values = new.values;
@@ -89,6 +91,19 @@ abbrev pub attempt_steps : Mode → ℕ
 attempt_steps Write = 1
 attempt_steps Read = 2
 
+-- the word that lets an attempt in
+abbrev pub Admits : Mode → ℕ → Type 0
+Admits Write n = n ≡ 0
+Admits Read n = (held_of n || closed_of n) ≡ false
+
+-- the words found go on by one that lets an attempt in
+abbrev pub FindsAdmitting : Mode → List ℕ → List ℕ → Type 0
+FindsAdmitting mode found found' = (word : ℕ) × Admits mode word × (found' ≡ found ++ word ∷ [])
+
+-- they go on by this word, and by one for each further step of the attempt
+abbrev pub FindsRefusing : Mode → ℕ → List ℕ → List ℕ → Type 0
+FindsRefusing mode word found found' = (more : List ℕ) × (length more + 1 ≡ attempt_steps mode) × (found' ≡ found ++ word ∷ more)
+
 -- where a pass stands after an attempt that took the lock, and after one that found n instead
 abbrev pub as_holder : Mode → PassState → PassState
 as_holder mode q = record { phase = Held; reg = record q.reg { mode = mode }; nap = Awake }
@@ -102,11 +117,13 @@ WinsAttempt initial_state history mode old new =
     (new ≡ record old {
       own = as_holder mode old.own;
       steps_taken = old.steps_taken + 1;
+      found = new.found;
       attempts = old.attempts + 1;
       history = new.history;
       values = new.values;
     })
     × SeesValues initial_state history mode old new
+    × FindsAdmitting mode old.found new.found
 
 -- an attempt found this word, and left the lock and the pass as they were but for its registers
 abbrev pub LosesAttempt : {X : Type 0} → Mode → ℕ → PassModel X → PassModel X → Type 0
@@ -115,5 +132,7 @@ LosesAttempt mode word old new =
     × (new ≡ record old {
       own = as_refused mode word old.own;
       steps_taken = old.steps_taken + attempt_steps mode;
+      found = new.found;
       attempts = old.attempts + 1;
     })
+    × FindsRefusing mode word old.found new.found

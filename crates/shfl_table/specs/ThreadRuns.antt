@@ -6,11 +6,14 @@ use lib.ListN.{get_elem?}
 use Rattle.shfl_line.specs.declared.words.Attr.{Attr}
 use Rattle.shfl_line.specs.Words.{attr_word}
 use Rattle.shfl_core.specs.declared.phase.Rules.{Rules}
-use Rattle.shfl_core.specs.Plan.{moving}
+use Rattle.shfl_core.specs.declared.words.Access.{Access}
+use Rattle.shfl_core.specs.Words.{look, site, told}
+use Rattle.shfl_core.specs.Plan.{moving, plan, attempt_plan}
 use Rattle.shfl_core.specs.Worlds.{World, known, Acquire, Release, Step}
 use Rattle.shfl_core.specs.Lawful.{Terms}
 use Rattle.shfl_laws.specs.Changes.{Change, Moves, Tries, Disables, Fills, Replaces, is_idle_there, after_change}
 use Rattle.shfl_laws.specs.Moves.{first_seated}
+use Rattle.shfl_laws.specs.Stealing.{disable_plan}
 use Rattle.shfl_table.specs.declared.kept.Action.{Action}
 use Rattle.shfl_table.specs.declared.view.Decision.{Decision}
 use Rattle.shfl_table.specs.declared.view.Part.{Part}
@@ -19,13 +22,17 @@ use Rattle.shfl_table.specs.MadeInHolds.{RunEvent, changes_of, RunMakes, RanAs}
 use Rattle.shfl_table.specs.Places.{Every}
 use Rattle.shfl_table.specs.Views.{Deeds, step_deeds, attempt_deeds, no_deeds, part_of, passes_from, IsSpent}
 
--- the operation of the pass k that this change is, or none: a change counts only where it is admitted
+-- what the operation finds in this world, or, of a store, what it stores
+abbrev pub found_there : World → Access → ℕ
+found_there w a = told a (look w.words (site a))
+
+-- the operation of the pass k that this change is, with what it finds there, or none: a change counts only where it is admitted
 abbrev pub own_deeds : Rules → World → ℕ → Change → List Deeds
 own_deeds t w k (Moves (Acquire p mode)) = []
 own_deeds t w k (Moves (Release p)) = []
-own_deeds t w k (Moves (Step p choice)) = cond (p == k && moving (known w.passes p)) (step_deeds t (known w.passes p) choice ∷ []) []
-own_deeds t w k (Tries p mode) = cond (p == k && is_idle_there w p) (attempt_deeds ∷ []) []
-own_deeds t w k (Disables p) = cond (p == k) (no_deeds ∷ []) []
+own_deeds t w k (Moves (Step p choice)) = cond (p == k && moving (known w.passes p)) (step_deeds t (known w.passes p) choice (found_there w (plan t p (known w.passes p))) ∷ []) []
+own_deeds t w k (Tries p mode) = cond (p == k && is_idle_there w p) (attempt_deeds (found_there w (attempt_plan mode)) ∷ []) []
+own_deeds t w k (Disables p) = cond (p == k) (no_deeds (found_there w disable_plan) ∷ []) []
 own_deeds t w k Fills = []
 own_deeds t w k (Replaces p r) = []
 
@@ -39,6 +46,11 @@ abbrev pub attempts_in : List Deeds → ℕ
 attempts_in [] = 0
 attempts_in (d ∷ rest) = cond d.attempts 1 0 + attempts_in rest
 
+-- the words that they found, in their order
+abbrev pub found_in : List Deeds → List ℕ
+found_in [] = []
+found_in (d ∷ rest) = d.found ∷ found_in rest
+
 -- what they asked the policy, with the choices
 abbrev pub decisions_in : List Deeds → List Decision
 decisions_in [] = []
@@ -46,7 +58,7 @@ decisions_in (d ∷ rest) = d.decisions ++ decisions_in rest
 
 -- the part of the pass k, which made these operations
 abbrev pub part_in : ℕ → List Deeds → Part
-part_in k ds = record { number = k; steps_taken = length ds; attempts = attempts_in ds; decisions = decisions_in ds }
+part_in k ds = record { number = k; steps_taken = length ds; found = found_in ds; attempts = attempts_in ds; decisions = decisions_in ds }
 
 -- the part tells what its pass did
 abbrev pub IsTold : (ℕ → List Deeds) → Part → Type 0
@@ -69,7 +81,7 @@ pub record TellsParts (did : ℕ → List Deeds) (views : List View) : Type 0 wh
   pub unborn : (k : ℕ) → length views ≤ k → did k ≡ []
 
 -- the words and the passes, as they are seen, are what a list of changes makes of the opening, and in it each pass made just the
--- operations that its seat knows; the whole history is what the holds in that list have made, in the order in which they ended
+-- operations that its seat knows, each with the word that the run has there; the whole history is what the holds in that list have made, in the order in which they ended
 pub record HasRun (t : Terms) (words : List ℕ) (views : List View) (total : List Action) : Type 0 where
   -- the attributes of the opening
   pub attrs : List Attr
@@ -79,7 +91,8 @@ pub record HasRun (t : Terms) (words : List ℕ) (views : List View) (total : Li
   pub parts : TellsParts (λ k. did_in t.rules (first_seated attrs) k (changes_of events)) views
 
 -- the lock that opened with these attribute words came to rest by one run, and its holds have made the history; in that run each
--- pass did what it told as it was given back, once each, and nobody else did anything
+-- pass did what it told as it was given back, and each operation found the word that the run has there; once each, and nobody
+-- else did anything
 pub record RanUntilClosed (rules : Rules) (attr_words : List ℕ) (count : ℕ) (parts : List Part) (history : List Action) : Type 0 where
   pub attrs : List Attr
   pub opened : attr_words ≡ map attr_word attrs

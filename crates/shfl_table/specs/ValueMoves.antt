@@ -30,10 +30,10 @@ module _ {V : Type 0} (initial_state : V → List ℕ) (history : V → List Act
     pub view : m'.0 ≡ view_after qs m.0 q told
 
   -- any operation: by the hold before and after, places come, go, or stay
-  pub record MovesValues (next : ℕ → PassState) (qs : Deeds) (slots : ℕ) (m : Me (Option V) View) (n : ℕ) (m' : Me (Option V) View) : Type 0 where
-    pub stays : hold_of m.0.pass ≡ hold_of (next n) → (m'.1 ≡ m.1) × (m'.0 ≡ view_after qs m.0 (next n) m.0.history)
-    pub gains : (mode : Mode) → hold_of m.0.pass ≡ None → hold_of (next n) ≡ Some mode → GainsHold qs mode slots m (next n) m'
-    pub frees : (mode : Mode) → hold_of m.0.pass ≡ Some mode → hold_of (next n) ≡ None → (i : ℕ) (xs : List V) → m.1 ≡ numbered i (map Some xs) → (m'.1 ≡ []) × (m'.0 ≡ view_after qs m.0 (next n) (common_history history m.0.history xs))
+  pub record MovesValues (next : ℕ → PassState) (qs : ℕ → Deeds) (slots : ℕ) (m : Me (Option V) View) (n : ℕ) (m' : Me (Option V) View) : Type 0 where
+    pub stays : hold_of m.0.pass ≡ hold_of (next n) → (m'.1 ≡ m.1) × (m'.0 ≡ view_after (qs n) m.0 (next n) m.0.history)
+    pub gains : (mode : Mode) → hold_of m.0.pass ≡ None → hold_of (next n) ≡ Some mode → GainsHold (qs n) mode slots m (next n) m'
+    pub frees : (mode : Mode) → hold_of m.0.pass ≡ Some mode → hold_of (next n) ≡ None → (i : ℕ) (xs : List V) → m.1 ≡ numbered i (map Some xs) → (m'.1 ≡ []) × (m'.0 ≡ view_after (qs n) m.0 (next n) (common_history history m.0.history xs))
 
   -- a pass that may free the hold: all its values are in, of one history that goes on from the one seen
   pub record MayFree (mode : Mode) (slots : ℕ) (m : Me (Option V) View) : Type 0 where
@@ -52,7 +52,7 @@ module _ {V : Type 0} (initial_state : V → List ℕ) (history : V → List Act
     pub stays : (next n).reg.me ≡ number m.0
     pub range : InRange t (number m.0) (next n)
 
-  abbrev pub access_play : Terms → Access → (ℕ → PassState) → Deeds → Step (Option V) → Me (Option V) View → ℕ → Me (Option V) View → Type 0
+  abbrev pub access_play : Terms → Access → (ℕ → PassState) → (ℕ → Deeds) → Step (Option V) → Me (Option V) View → ℕ → Me (Option V) View → Type 0
   access_play t a next qs st m n m' = FitsWords t a next m n × MovesValues next qs st.slots m n m'
 
   -- the step of a pass

@@ -28,6 +28,7 @@ abbrev pub new_view : List ℕ → List ℕ → ℕ → View
 new_view attrs initial_state k = record {
   pass = idle k;
   steps_taken = 0;
+  found = [];
   decisions = [];
   attempts = 0;
   attrs = attrs;
@@ -57,25 +58,27 @@ decision_on choice a = record { ask = a; choice = choice } ∷ []
 abbrev pub step_decisions : Rules → PassState → Bool → List Decision
 step_decisions r q choice = decision_on choice (ask r q)
 
--- what an operation adds to what its pass did: decisions, or an attempt
+-- what an operation adds to what its pass did: the word that it found, or, of a store, stored, and decisions, or an attempt
 pub record Deeds : Type 0 where
+  pub found : ℕ
   pub decisions : List Decision
   pub attempts : Bool
 
-abbrev pub step_deeds : Rules → PassState → Bool → Deeds
-step_deeds r q choice = record { decisions = step_decisions r q choice; attempts = false }
+abbrev pub step_deeds : Rules → PassState → Bool → ℕ → Deeds
+step_deeds r q choice n = record { found = n; decisions = step_decisions r q choice; attempts = false }
 
-abbrev pub attempt_deeds : Deeds
-attempt_deeds = record { decisions = []; attempts = true }
+abbrev pub attempt_deeds : ℕ → Deeds
+attempt_deeds n = record { found = n; decisions = []; attempts = true }
 
-abbrev pub no_deeds : Deeds
-no_deeds = record { decisions = []; attempts = false }
+abbrev pub no_deeds : ℕ → Deeds
+no_deeds n = record { found = n; decisions = []; attempts = false }
 
 -- the view after an operation that led to this pass state, with what it adds and this history
 abbrev pub view_after : Deeds → View → PassState → List Action → View
 view_after qs v q told = record v {
   pass = q;
   steps_taken = v.steps_taken + 1;
+  found = v.found ++ qs.found ∷ [];
   decisions = v.decisions ++ qs.decisions;
   attempts = cond qs.attempts (v.attempts + 1) v.attempts;
   history = told;
@@ -87,7 +90,7 @@ given_view v = record { number = v.pass.reg.me; history = v.history }
 
 -- and what it did
 abbrev pub part_of : View → Part
-part_of v = record { number = v.pass.reg.me; steps_taken = v.steps_taken; attempts = v.attempts; decisions = v.decisions }
+part_of v = record { number = v.pass.reg.me; steps_taken = v.steps_taken; found = v.found; attempts = v.attempts; decisions = v.decisions }
 
 abbrev pub with_given : View → View → View
 with_given v w = record v { back = record { number = w.pass.reg.me; history = w.history } ∷ v.back; parts = part_of w ∷ v.parts }

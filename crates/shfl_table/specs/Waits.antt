@@ -1,5 +1,5 @@
 -- A pass that waits for the lock, and what it asks meanwhile.
-use Rattle.std.specs.Prelude.{◌≡◌, ◌+◌, ◌≤◌, ℕ, true, false, List, [], Option, Some, None}
+use Rattle.std.specs.Prelude.{◌≡◌, ◌+◌, ◌≤◌, ℕ, true, false, List, [], ◌++◌, Option, Some, None}
 use Rattle.shfl_line.specs.declared.words.Attr.{Attr}
 use Rattle.shfl_line.specs.declared.choosers.Answer.{Answer}
 use Rattle.shfl_line.specs.declared.choosers.Told.{Told}
@@ -28,6 +28,10 @@ AsksInRounds anchor old new told told' = AsksBy (answers_of anchor) old new told
 abbrev pub as_idle : PassState → PassState
 as_idle q = record { phase = Idle; reg = q.reg; nap = Awake }
 
+-- the words found are those found before, and then others
+abbrev pub FindsMore : List ℕ → List ℕ → Type 0
+FindsMore found found' = (more : List ℕ) × (found' ≡ found ++ more)
+
 -- a pass that began to take the lock in a mode, after so many attempts at most, and made some steps since
 pub record WaitsFor {X : Type 0} (initial_state : X → List ℕ) (history : X → List Action) (attempts : ℕ) (mode : Mode) (old now : PassModel X) : Type 0 where
   pub board : now.board ≡ old.board
@@ -35,6 +39,7 @@ pub record WaitsFor {X : Type 0} (initial_state : X → List ℕ) (history : X �
   pub number : now.own.reg.me ≡ old.own.reg.me
   pub mode_is : now.own.reg.mode ≡ mode
   pub tried : now.attempts ≤ old.attempts + attempts
+  pub finds : FindsMore old.found now.found
   pub goes_on : is_ending now.own.phase ≡ false
   pub out : hold_of now.own ≡ None → (now.values ≡ []) × (now.history ≡ old.history)
   pub within : (m : Mode) → hold_of now.own ≡ Some m → SeesValues initial_state history m old now
@@ -45,6 +50,7 @@ pub record TriedInVain {X : Type 0} (attempts : ℕ) (old now : PassModel X) : T
   pub root_is : now.initial_state ≡ old.initial_state
   pub number : now.own.reg.me ≡ old.own.reg.me
   pub tried : now.attempts ≤ old.attempts + attempts
+  pub finds : FindsMore old.found now.found
   pub rests : is_idle now.own.phase ≡ true
   pub asked : now.decisions ≡ old.decisions
   pub seen : now.history ≡ old.history

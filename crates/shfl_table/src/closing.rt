@@ -116,8 +116,9 @@ impl<V: Kept + Drop> Closing<V> {
 
     /// The values, once all passes are given back: with the initial state of the opening and one history, which begins with what each
     /// pass saw, has each pass's actions as that pass saw them, and no others. All that was done to the lock since its opening is one
-    /// list of changes, in which each pass did what it tells, once each, and nobody else did anything; and the history is what the holds in that
-    /// list have made, in the order in which they ended: each action by its worker, while that one alone held the lock.
+    /// list of changes, in which each pass did what it tells and found the words that it tells, once each, and nobody else did anything; and
+    /// the history is what the holds in that list have made, in the order in which they ended: each action by its worker, while that one
+    /// alone held the lock.
     pub fn finish(self) -> Vec<V>
         requires all { (k : ℕ) → k < self.board.count
             → (g : Given) × IsAmong g self.back × (g.number ≡ k) }

@@ -1,5 +1,5 @@
 //! The queue's head disables stealing again.
-ghost use Rattle.std.specs.Prelude.{◌≡◌, ◌+◌, ◌<◌, ℕ, true, false, Some, None};
+ghost use Rattle.std.specs.Prelude.{◌≡◌, ◌+◌, ◌<◌, ℕ, [], ◌∷◌, ◌++◌, true, false, Some, None};
 ghost use Rattle.shfl_line.specs.Words.{IsLockWord};
 ghost use Rattle.shfl_laws.specs.Moves.{told_terms};
 ghost use Rattle.shfl_laws.specs.Stealing.{disable_plan};
@@ -65,7 +65,10 @@ impl<V: Kept + Drop> Pass<V> {
             → (result ≡ None) × (self.new ≡ self.old) }
         ensures made { waits_at_head self.old.own ≡ true
             → (word : ℕ) × (result ≡ Some word) × IsLockWord word
-            × (self.new ≡ record self.old { steps_taken = self.old.steps_taken + 1 }) }
+            × (self.new ≡ record self.old {
+              steps_taken = self.old.steps_taken + 1;
+              found = self.old.found ++ word ∷ [];
+            }) }
     {
         if !waits_at_head(self.own) {
             return None;

@@ -26,7 +26,7 @@ fn seated<V: Kept + Drop>(rules: Rules, number: u32, seat: Seat<Option<V>, View>
     requires words { 0 < seat.table_id.words }
     requires view { (seat.me.0.live ≡ true) × (seat.me.0.pass ≡ idle number)
         × (seat.me.0.steps_taken ≡ 0) × (seat.me.0.decisions ≡ []) × (seat.me.0.history ≡ [])
-        × (seat.me.0.attempts ≡ 0)
+        × (seat.me.0.attempts ≡ 0) × (seat.me.0.found ≡ [])
         × (seat.me.0.back ≡ []) × (seat.me.0.parts ≡ []) × (seat.me.1 ≡ []) }
     ensures { result ≡ fresh_pass seat.me.0.initial_state
         (record { table = seat.table_id; rules = rules; attrs = seat.me.0.attrs }) number }

@@ -42,6 +42,7 @@ impl<V: Kept> Model for Pass<V> {
       board = record { table = p.seat.table_id; rules = p.rules; attrs = p.seat.me.0.attrs };
       own = p.own;
       steps_taken = p.seat.me.0.steps_taken;
+      found = p.seat.me.0.found;
       decisions = p.seat.me.0.decisions;
       attempts = p.seat.me.0.attempts;
       initial_state = p.seat.me.0.initial_state;

@@ -11,10 +11,11 @@ pub struct Given {
     pub history: LinkedList<Action>,
 }
 
-/// What a pass did: its operations on the words, its attempts, and what it asked the policy. No value of it is made.
+/// What a pass did: its operations on the words and what they found, its attempts, and what it asked the policy. No value of it is made.
 pub struct Part {
     pub number: u64,
     pub steps_taken: u64,
+    pub found: LinkedList<u64>,
     pub attempts: u64,
     pub decisions: LinkedList<Decision>,
 }
@@ -30,6 +31,8 @@ pub struct View {
     /// Where its pass stands, as others see it.
     pub pass: PassState,
     pub steps_taken: u64,
+    /// The words that its operations found, in their order.
+    pub found: LinkedList<u64>,
     pub decisions: LinkedList<Decision>,
     /// How often it tried to take the lock without queueing.
     pub attempts: u64,

@@ -1,5 +1,5 @@
 //! The loop in which a pass waits for the lock.
-ghost use Rattle.std.specs.Prelude.{◌≡◌, ◌≢◌, ◌+◌, ℕ, Bool, true, false, List, [], length, map, Some};
+ghost use Rattle.std.specs.Prelude.{◌≡◌, ◌≢◌, ◌+◌, ℕ, Bool, true, false, List, [], ◌∷◌, ◌++◌, length, map, Some};
 ghost use Rattle.shfl_line.specs.Policies.{Adds};
 ghost use Rattle.shfl_core.specs.Asking.{IsOpenInRounds, end_told, is_last_of_round, opens_round, question_told, step_told};
 ghost use Rattle.shfl_core.specs.Plan as plan;
@@ -155,7 +155,8 @@ fn step_on<V: Kept + Drop, C: Chooser, G: Gate, Rt: Wait>(
 fn keep_disabled<V: Kept + Drop>(board: &SharedBoard<V>, pass: &mut Pass<V>, outcome: Outcome)
     requires board { pass.old.board ≡ board.now.id }
     ensures same { outcome ≢ InVainOpen → pass.new ≡ pass.old }
-    ensures disabled { (n : ℕ) × (pass.new ≡ record pass.old { steps_taken = n }) }
+    ensures disabled { (n : ℕ) × (more : List ℕ)
+        × (pass.new ≡ record pass.old { steps_taken = n; found = pass.old.found ++ more }) }
 {
     if matches!(outcome, Outcome::InVainOpen) {
         let _ = pass.disable_stealing(board);
@@ -251,12 +252,14 @@ pub fn free<V: Kept + Drop>(board: &SharedBoard<V>, pass: &mut Pass<V>)
     requires board { pass.old.board ≡ board.now.id }
     requires holds { plan.is_resting pass.old.own ≡ true }
     requires within { AreIn V.history pass.old.history pass.old.values }
-    ensures { (xs : List V) → pass.old.values ≡ map Some xs → pass.new ≡ record pass.old {
-      own = as_idle pass.old.own;
-      steps_taken = pass.old.steps_taken + 1;
-      history = common_history V.history pass.old.history xs;
-      values = [];
-    } }
+    ensures { (xs : List V) → pass.old.values ≡ map Some xs → (word : ℕ)
+        × (pass.new ≡ record pass.old {
+          own = as_idle pass.old.own;
+          steps_taken = pass.old.steps_taken + 1;
+          found = pass.old.found ++ word ∷ [];
+          history = common_history V.history pass.old.history xs;
+          values = [];
+        }) }
 {
     let _ = pass.release();
     let _ = pass.step(board, false);

@@ -48,7 +48,7 @@ loop-k-preserved c = let v = c.loop-k.invariant in let before = c.args.passes.no
           (back_more k before c.loop-k.closing.back (slice_index_or before k d) _ v.back was (c.take_last-pass.ensures.given ∙ ap (λ (p : ShardPassModel). record { number = p.number; history = [] }) same));
       told = subst (HaveTold (k + 1) before) (sym (ap (λ (z : ClosingModel). z.parts) c.give.ensures))
           (told_more k before c.loop-k.closing.parts (slice_index_or before k d) _ v.told was (subst (λ (p : ShardPassModel). length p.decisions ≡ length p.locks) same c.take_last-pass.ensures.asked)
-          (c.take_last-pass.ensures.part ∙ ap (λ (p : ShardPassModel). part_at (length p.locks - 1) c.take_last-pass.result.steps_taken c.take_last-pass.result.attempts p) same));
+          (c.take_last-pass.ensures.part ∙ ap (λ (p : ShardPassModel). part_at (length p.locks - 1) c.take_last-pass.result.steps_taken c.take_last-pass.result.found c.take_last-pass.result.attempts p) same));
     }
 
 pub finish-values-requires : goal.finish-values-requires

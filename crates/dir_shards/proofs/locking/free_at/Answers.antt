@@ -16,5 +16,6 @@ pub returns : goal.returns
 returns c = record {
   before = slice_index_or c.args.passes.now c.args.place c.index-passes-place.result;
   was = slice_get-get_or c.args.passes.now c.args.place c.index-passes-place.result c.requires.within;
-  others = ap (set c.args.passes.now c.args.place) c.free_lock.ensures;
+  word = c.free_lock.ensures.0;
+  others = ap (set c.args.passes.now c.args.place) c.free_lock.ensures.1;
 }

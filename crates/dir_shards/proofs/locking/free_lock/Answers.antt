@@ -1,4 +1,4 @@
-use Rattle.std.proofs.Common.{◌≡◌, ◌+◌, sym, refl, ap, ◌∙◌, [], ◌∷◌, Some, set}
+use Rattle.std.proofs.Common.{◌≡◌, ◌+◌, sym, refl, ap, ◌∙◌, [], ◌∷◌, ◌++◌, Some, set}
 use Rattle.shfl_table.specs.Places.{place_index}
 use Rattle.shfl_table.specs.Waits.{as_idle}
 use Rattle.dir_shards.specs.Locks.{LockPass}
@@ -16,14 +16,15 @@ free-requires-clause-within c = let d = (goal.at.free-requires-clause-within c).
 
 pub returns : goal.returns
 returns c = let d = (goal.at.returns c).After-put_value in let i = in-again d in
-    c.free.ensures (c.args.kept ∷ []) (ap (λ (p : LockPass). p.values) i)
-    ∙ (λ j. record {
+    let freed = c.free.ensures (c.args.kept ∷ []) (ap (λ (p : LockPass). p.values) i) in
+    (freed.0, freed.1 ∙ (λ j. record {
       board = (i j).board;
       own = as_idle (i j).own;
       steps_taken = (i j).steps_taken + 1;
+      found = (i j).found ++ freed.0 ∷ [];
       decisions = (i j).decisions;
       attempts = (i j).attempts;
       initial_state = (i j).initial_state;
       history = sym c.requires.out.unseen j;
       values = [];
-    })
+    }))

@@ -1,4 +1,4 @@
-use Rattle.std.proofs.Common.{◌≡◌, ℕ, ◌+◌, length, refl, ap, ◌∙◌, subst, set, slice_get, List, [], ◌∷◌, Some}
+use Rattle.std.proofs.Common.{◌≡◌, ℕ, ◌+◌, ◌++◌, length, refl, sym, ap, ◌∙◌, subst, set, slice_get, List, [], ◌∷◌, Some}
 use Rattle.shfl_line.specs.declared.events.Mode.TheVariants.{Read}
 use Rattle.shfl_table.specs.Places.{place_index}
 use Rattle.shfl_table.specs.PassModel.{HasAt, PassModel}
@@ -54,5 +54,10 @@ returns-clause-place g c = let d = (goal.at.returns-clause-place g c).After-visi
 
 pub returns-clause-pass : goal.returns-clause-pass
 returns-clause-pass g c = let d = (goal.at.returns-clause-pass g c).After-visit-reply in let p = still g d in
-    c.free.ensures (left g d ∷ []) (ap (λ (p : PassModel BookModel). p.values) p)
-    ∙ (λ i. record { board = (p i).board; own = as_idle (p i).own; steps_taken = (p i).steps_taken + 1; decisions = (p i).decisions; attempts = (p i).attempts; initial_state = (p i).initial_state; history = history-left g d i; values = [] })
+    let freed = (c.free.ensures (left g d ∷ []) (ap (λ (p : PassModel BookModel). p.values) p)).1 in
+    freed ∙ (λ i. record { board = (p i).board; own = as_idle (p i).own; steps_taken = (p i).steps_taken + 1; found = sym (ap (λ (q : PassModel BookModel). q.found) freed) i; decisions = (p i).decisions; attempts = (p i).attempts; initial_state = (p i).initial_state; history = history-left g d i; values = [] })
+
+pub returns-clause-finds : goal.returns-clause-finds
+returns-clause-finds g c = let d = (goal.at.returns-clause-finds g c).After-visit-reply in let p = still g d in
+    let freed = c.free.ensures (left g d ∷ []) (ap (λ (q : PassModel BookModel). q.values) p) in
+    (freed.0 ∷ [], ap (λ (q : PassModel BookModel). q.found) freed.1 ∙ ap (λ (q : PassModel BookModel). q.found ++ freed.0 ∷ []) p)

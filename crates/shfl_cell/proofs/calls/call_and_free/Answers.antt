@@ -61,11 +61,15 @@ returns-clause-place g c = let d = (goal.at.returns-clause-place g c).After-visi
 
 pub returns-clause-pass : goal.returns-clause-pass
 returns-clause-pass g c = let d = (goal.at.returns-clause-pass g c).After-visit-reply in let i = in-place g d in
-    c.free.ensures (left g d ∷ []) (ap (λ (p : PassModel BookModel). p.values) i)
-    ∙ (λ j. record { board = (i j).board; own = as_idle (i j).own; steps_taken = (i j).steps_taken + 1; decisions = (i j).decisions; attempts = (i j).attempts; initial_state = (i j).initial_state; history = history-left g d j; values = [] })
+    let freed = (c.free.ensures (left g d ∷ []) (ap (λ (p : PassModel BookModel). p.values) i)).1 in
+    freed ∙ (λ j. record { board = (i j).board; own = as_idle (i j).own; steps_taken = (i j).steps_taken + 1; found = sym (ap (λ (p : PassModel BookModel). p.found) freed) j; decisions = (i j).decisions; attempts = (i j).attempts; initial_state = (i j).initial_state; history = history-left g d j; values = [] })
+
+pub returns-clause-finds : goal.returns-clause-finds
+returns-clause-finds g c = let d = (goal.at.returns-clause-finds g c).After-visit-reply in let i = in-place g d in let freed = c.free.ensures (left g d ∷ []) (ap (λ (p : PassModel BookModel). p.values) i) in
+    (freed.0 ∷ [], ap (λ (p : PassModel BookModel). p.found) freed.1 ∙ ap (λ (p : PassModel BookModel). p.found ++ freed.0 ∷ []) i)
 
 pub returns-clause-legal : goal.returns-clause-legal
 returns-clause-legal g c = let d = (goal.at.returns-clause-legal g c).After-visit-reply in let i = in-place g d in let old = c.args.pass.now in let O = g.O.Object in let w = c.requires.within in
-    let is : c.free.new.pass.history ≡ old.history ++ made g d ∷ [] = ap (λ (p : PassModel BookModel). p.history) (c.free.ensures (left g d ∷ []) (ap (λ (p : PassModel BookModel). p.values) i)) ∙ history-left g d in
+    let is : c.free.new.pass.history ≡ old.history ++ made g d ∷ [] = ap (λ (p : PassModel BookModel). p.history) (c.free.ensures (left g d ∷ []) (ap (λ (p : PassModel BookModel). p.values) i)).1 ∙ history-left g d in
     subst (λ (l : List Action). IsLegal O.reply_at O.state_after (opening_of old.initial_state) (operations_of l)) (ap (λ (a : Action). old.history ++ a ∷ []) (by-own g d) ∙ sym is)
     (legal_after O.reply_at O.state_after old 0 w.0 (here g d) w.2 w.3 _ _ (left g d) (c.visit-reply.ensures.done w.0 (here g d)).1)

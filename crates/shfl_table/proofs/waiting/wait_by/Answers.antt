@@ -27,12 +27,12 @@ pub loop-preserved : goal.loop-preserved
 loop-preserved g c = let i = c.loop.invariant in let s = c.step_on-outcome.ensures in let p = c.args.pass.now in let row = s.row.1 in let now = c.loop.pass in let d = c.keep_disabled.ensures.disabled in let told = g.C.Chooser.told in let attempts = attempts_before c.args.queueing (g.C.Chooser.moves_waiters c.args.chooser.now) in (
   search,
   search,
-  subst (λ (z : PassModel _). WaitsFor g.V.Kept.initial_state g.V.Kept.history attempts c.args.mode p z) (sym d.1)
-      (waits-beside g.V.Kept.initial_state g.V.Kept.history attempts c.args.mode p c.step_on-outcome.new.pass d.0 (waits-more g.V.Kept.initial_state g.V.Kept.history attempts c.args.mode p now c.step_on-outcome.new.pass s.row.0 i.2 row)),
-  subst (λ (z : PassModel _). AsksMeanwhile c.args.anchor.now p z (told c.args.chooser.now) (told c.step_on-outcome.new.chooser)) (sym d.1)
+  subst (λ (z : PassModel _). WaitsFor g.V.Kept.initial_state g.V.Kept.history attempts c.args.mode p z) (sym d.2)
+      (waits-beside g.V.Kept.initial_state g.V.Kept.history attempts c.args.mode p c.step_on-outcome.new.pass d.0 d.1 (waits-more g.V.Kept.initial_state g.V.Kept.history attempts c.args.mode p now c.step_on-outcome.new.pass s.row.0 i.2 row)),
+  subst (λ (z : PassModel _). AsksMeanwhile c.args.anchor.now p z (told c.args.chooser.now) (told c.step_on-outcome.new.chooser)) (sym d.2)
       (asks-step c.args.anchor.now g.V.Kept.initial_state g.V.Kept.history p now c.step_on-outcome.new.pass s.row.0 _ _ _ i.3 row s.row.2),
   s.home ∙ i.4,
-  λ closed. subst (λ (z : PassModel _). IsOpenInRounds (g.C.Chooser.in_round c.step_on-outcome.new.chooser) z.own) (sym d.1) (s.in_round (i.5 closed)),
+  λ closed. subst (λ (z : PassModel _). IsOpenInRounds (g.C.Chooser.in_round c.step_on-outcome.new.chooser) z.own) (sym d.2) (s.in_round (i.5 closed)),
 )
 
 pub step_on-outcome-requires-clause-board : goal.step_on-outcome-requires-clause-board

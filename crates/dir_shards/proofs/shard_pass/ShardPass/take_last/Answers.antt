@@ -30,7 +30,7 @@ returns-clause-part c = let new = c.pop.new.self.items in let pass = c.in-Some.p
     let at : slice_get c.self.inside.passes.items (length new) ≡ Some pass = ap (λ l. slice_get l (length new)) items ∙ got_last new pass in
     let number = (c.self.invariant.each (length new) pass at).number_is ∙ ap (λ (z : ShardPassModel). z.number) c.self.view_is in
     let asked = sym (last_decisions c.self.inside.passes.items new pass items at) ∙ ap (λ (z : ShardPassModel). asked_at z (length z.locks - 1)) c.self.view_is in
-    λ i. record { number = number i; steps_taken = pass.steps_taken; attempts = pass.attempts; decisions = asked i }
+    λ i. record { number = number i; steps_taken = pass.steps_taken; found = pass.found; attempts = pass.attempts; decisions = asked i }
 
 pub returns-clause-asked : goal.returns-clause-asked
 returns-clause-asked c = let passes = c.self.inside.passes.items in

@@ -1,6 +1,7 @@
 use Rattle.std.proofs.Common.{◌≡◌, ℕ, ◌<◌, sym, ap, ◌∙◌, subst, List, [], ◌∷◌, ◌++◌, ◌≤◌, length, All, refl}
 use Rattle.shfl_line.specs.declared.events.Mode.TheVariants.{Read}
-use Rattle.shfl_table.proofs.WaitSteps.{has-hold}
+use Rattle.shfl_table.specs.Waits.{FindsMore}
+use Rattle.shfl_table.proofs.WaitSteps.{finds-both, has-hold}
 use Rattle.hist_log.specs.declared.entry.Entry.{Entry}
 use Rattle.rw_cell.specs.RwCells.{RwPassModel}
 use Rattle.rw_cell.proofs.HeldCopies.{own-copy}
@@ -33,3 +34,7 @@ returns-clause-last g c = let w = c.wait_for.ensures.waited in let q = c.wait_fo
     (p.items ∙ (λ j. i.reads.items ++ record { worker = (c.number-worker.ensures ∙ ap (λ (z : RwPassModel _). z.reg.me) c.pass.view_is) j; call = c.args.call.now; reply = f.result.0; receipt = f.result.1.place } ∷ []))
     (w.within Read (has-hold q.own Read c.wait_for.ensures.holds w.mode_is)).0 w.number w.root_is w.board f.ensures.pass
     c.args.pass.now c.pass.view_is f.ensures.reply f.ensures.place c.requires.left) refl
+
+pub returns-clause-finds : goal.returns-clause-finds
+returns-clause-finds g c = let i = c.pass.inside in let q = c.wait_for.new.pass in let f = c.read_and_free-reply in
+    subst (λ (z : RwPassModel _). FindsMore z.found f.new.pass.found) c.pass.view_is (finds-both i.pass.found q.found f.new.pass.found c.wait_for.ensures.waited.finds f.ensures.finds)

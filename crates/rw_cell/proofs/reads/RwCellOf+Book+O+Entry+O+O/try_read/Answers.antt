@@ -2,10 +2,13 @@ use Rattle.std.proofs.Common.{◌≡◌, ℕ, ◌<◌, sym, ap, ◌∙◌, subst
 use Rattle.shfl_table.specs.PassModel.{PassModel}
 use Rattle.shfl_table.specs.Books.{BookModel}
 use Rattle.hist_log.specs.declared.entry.Entry.{Entry}
+use Rattle.shfl_table.specs.Waits.{FindsMore}
+use Rattle.shfl_table.proofs.WaitSteps.{finds-both}
 use Rattle.rw_cell.specs.RwCells.{RwPassModel}
 use Rattle.rw_cell.proofs.HeldCopies.{own-copy}
 use Rattle.rw_cell.proofs.LastCalls.{last_read}
 use Rattle.rw_cell.proofs.MadeReads.{makes_read, kept_after_read}
+use Rattle.rw_cell.proofs.MadeWrites.{read-turned}
 use Rattle.rw_cell.proofs.reads.RwCellOf+Book+O+Entry+O+O.try_read.Goals as goal
 
 pub read_and_free-reply-requires-clause-within : goal.read_and_free-reply-requires-clause-within
@@ -33,3 +36,10 @@ returns-clause-last g c = let o = c.in_default.ensures.ok in let O = g.O.Object 
     (p.items ∙ (λ j. i.reads.items ++ record { worker = (c.number-worker.ensures ∙ (ap (λ (z : PassModel BookModel). z.own.reg.me) o.0 ∙ ap (λ (z : RwPassModel _). z.reg.me) c.pass.view_is)) j; call = c.args.call.now; reply = f.result.0; receipt = f.result.1.place } ∷ []))
     o.1.0 (ap (λ (z : PassModel BookModel). z.own.reg.me) o.0) (ap (λ (z : PassModel BookModel). z.initial_state) o.0) (ap (λ (z : PassModel BookModel). z.board) o.0) f.ensures.pass
     c.args.pass.now c.pass.view_is f.ensures.reply f.ensures.place c.requires.left) refl
+
+pub returns-clause-finds : goal.returns-clause-finds
+returns-clause-finds g c = let i = c.pass.inside in let o = c.in_default.ensures.ok in let f = c.read_and_free-reply in
+    subst (λ (z : RwPassModel _). FindsMore z.found f.new.pass.found) c.pass.view_is (finds-both i.pass.found c.attempt.new.self.found f.new.pass.found (o.2.0 ∷ [], o.2.2) f.ensures.finds)
+
+pub returns-in-Err-clause-turned_away : goal.returns-in-Err-clause-turned_away
+returns-in-Err-clause-turned_away g c = let i = c.pass.inside in read-turned i.pass c.attempt.new.self i.left i.attr i.reads.items c.in-Err.word c.args.pass.now c.pass.view_is c.in-Err.ensures.err

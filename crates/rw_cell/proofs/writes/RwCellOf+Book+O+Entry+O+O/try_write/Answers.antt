@@ -1,7 +1,9 @@
-use Rattle.std.proofs.Common.{◌≡◌, ℕ, ◌<◌, sym, ap, ◌∙◌, subst, List, ◌≤◌, length, All, refl}
+use Rattle.std.proofs.Common.{◌≡◌, ℕ, ◌<◌, sym, ap, ◌∙◌, subst, List, [], ◌∷◌, ◌≤◌, length, All, refl}
 use Rattle.shfl_table.specs.PassModel.{PassModel, BoardId}
 use Rattle.shfl_table.specs.Books.{BookModel}
 use Rattle.hist_log.specs.declared.entry.Entry.{Entry}
+use Rattle.shfl_table.specs.Waits.{FindsMore}
+use Rattle.shfl_table.proofs.WaitSteps.{finds-both}
 use Rattle.rw_cell.specs.RwCells.{RwPassModel, RwCellModel}
 use Rattle.rw_cell.proofs.HeldCopies.{all-copies}
 use Rattle.rw_cell.proofs.LastCalls.{last_write}
@@ -31,3 +33,7 @@ returns-clause-last g c = let o = c.in_default.ensures.ok in let O = g.O.Object 
     (makes_write O.reply_at O.state_after i.pass c.attempt.new.self f.new.pass i.left i.attr i.reads.items (O.call_numbers c.args.call.now) (O.reply_numbers f.result.0) f.result.1.place
     o.1.0 (ap (λ (z : PassModel BookModel). z.own.reg.me) o.0) (ap (λ (z : PassModel BookModel). z.initial_state) o.0) (ap (λ (z : PassModel BookModel). z.board) o.0) f.ensures.pass
     c.args.pass.now c.pass.view_is f.ensures.legal f.ensures.place c.requires.left)
+
+pub returns-clause-finds : goal.returns-clause-finds
+returns-clause-finds g c = let i = c.pass.inside in let o = c.in_default.ensures.ok in let f = c.write_and_free in
+    subst (λ (z : RwPassModel _). FindsMore z.found f.new.pass.found) c.pass.view_is (finds-both i.pass.found c.attempt.new.self.found f.new.pass.found (o.2.0 ∷ [], o.2.2) f.ensures.finds)

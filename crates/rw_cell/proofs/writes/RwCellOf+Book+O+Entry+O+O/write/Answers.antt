@@ -1,7 +1,8 @@
 use Rattle.std.proofs.Common.{◌≡◌, ℕ, ◌<◌, sym, ap, ◌∙◌, subst, List, ◌≤◌, length, All, refl}
 use Rattle.shfl_table.specs.PassModel.{BoardId}
 use Rattle.shfl_line.specs.declared.events.Mode.TheVariants.{Write}
-use Rattle.shfl_table.proofs.WaitSteps.{has-hold}
+use Rattle.shfl_table.specs.Waits.{FindsMore}
+use Rattle.shfl_table.proofs.WaitSteps.{finds-both, has-hold}
 use Rattle.hist_log.specs.declared.entry.Entry.{Entry}
 use Rattle.rw_cell.specs.RwCells.{RwPassModel, RwCellModel}
 use Rattle.rw_cell.proofs.HeldCopies.{all-copies}
@@ -32,3 +33,7 @@ returns-clause-last g c = let w = c.wait_for.ensures.waited in let q = c.wait_fo
     (makes_write O.reply_at O.state_after i.pass q f.new.pass i.left i.attr i.reads.items (O.call_numbers c.args.call.now) (O.reply_numbers f.result.0) f.result.1.place
     (w.within Write (has-hold q.own Write c.wait_for.ensures.holds w.mode_is)).0 w.number w.root_is w.board f.ensures.pass
     c.args.pass.now c.pass.view_is f.ensures.legal f.ensures.place c.requires.left)
+
+pub returns-clause-finds : goal.returns-clause-finds
+returns-clause-finds g c = let i = c.pass.inside in let q = c.wait_for.new.pass in let f = c.write_and_free-answer in
+    subst (λ (z : RwPassModel _). FindsMore z.found f.new.pass.found) c.pass.view_is (finds-both i.pass.found q.found f.new.pass.found c.wait_for.ensures.waited.finds f.ensures.finds)

@@ -1,7 +1,8 @@
 use Rattle.std.proofs.Common.{◌≡◌, ℕ, ◌<◌, sym, subst}
 use Rattle.shfl_line.specs.declared.events.Mode.TheVariants.{Write}
 use Rattle.shfl_cell.specs.Cells.{CellPassModel}
-use Rattle.shfl_table.proofs.WaitSteps.{has-hold}
+use Rattle.shfl_table.specs.Waits.{FindsMore}
+use Rattle.shfl_table.proofs.WaitSteps.{finds-both, has-hold}
 use Rattle.shfl_cell.proofs.MadeCalls.{one-value, makes_call, kept_after}
 use Rattle.shfl_cell.proofs.calls.ShflCellOf+Book+O.apply.Goals as goal
 
@@ -20,3 +21,7 @@ returns-clause-made g c = let w = c.wait_for.ensures.waited in let q = c.wait_fo
     makes_call O.reply_at O.state_after i.pass q c.call_and_free-answer.new.pass i.left i.attr (O.call_numbers c.args.call.now) (O.reply_numbers c.call_and_free-answer.result.0) c.call_and_free-answer.result.1.place
     (w.within Write (has-hold q.own Write c.wait_for.ensures.holds w.mode_is)).0 w.number w.root_is w.board c.call_and_free-answer.ensures.pass
     c.args.pass.now c.pass.view_is c.call_and_free-answer.ensures.legal c.call_and_free-answer.ensures.place c.requires.left
+
+pub returns-clause-finds : goal.returns-clause-finds
+returns-clause-finds g c = let i = c.pass.inside in let q = c.wait_for.new.pass in
+    subst (λ (z : CellPassModel). FindsMore z.found c.call_and_free-answer.new.pass.found) c.pass.view_is (finds-both i.pass.found q.found c.call_and_free-answer.new.pass.found c.wait_for.ensures.waited.finds c.call_and_free-answer.ensures.finds)

@@ -1,6 +1,8 @@
-use Rattle.std.proofs.Common.{◌≡◌, ℕ, ◌<◌, sym, ap, ◌∙◌, subst}
+use Rattle.std.proofs.Common.{◌≡◌, ℕ, ◌<◌, [], ◌∷◌, sym, ap, ◌∙◌, subst}
 use Rattle.shfl_table.specs.PassModel.{PassModel, BoardId}
 use Rattle.shfl_table.specs.Books.{BookModel}
+use Rattle.shfl_table.specs.Waits.{FindsMore}
+use Rattle.shfl_table.proofs.WaitSteps.{finds-both}
 use Rattle.shfl_cell.specs.Cells.{CellPassModel}
 use Rattle.shfl_cell.proofs.MadeCalls.{one-value, makes_call, kept_after}
 use Rattle.shfl_cell.proofs.calls.ShflCellOf+Book+O.try_apply.Goals as goal
@@ -20,3 +22,7 @@ returns-clause-made g c = let o = c.in_default.ensures.ok in let O = g.O.Object 
     makes_call O.reply_at O.state_after i.pass c.attempt.new.self c.call_and_free.new.pass i.left i.attr (O.call_numbers c.args.call.now) (O.reply_numbers c.call_and_free.result.0) c.call_and_free.result.1.place
     o.1.0 (ap (λ (z : PassModel BookModel). z.own.reg.me) o.0) (ap (λ (z : PassModel BookModel). z.initial_state) o.0) (ap (λ (z : PassModel BookModel). z.board) o.0) c.call_and_free.ensures.pass
     c.args.pass.now c.pass.view_is c.call_and_free.ensures.legal c.call_and_free.ensures.place c.requires.left
+
+pub returns-clause-finds : goal.returns-clause-finds
+returns-clause-finds g c = let i = c.pass.inside in let o = c.in_default.ensures.ok in
+    subst (λ (z : CellPassModel). FindsMore z.found c.call_and_free.new.pass.found) c.pass.view_is (finds-both i.pass.found c.attempt.new.self.found c.call_and_free.new.pass.found (o.2.0 ∷ [], o.2.2) c.call_and_free.ensures.finds)

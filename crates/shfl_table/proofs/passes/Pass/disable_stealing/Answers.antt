@@ -1,5 +1,4 @@
-use Rattle.std.proofs.Common.{refl, ap, ◌∙◌}
-use Rattle.shfl_table.specs.PassModel.{PassModel}
+use Rattle.std.proofs.Common.{refl}
 use Rattle.shfl_table.proofs.HeadDisables.{disabling-kept, disabling-told}
 use Rattle.shfl_table.proofs.passes.Pass.disable_stealing.Goals as goal
 
