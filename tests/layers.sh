@@ -77,7 +77,8 @@ look() {
             if (bad) exit 1
             for (i = 1; i <= lines; i++) {
                 if (drawn_line[i] && line[i] ~ /commands/) draw()
-                if (!drawn_line[i] || line[i] ~ /^```|^ (toolchain|tests) /) print line[i]
+                if (line[i] ~ /^ (toolchain|tests) /) behind = 1
+                if (!drawn_line[i] || behind || line[i] ~ /^```/) print line[i]
             }
             exit
         }

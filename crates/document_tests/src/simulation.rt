@@ -1,7 +1,8 @@
 //! Runs whose figures another program gave, written from the same model in another language.
 use shfl_core::Rules;
 use shfl_line::{Attr, Form};
-use sim_model::{BuiltIn, Costs, Layout, Run, Setup, Tries, Work, cores_of, simulate};
+use sim_model::{Run, simulate};
+use sim_setup::{BuiltIn, Costs, Layout, Setup, Tries, Work, cores_of};
 use std::alloc::Global;
 use std::process::Abort;
 

@@ -1,5 +1,4 @@
 pub mod Through
 pub mod Standing
 pub mod Passing
-pub mod MayMove
 pub mod Queued

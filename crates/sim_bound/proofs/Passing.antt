@@ -19,16 +19,16 @@ use Rattle.shfl_core.specs.Worlds.{World, Move, Acquire, Release, known, placed_
 use Rattle.shfl_laws.specs.Changes.{Moves, shown_events}
 use Rattle.shfl_bound.specs.Departures.{leaver, is_through}
 use Rattle.shfl_bound.specs.Stealing.{stealer}
+use Rattle.sim_setup.specs.declared.setup.Setup.{Setup}
+use Rattle.sim_setup.specs.Clock.{plus}
 use Rattle.sim_model.specs.declared.bench.Bench.{Bench}
 use Rattle.sim_model.specs.declared.counts.Served.{Served}
-use Rattle.sim_model.specs.declared.setup.Setup.{Setup}
 use Rattle.sim_model.specs.declared.turns.Entry.{Entry}
 use Rattle.sim_model.specs.declared.turns.Stand.{Stand}
 use Rattle.sim_model.specs.declared.turns.Stand.TheVariants.{Due, Sleeps}
 use Rattle.sim_model.specs.declared.turns.Turn.{Turn}
 use Rattle.sim_model.specs.declared.turns.Turn.TheVariants.{Call, Step, Gain, Free}
 use Rattle.sim_model.specs.Calls.{nobody_served, served_at, called, gained, overtaken, passed_once, all_overtaken}
-use Rattle.sim_model.specs.Clock.{plus}
 use Rattle.sim_model.specs.Laws.{IsFit}
 use Rattle.sim_model.specs.Runs.{Answers, State, with_call, with_gain, data_of, is_read, wait_of, step_move, call_move, and_step, turn_moves, turn_bench, after_turn, next_turn, turning, ran, moves_of, opening_state}
 use Rattle.sim_model.specs.Steps.{advice_at, made_by, settled}

@@ -4,29 +4,30 @@ use Rattle.std.specs.Prelude.{map}
 use Rattle.std.proofs.lemmas.List.{length-map}
 use Rattle.shfl_line.specs.Words.{attr_word}
 use Rattle.shfl_line.specs.declared.events.LineEvent.{LineEvent}
-use Rattle.shfl_line.specs.declared.events.Form.{Form}
 use Rattle.shfl_line.specs.Line.{Line}
 use Rattle.shfl_core.specs.declared.phase.Rules.{Rules}
 use Rattle.shfl_core.specs.ShownLine.{shown_line}
 use Rattle.shfl_core.specs.Worlds.{World, Move, after_move, run, opening}
 use Rattle.shfl_core.specs.Lawful.{Terms, Lawful}
-use Rattle.shfl_laws.specs.Moves.{EachMayMove, terms}
+use Rattle.shfl_laws.specs.Moves.{terms}
 use Rattle.shfl_laws.proofs.laws.Opens.{opening-law}
 use Rattle.shfl_laws.proofs.shown.ShownLine.{shown-line-law}
 use Rattle.shfl_laws.specs.Changes.{Change, Moves, after_changes, shown_events, EachMayChange}
 use Rattle.shfl_bound.specs.Departures.{Waits, ahead, leaver, left_before}
 use Rattle.shfl_bound.proofs.Staying.{left-more}
 use Rattle.shfl_bound.proofs.Bound.{waiter-bound, history-lawful}
-use Rattle.sim_model.specs.Runs.{State, ran, moves_of, opening_state}
+use Rattle.sim_setup.specs.declared.setup.Setup.{Setup}
+use Rattle.sim_model.specs.Runs.{Answers, State, ran, moves_of, opening_state}
+use Rattle.sim_model.proofs.Allowed.{each-allowed}
 use Rattle.sim_model.proofs.Scheduled.{runs-are-schedules}
 use Rattle.sim_model.proofs.Turned.{opening-kept}
 use Rattle.sim_bound.specs.Overtaken.{departures, StaysIn, QueuedBound}
 use Rattle.sim_bound.proofs.Passing.{passed-bound, kept-ran}
-use Rattle.sim_bound.proofs.MayMove.{may-move}
 
-may-change : (form : Form) (ms : List Move) → EachMayMove form ms → EachMayChange form (map Moves ms)
-may-change form [] may = tt
-may-change form (m ∷ ms) may = (may.0, may-change form ms may.1)
+-- the lock's form allows each change of a run
+may-change : (s : Setup) (answers : Answers) (n : ℕ) (st : State) → EachMayChange s.rules.form (map Moves (moves_of s answers n st))
+may-change s answers = each-allowed s answers (λ ms. EachMayChange s.rules.form (map Moves ms)) tt
+    (λ p mode ms may rest. (may, rest)) (λ p ms rest. (tt, rest)) (λ p choice ms rest. (tt, rest))
 
 run-changes : (t : Rules) (w : World) (ms : List Move) → after_changes t w (map Moves ms) ≡ run t w ms
 run-changes t w [] = refl
@@ -52,8 +53,8 @@ queued-bound s answers n k attrs x up may waits stays =
     let ms = moves_of s answers n (opening_state s attrs) in
     let e : after_changes s.rules (opening attrs) (map Moves ms) ≡ st.world = run-changes s.rules (opening attrs) ms ∙ sym (runs-are-schedules s answers n (opening_state s attrs)) in
     let ok : Lawful (terms s.rules attrs) st.world = subst (Lawful (terms s.rules attrs)) e (history-lawful (terms s.rules attrs) (map Moves ms) (opening attrs) (opening-law s.rules attrs may).lawful
-    (may-change s.rules.form ms (may-move s answers n (opening_state s attrs)))) in
+    (may-change s answers n (opening_state s attrs))) in
     let kept = kept-ran s answers up.until n 0 (opening_state s attrs) (opening-kept s attrs up) in
     let shows : ok.shown ≡ shown_line st.world = shown-line-law (terms s.rules attrs) st.world ok (kept.1.passes ∙ (sym up.passes ∙ sym (length-map attrs attr_word))) in
-    let few = few-leave (terms s.rules attrs) st.world ok shows x (map Moves (moves_of s answers k st)) (may-change s.rules.form (moves_of s answers k st) (may-move s answers k st)) waits stays in
+    let few = few-leave (terms s.rules attrs) st.world ok shows x (map Moves (moves_of s answers k st)) (may-change s answers k st) waits stays in
     let all = passed-bound s answers n k attrs x up in omega arith

@@ -5,15 +5,15 @@ use Rattle.shfl_line.proofs.Chain
 use Rattle.shfl_core.specs.Holding.{total}
 use Rattle.shfl_core.specs.Words.{site}
 use Rattle.shfl_core.specs.declared.words.Word.TheVariants.{Lock}
+use Rattle.sim_setup.specs.declared.setup.Setup.{Setup}
+use Rattle.sim_setup.specs.declared.setup.Costs.{Costs}
+use Rattle.sim_setup.specs.Clock.{plus, later}
+use Rattle.sim_setup.specs.Places.{is_load, rung, line_of}
 use Rattle.sim_model.specs.declared.bench.Bench.{Bench}
-use Rattle.sim_model.specs.declared.setup.Setup.{Setup}
-use Rattle.sim_model.specs.declared.setup.Costs.{Costs}
 use Rattle.sim_model.specs.declared.steps.Made.{Made}
 use Rattle.sim_model.specs.declared.turns.Stand.{Stand}
 use Rattle.sim_model.specs.declared.turns.Stand.TheVariants.{Due, Spins, Sleeps}
 use Rattle.sim_model.specs.declared.turns.Turn.TheVariants.{Call, Step}
-use Rattle.sim_model.specs.Clock.{plus, later}
-use Rattle.sim_model.specs.Places.{is_load, rung, line_of}
 use Rattle.sim_model.specs.Steps.{raised, with_ring, with_touch, with_stand, touched_by, ended, settled}
 use Rattle.sim_model.specs.Tries.{tried_at, pause_after, with_attempt}
 use Rattle.sim_model.specs.Turns.{stand_at, woken, all_woken}

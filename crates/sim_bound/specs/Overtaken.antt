@@ -10,7 +10,7 @@ use Rattle.shfl_laws.specs.Moves.{MayOpen}
 use Rattle.shfl_laws.specs.Changes.{Moves, shown_events}
 use Rattle.shfl_bound.specs.Departures.{Waits, ahead, leaver, is_through}
 use Rattle.shfl_bound.specs.Stealing.{stealer}
-use Rattle.sim_model.specs.declared.setup.Setup.{Setup}
+use Rattle.sim_setup.specs.declared.setup.Setup.{Setup}
 use Rattle.sim_model.specs.declared.turns.Stand.{Stand}
 use Rattle.sim_model.specs.declared.turns.Stand.TheVariants.{Due}
 use Rattle.sim_model.specs.declared.turns.Turn.TheVariants.{Free}

@@ -1,7 +1,7 @@
 -- A chart of bars: a title, and a row for each bar, whose length is its amount beside the largest.
 use Rattle.std.specs.Prelude.{ℕ, ◌+◌, ◌-◌, ◌/◌, ◌==◌, List, [], ◌∷◌, ◌++◌, fold, min, if◌then◌else◌}
 use Rattle.std.specs.Fmt.{decimal}
-use Rattle.sim_model.specs.Clock.{times, later}
+use Rattle.sim_setup.specs.Clock.{times, later}
 use Rattle.markup_text.specs.Escaping.{escaped}
 use Rattle.sim_chart.specs.Shapes.{text_at, text_end, rect_text}
 

@@ -1,6 +1,6 @@
 //! Charts of bars.
 ghost use Rattle.std.specs.Prelude.{◌≡◌, ◌≤◌, ◌+◌, ◌++◌, length, OnOk};
-ghost use Rattle.sim_model.specs.Clock.{later};
+ghost use Rattle.sim_setup.specs.Clock.{later};
 ghost use Rattle.sim_chart.specs.Bars as charts;
 
 use crate::shapes::{push_rect, push_text_at, push_text_end};
@@ -29,7 +29,7 @@ impl Model for Bar {
     ghost view = { λ b. record { label = b.label.items; amount = b.amount } };
 }
 
-#[tactic(auto, unfolding(sim_model::specs::Clock::later))]
+#[tactic(auto, unfolding(sim_setup::specs::Clock::later))]
 fn larger(most: u64, amount: u64) -> u64
     ensures { result ≡ later most amount }
 {
@@ -46,7 +46,7 @@ fn largest_of(bars: &[Bar]) -> u64
     most
 }
 
-#[tactic(auto, unfolding(crate::specs::Bars::width_of, sim_model::specs::Clock::times))]
+#[tactic(auto, unfolding(crate::specs::Bars::width_of, sim_setup::specs::Clock::times))]
 fn width_of(largest: u64, amount: u64) -> u64
     ensures width { result ≡ charts.width_of largest amount }
     ensures short { result ≤ 400 }

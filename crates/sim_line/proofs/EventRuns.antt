@@ -7,7 +7,7 @@ use Rattle.shfl_core.specs.Worlds.{World, run, opening}
 use Rattle.sim_model.specs.declared.bench.Bench.{Bench}
 use Rattle.sim_line.specs.declared.events.Event.{Event}
 use Rattle.sim_line.specs.declared.events.Event.TheVariants.{Step as StepEvent}
-use Rattle.sim_model.specs.declared.setup.Setup.{Setup}
+use Rattle.sim_setup.specs.declared.setup.Setup.{Setup}
 use Rattle.sim_model.specs.declared.turns.Entry.{Entry}
 use Rattle.sim_model.specs.declared.turns.Turn.{Turn}
 use Rattle.sim_model.specs.declared.turns.Turn.TheVariants.{Call, Step, Gain, Free}

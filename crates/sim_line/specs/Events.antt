@@ -6,8 +6,8 @@ use Rattle.shfl_line.specs.declared.events.Mode.TheVariants as mode
 use Rattle.shfl_core.specs.Worlds.{World, Move, Acquire, Release, Step as Advance}
 use Rattle.sim_line.specs.declared.events.Event.{Event}
 use Rattle.sim_line.specs.declared.events.Event.TheVariants.{Write, Read, Free, Step}
+use Rattle.sim_setup.specs.declared.setup.Setup.{Setup}
 use Rattle.sim_model.specs.declared.bench.Bench.{Bench}
-use Rattle.sim_model.specs.declared.setup.Setup.{Setup}
 use Rattle.sim_model.specs.declared.turns.Turn.{Turn}
 use Rattle.sim_model.specs.declared.turns.Turn.TheVariants as turns
 use Rattle.sim_model.specs.declared.turns.Turn.TheVariants.{Call, Gain}

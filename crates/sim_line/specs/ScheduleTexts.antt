@@ -11,8 +11,8 @@ use Rattle.policy_text.specs.Programs.{program_word}
 use Rattle.doc_text.specs.Text.{ended}
 use Rattle.shfl_line.specs.declared.words.Attr.{Attr}
 use Rattle.shfl_line.specs.declared.events.Form.{Form}
-use Rattle.sim_model.specs.declared.built_in.BuiltIn.{BuiltIn}
-use Rattle.sim_model.specs.declared.built_in.BuiltIn.TheVariants.{Never, Always, Socket}
+use Rattle.sim_setup.specs.declared.built_in.BuiltIn.{BuiltIn}
+use Rattle.sim_setup.specs.declared.built_in.BuiltIn.TheVariants.{Never, Always, Socket}
 use Rattle.sim_line.specs.declared.events.Event.{Event}
 use Rattle.sim_line.specs.declared.events.Event.TheVariants.{Write, Read, Free, Step}
 use Rattle.sim_line.specs.Events.{first_events}

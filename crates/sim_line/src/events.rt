@@ -6,9 +6,9 @@ ghost use Rattle.sim_model.specs.Runs as runs;
 use shfl_core::PlainWorld;
 use shfl_line::{Attr, Mode, NoMemory};
 use sim_model::{
-    Adviser, AnyWaiter, Bench, Entry, Setup, Turn, in_vain, mode_of, next_entry, open_lock,
-    opening, take_turn,
+    AnyWaiter, Bench, Entry, Turn, in_vain, mode_of, next_entry, open_lock, opening, take_turn,
 };
+use sim_setup::{Adviser, Setup};
 use std::alloc::{AllocError, Global};
 
 /// What a pass does to the lock: it asks for it, alone or as a reader, gives it back, or makes its next step.

@@ -10,8 +10,8 @@ use bpf_verifier::Program;
 use lock_words::form_name;
 use policy_text::{NoMemory, push_attr, push_heading, push_program};
 use shfl_line::{Attr, Form};
-use sim_model::BuiltIn;
 use sim_report::{push_figure, run_setup};
+use sim_setup::BuiltIn;
 use sim_text::{Candidate, Rule, SimSetup};
 use std::alloc::{AllocError, Global};
 

@@ -11,17 +11,17 @@ use Rattle.shfl_core.specs.Take.{take, acquired, released}
 use Rattle.shfl_core.specs.Waiting.{idle}
 use Rattle.shfl_core.specs.Words.{look, index, site, put}
 use Rattle.shfl_core.specs.Worlds.{World, Acquire, Release, Step as Advance, known, stepped, placed_at, after_move, run, opening}
+use Rattle.sim_setup.specs.declared.setup.Setup.{Setup}
+use Rattle.sim_setup.specs.Clock.{plus}
+use Rattle.sim_setup.specs.Places.{is_load, line_of, rung}
 use Rattle.sim_model.specs.declared.bench.Bench.{Bench}
-use Rattle.sim_model.specs.declared.setup.Setup.{Setup}
 use Rattle.sim_model.specs.declared.steps.Made.{Made}
 use Rattle.sim_model.specs.declared.turns.Entry.{Entry}
 use Rattle.sim_model.specs.declared.turns.Stand.{Stand}
 use Rattle.sim_model.specs.declared.turns.Stand.TheVariants.{Due, Spins, Sleeps}
 use Rattle.sim_model.specs.declared.turns.Turn.{Turn}
 use Rattle.sim_model.specs.declared.turns.Turn.TheVariants.{Call, Step, Gain, Free}
-use Rattle.sim_model.specs.Clock.{plus}
 use Rattle.sim_model.specs.Laws.{IsSetUp, HasNoTurn, IsStill, PollsChangeNothing}
-use Rattle.sim_model.specs.Places.{is_load, line_of, rung}
 use Rattle.sim_model.specs.Runs.{Answers, State, with_call, with_gain, data_of, step_move, call_move, and_step, turn_moves, turn_bench, after_turn, next_turn, turning, ran, opening_state}
 use Rattle.sim_model.specs.Steps.{advice_at, made_by, rest_of, ended, touched_by, with_touch, with_ring, stand_after, with_stand, settled}
 use Rattle.sim_model.specs.Tries.{mode_wanted, in_vain, with_attempt}

@@ -8,13 +8,14 @@ use Rattle.shfl_line.specs.declared.events.Mode.{Mode}
 use Rattle.shfl_core.specs.declared.words.Word.{Word}
 use Rattle.shfl_core.specs.declared.words.Word.TheVariants.{Lock, Tail, Next, State as StateOf, Attr, Bell}
 use Rattle.shfl_core.specs.Worlds.{World, after_move}
+use Rattle.sim_setup.specs.declared.lines.Reach.{Reach}
+use Rattle.sim_setup.specs.declared.lines.Reach.TheVariants.{Hit, Near, Far}
+use Rattle.sim_setup.specs.declared.setup.Setup.{Setup}
+use Rattle.sim_setup.specs.Clock.{plus}
 use Rattle.sim_model.specs.declared.bench.Bench.{Bench}
 use Rattle.sim_model.specs.declared.counts.Counts.{Counts}
 use Rattle.sim_model.specs.declared.counts.Reaches.{Reaches}
 use Rattle.sim_model.specs.declared.counts.Served.{Served}
-use Rattle.sim_model.specs.declared.lines.Reach.{Reach}
-use Rattle.sim_model.specs.declared.lines.Reach.TheVariants.{Hit, Near, Far}
-use Rattle.sim_model.specs.declared.setup.Setup.{Setup}
 use Rattle.sim_model.specs.declared.steps.Made.{Made}
 use Rattle.sim_model.specs.declared.turns.Entry.{Entry}
 use Rattle.sim_model.specs.declared.turns.Turn.{Turn}
@@ -22,7 +23,6 @@ use Rattle.sim_model.specs.declared.turns.Turn.TheVariants.{Call, Step, Gain, Fr
 use Rattle.sim_model.specs.Firsts.{mapped}
 use Rattle.sim_model.specs.Openings.{opening_served}
 use Rattle.sim_model.specs.Calls.{nobody_served, served_at, called, gained, overtaken, all_overtaken, in_order, passed_once}
-use Rattle.sim_model.specs.Clock.{plus}
 use Rattle.sim_model.specs.Counts.{reached, with_access, with_step}
 use Rattle.sim_model.specs.Sums.{reaches_of, accesses_of, gains_of, SumsAgree}
 use Rattle.sim_model.specs.Runs.{Answers, State, with_call, call_move, with_gain, listed, turn_bench, turn_wait, after_turn, next_turn, turning, ran, opening_state}

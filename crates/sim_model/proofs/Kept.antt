@@ -13,14 +13,14 @@ use Rattle.shfl_core.specs.declared.phase.Rules.{Rules}
 use Rattle.shfl_core.specs.Plan.{moving, is_idle, is_resting}
 use Rattle.shfl_core.specs.Runner.{is_parked}
 use Rattle.shfl_core.specs.Take.{take, take_by}
-use Rattle.sim_model.specs.declared.setup.Setup.{Setup}
-use Rattle.sim_model.specs.declared.setup.Costs.{Costs}
+use Rattle.sim_setup.specs.declared.setup.Setup.{Setup}
+use Rattle.sim_setup.specs.declared.setup.Costs.{Costs}
+use Rattle.sim_setup.specs.Clock.{plus, later}
+use Rattle.sim_setup.specs.Draws.{thought}
 use Rattle.sim_model.specs.declared.steps.Rest.TheVariants.{Spins as SpinsOn, Sleeps as SleepsOn, Holds, Away, Goes}
 use Rattle.sim_model.specs.declared.turns.Stand.{Stand}
 use Rattle.sim_model.specs.declared.turns.Stand.TheVariants.{Due, Spins, Sleeps}
 use Rattle.sim_model.specs.declared.turns.Turn.TheVariants.{Step}
-use Rattle.sim_model.specs.Clock.{plus, later}
-use Rattle.sim_model.specs.Draws.{thought}
 use Rattle.sim_model.specs.Laws.{IsFit, IsNotBefore}
 use Rattle.sim_model.specs.Steps.{at_look, at_peek, at_head_look, at_late, is_same_look, is_awake, is_first, rest_of, stand_after, raised, with_ring, rung_ends, waking_ends}
 use Rattle.sim_model.specs.Turns.{stand_at, woken, all_woken}

@@ -1,3 +1,4 @@
+pub mod Allowed
 pub mod Attempts
 pub mod Calm
 pub mod Counted

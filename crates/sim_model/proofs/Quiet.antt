@@ -16,7 +16,7 @@ use Rattle.shfl_core.specs.Plan.{plan, plan_at, plan_by, parks, shares}
 use Rattle.shfl_core.specs.Runner.{is_parked}
 use Rattle.shfl_core.specs.Take.{to, seek, looked, heir_found, take, take_at, take_by}
 use Rattle.shfl_core.specs.Words.{site, put, free_for}
-use Rattle.sim_model.specs.Places.{rung}
+use Rattle.sim_setup.specs.Places.{rung}
 use Rattle.sim_model.specs.Steps.{at_look, at_peek, at_head_look, at_late, is_same_look, is_awake}
 
 -- with n in its word, the step would change neither the word nor the pass

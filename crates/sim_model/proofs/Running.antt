@@ -5,8 +5,8 @@ use Rattle.shfl_line.specs.declared.words.Attr.{Attr}
 use Rattle.shfl_core.specs.Runner.{Lock, opened}
 use Rattle.shfl_core.specs.Worlds.{World, Move, Acquire, Release, Step, admitted, made, after_move, run, opening}
 use Rattle.shfl_core.proofs.Opening.{idle-from-long}
+use Rattle.sim_setup.specs.declared.setup.Setup.{Setup}
 use Rattle.sim_model.specs.declared.bench.Bench.{Bench}
-use Rattle.sim_model.specs.declared.setup.Setup.{Setup}
 use Rattle.sim_model.specs.declared.turns.Entry.{Entry}
 use Rattle.sim_model.specs.Openings.{opening_bench}
 use Rattle.sim_model.specs.Runs.{Answers, State, state_of, after_moves, turn_moves, turn_bench, turn_wait, listed, after_turn, next_turn, turning, ran, opening_state}

@@ -2,7 +2,7 @@
 use Rattle.std.proofs.Common.{◌≡◌, ℕ, zero, suc, List, [], ◌∷◌, ◌++◌, refl, sym, ◌∙◌, Option, Some, None}
 use Rattle.shfl_core.specs.declared.phase.Rules.{Rules}
 use Rattle.shfl_core.specs.Worlds.{World, Move, after_move, run}
-use Rattle.sim_model.specs.declared.setup.Setup.{Setup}
+use Rattle.sim_setup.specs.declared.setup.Setup.{Setup}
 use Rattle.sim_model.specs.declared.turns.Entry.{Entry}
 use Rattle.sim_model.specs.Runs.{Answers, State, ran, moves_of, next_turn, turning, turn_moves, after_turn}
 use Rattle.sim_model.specs.Laws.{RunsAreSchedules}

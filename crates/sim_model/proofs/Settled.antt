@@ -9,19 +9,19 @@ use Rattle.shfl_core.specs.Take.{take}
 use Rattle.shfl_core.specs.Waiting.{idle}
 use Rattle.shfl_core.specs.Words.{look, site}
 use Rattle.shfl_core.specs.Worlds.{World, Step, known, stepped, after_move}
+use Rattle.sim_setup.specs.declared.lines.Line.{Line}
+use Rattle.sim_setup.specs.declared.lines.Reach.{Reach}
+use Rattle.sim_setup.specs.declared.lines.Reach.TheVariants.{Hit, Near, Far}
+use Rattle.sim_setup.specs.declared.setup.Core.{Core}
+use Rattle.sim_setup.specs.declared.setup.Costs.{Costs}
+use Rattle.sim_setup.specs.declared.setup.Setup.{Setup}
+use Rattle.sim_setup.specs.Clock.{later}
+use Rattle.sim_setup.specs.Lines.{touched, touched_at, reach_of, cost_of}
+use Rattle.sim_setup.specs.Places.{is_load, line_of, rung, core_at, line_at}
 use Rattle.sim_model.specs.declared.bench.Bench.{Bench}
-use Rattle.sim_model.specs.declared.lines.Line.{Line}
-use Rattle.sim_model.specs.declared.lines.Reach.{Reach}
-use Rattle.sim_model.specs.declared.lines.Reach.TheVariants.{Hit, Near, Far}
-use Rattle.sim_model.specs.declared.setup.Core.{Core}
-use Rattle.sim_model.specs.declared.setup.Costs.{Costs}
-use Rattle.sim_model.specs.declared.setup.Setup.{Setup}
 use Rattle.sim_model.specs.declared.steps.Made.{Made}
 use Rattle.sim_model.specs.declared.turns.Stand.{Stand}
 use Rattle.sim_model.specs.declared.turns.Stand.TheVariants.{Due, Spins, Sleeps}
-use Rattle.sim_model.specs.Clock.{later}
-use Rattle.sim_model.specs.Lines.{touched, touched_at, reach_of, cost_of}
-use Rattle.sim_model.specs.Places.{is_load, line_of, rung, core_at, line_at}
 use Rattle.sim_model.specs.Runs.{Answers}
 use Rattle.sim_model.specs.Steps.{advice_at, made_by, rest_of, ended, touched_by, with_touch, raised, with_ring, stand_after, with_stand, settled}
 use Rattle.sim_model.specs.Turns.{stand_at, woken, all_woken}

@@ -18,14 +18,14 @@ use Rattle.shfl_core.specs.Runner.{is_parked}
 use Rattle.shfl_core.specs.Take.{take, take_at, take_by}
 use Rattle.shfl_core.specs.Words.{look, index, site, put}
 use Rattle.shfl_core.proofs.Standing.{apart}
-use Rattle.sim_model.specs.declared.setup.Setup.{Setup}
+use Rattle.sim_setup.specs.declared.setup.Setup.{Setup}
+use Rattle.sim_setup.specs.Places.{is_load, line_of, rung}
+use Rattle.sim_setup.specs.Clock.{plus, later}
 use Rattle.sim_model.specs.declared.steps.Rest.TheVariants.{Spins as SpinsOn, Sleeps as SleepsOn, Holds, Away, Goes}
 use Rattle.sim_model.specs.declared.turns.Stand.{Stand}
 use Rattle.sim_model.specs.declared.turns.Stand.TheVariants.{Due, Spins, Sleeps}
-use Rattle.sim_model.specs.Places.{is_load, line_of, rung}
 use Rattle.sim_model.specs.Steps.{is_same_look, is_awake, is_first, rest_of, raised, with_ring, stand_after}
 use Rattle.sim_model.specs.declared.turns.Turn.TheVariants.{Step}
-use Rattle.sim_model.specs.Clock.{plus, later}
 use Rattle.sim_model.specs.Turns.{stand_at, woken}
 use Rattle.sim_model.proofs.Quiet.{Quiet, looked-quiet, parked-quiet}
 

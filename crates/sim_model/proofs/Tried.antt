@@ -8,16 +8,16 @@ use Rattle.shfl_core.specs.declared.phase.PassState.{PassState}
 use Rattle.shfl_core.specs.declared.words.Word.TheVariants.{Lock}
 use Rattle.shfl_core.specs.Plan.{is_idle}
 use Rattle.shfl_core.specs.Worlds.{World, known}
+use Rattle.sim_setup.specs.declared.setup.Core.{Core}
+use Rattle.sim_setup.specs.declared.setup.Costs.{Costs}
+use Rattle.sim_setup.specs.declared.setup.Setup.{Setup}
+use Rattle.sim_setup.specs.Clock.{plus, later}
+use Rattle.sim_setup.specs.Places.{core_at, line_at, line_of}
 use Rattle.sim_model.specs.declared.bench.Bench.{Bench}
-use Rattle.sim_model.specs.declared.setup.Core.{Core}
-use Rattle.sim_model.specs.declared.setup.Costs.{Costs}
-use Rattle.sim_model.specs.declared.setup.Setup.{Setup}
 use Rattle.sim_model.specs.declared.tries.Tried.{Tried}
 use Rattle.sim_model.specs.declared.turns.Stand.{Stand}
 use Rattle.sim_model.specs.declared.turns.Stand.TheVariants.{Due, Spins, Sleeps}
 use Rattle.sim_model.specs.declared.turns.Turn.TheVariants.{Call, Step}
-use Rattle.sim_model.specs.Clock.{plus, later}
-use Rattle.sim_model.specs.Places.{core_at, line_at, line_of}
 use Rattle.sim_model.specs.Tries.{mode_wanted, operated, all_operated, tried_at, pause_after, with_attempt}
 use Rattle.sim_model.specs.Turns.{stand_at, woken, all_woken}
 use Rattle.sim_model.proofs.Kept.{Stands, plus-after, all-woken-stands}

@@ -13,23 +13,23 @@ use Rattle.shfl_core.specs.Take.{acquired, released, entry, exit}
 use Rattle.shfl_core.specs.Waiting.{idle}
 use Rattle.shfl_core.specs.Worlds.{World, Move, Acquire, Release, known, placed_at, after_move, run, idle_from}
 use Rattle.shfl_core.proofs.Opening.{idle-from-long}
+use Rattle.sim_setup.specs.declared.lines.Line.{Line}
+use Rattle.sim_setup.specs.declared.setup.Core.{Core}
+use Rattle.sim_setup.specs.declared.setup.Costs.{Costs}
+use Rattle.sim_setup.specs.declared.setup.Setup.{Setup}
+use Rattle.sim_setup.specs.Clock.{plus}
+use Rattle.sim_setup.specs.Draws.{thought, seeded}
+use Rattle.sim_setup.specs.Places.{line_at, core_at}
 use Rattle.sim_model.specs.declared.bench.Bench.{Bench}
 use Rattle.sim_model.specs.declared.counts.Reaches.{Reaches}
-use Rattle.sim_model.specs.declared.lines.Line.{Line}
-use Rattle.sim_model.specs.declared.setup.Core.{Core}
-use Rattle.sim_model.specs.declared.setup.Costs.{Costs}
-use Rattle.sim_model.specs.declared.setup.Setup.{Setup}
 use Rattle.sim_model.specs.declared.turns.Entry.{Entry}
 use Rattle.sim_model.specs.declared.turns.Stand.{Stand}
 use Rattle.sim_model.specs.declared.turns.Stand.TheVariants.{Due, Spins, Sleeps}
 use Rattle.sim_model.specs.declared.turns.Turn.{Turn}
 use Rattle.sim_model.specs.declared.turns.Turn.TheVariants.{Call, Step, Gain, Free}
 use Rattle.sim_model.specs.Calls.{data_touched}
-use Rattle.sim_model.specs.Clock.{plus}
-use Rattle.sim_model.specs.Draws.{thought, seeded}
 use Rattle.sim_model.specs.Laws.{IsFit, IsNotBefore, IsEachAdmitted, IsSetUp, RunsAreAdmitted, TimesNeverFall, IsRising, times_of}
 use Rattle.sim_model.specs.Openings.{stands_below}
-use Rattle.sim_model.specs.Places.{line_at, core_at}
 use Rattle.sim_model.specs.Runs.{Answers, State, with_call, with_gain, data_of, is_read, step_move, call_move, and_step, turn_moves, turn_bench, after_turn, in_time, next_turn, turning, moves_of, opening_state}
 use Rattle.sim_model.specs.Steps.{made_by, settled}
 use Rattle.sim_model.specs.Tries.{mode_wanted, in_vain, with_attempt}

@@ -4,19 +4,19 @@ use Rattle.shfl_line.specs.declared.events.Form.{Form}
 use Rattle.shfl_line.specs.declared.events.Mode.{Mode}
 use Rattle.shfl_line.specs.declared.events.Mode.TheVariants.{Write, Read}
 use Rattle.shfl_core.specs.Plan as core
+use Rattle.sim_setup.specs.declared.lines.Line.{Line}
+use Rattle.sim_setup.specs.declared.setup.Core.{Core}
+use Rattle.sim_setup.specs.declared.setup.Costs.{Costs}
+use Rattle.sim_setup.specs.declared.setup.Setup.{Setup}
+use Rattle.sim_setup.specs.Clock.{plus, later}
+use Rattle.sim_setup.specs.Draws.{reads, after_draw}
+use Rattle.sim_setup.specs.Lines.{touched}
+use Rattle.sim_setup.specs.Places.{line_at}
 use Rattle.sim_model.specs.declared.counts.Reaches.{Reaches}
 use Rattle.sim_model.specs.declared.counts.Served.{Served}
 use Rattle.sim_model.specs.declared.counts.Order.{Order}
-use Rattle.sim_model.specs.declared.lines.Line.{Line}
-use Rattle.sim_model.specs.declared.setup.Core.{Core}
-use Rattle.sim_model.specs.declared.setup.Costs.{Costs}
-use Rattle.sim_model.specs.declared.setup.Setup.{Setup}
-use Rattle.sim_model.specs.Clock.{plus, later}
 use Rattle.sim_model.specs.Counts.{reached, plus_if}
-use Rattle.sim_model.specs.Draws.{reads, after_draw}
 use Rattle.sim_model.specs.Firsts.{mapped}
-use Rattle.sim_model.specs.Lines.{touched}
-use Rattle.sim_model.specs.Places.{line_at}
 
 abbrev pub nobody_served : Served
 nobody_served = record { gained = 0; reads = 0; stolen = 0; waited = 0; longest = 0; overtaken = 0; waits = false; called = 0; passed = 0 }

@@ -12,12 +12,12 @@ use Rattle.shfl_core.specs.declared.phase.Nap.{Nap}
 use Rattle.shfl_core.specs.declared.phase.Nap.TheVariants.{Doze}
 use Rattle.shfl_core.specs.Plan.{is_awake}
 use Rattle.shfl_core.specs.Runner.{is_parked}
-use Rattle.sim_model.specs.declared.lines.Reach.{Reach}
-use Rattle.sim_model.specs.declared.lines.Reach.TheVariants.{Hit, Near, Far}
+use Rattle.sim_setup.specs.declared.lines.Reach.{Reach}
+use Rattle.sim_setup.specs.declared.lines.Reach.TheVariants.{Hit, Near, Far}
+use Rattle.sim_setup.specs.Clock.{plus}
 use Rattle.sim_model.specs.declared.counts.Reaches.{Reaches}
 use Rattle.sim_model.specs.declared.counts.Counts.{Counts}
 use Rattle.sim_model.specs.declared.steps.Made.{Made}
-use Rattle.sim_model.specs.Clock.{plus}
 
 -- one more where the test holds
 abbrev pub plus_if : ℕ → Bool → ℕ

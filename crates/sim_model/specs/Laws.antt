@@ -6,7 +6,7 @@ use Rattle.shfl_core.specs.declared.phase.Rules.{Rules}
 use Rattle.shfl_core.specs.declared.phase.PassState.{PassState}
 use Rattle.shfl_core.specs.Plan.{is_awake, is_idle, is_resting, moving}
 use Rattle.shfl_core.specs.Worlds.{World, Move, Acquire, Step as Advance, known, admitted, after_move, run, opening}
-use Rattle.sim_model.specs.declared.setup.Setup.{Setup}
+use Rattle.sim_setup.specs.declared.setup.Setup.{Setup}
 use Rattle.sim_model.specs.declared.turns.Turn.{Turn}
 use Rattle.sim_model.specs.declared.turns.Turn.TheVariants.{Call, Step, Gain, Free}
 use Rattle.sim_model.specs.declared.turns.Stand.{Stand}

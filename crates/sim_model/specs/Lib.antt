@@ -1,12 +1,6 @@
-pub mod Advices
-pub mod Clock
 pub mod Counts
-pub mod Draws
 pub mod Firsts
 pub mod Laws
-pub mod Lines
-pub mod Places
-pub mod Sets
 pub mod Steps
 pub mod Openings
 pub mod Runs

@@ -1,45 +1,20 @@
--- How a run opens: on which cores the passes run, who has which line, and how each pass thinks before its first call.
-use Rattle.std.specs.Prelude.{ℕ, zero, suc, ◌+◌, ◌==◌, List, Bool, cond, None, length, replicate, slice_index_or, slice_set}
-use Rattle.shfl_line.specs.declared.words.Attr.{Attr}
+-- How a run opens: who has which line, and how each pass thinks before its first call.
+use Rattle.std.specs.Prelude.{ℕ, zero, suc, ◌+◌, List, None, replicate, slice_set}
+use Rattle.sim_setup.specs.declared.lines.Line.{Line}
+use Rattle.sim_setup.specs.declared.setup.Layout.{Layout}
+use Rattle.sim_setup.specs.declared.setup.Layout.TheVariants.{Packed}
+use Rattle.sim_setup.specs.declared.setup.Setup.{Setup}
+use Rattle.sim_setup.specs.Draws.{seeded, thought, after_thought}
+use Rattle.sim_setup.specs.Sets.{core_set}
 use Rattle.sim_model.specs.declared.bench.Bench.{Bench}
 use Rattle.sim_model.specs.declared.counts.Reaches.{Reaches}
 use Rattle.sim_model.specs.declared.counts.Counts.{Counts}
 use Rattle.sim_model.specs.declared.counts.Order.{Order}
 use Rattle.sim_model.specs.declared.counts.Served.{Served}
-use Rattle.sim_model.specs.declared.lines.Line.{Line}
-use Rattle.sim_model.specs.declared.setup.Core.{Core}
-use Rattle.sim_model.specs.declared.setup.Layout.{Layout}
-use Rattle.sim_model.specs.declared.setup.Layout.TheVariants.{Packed}
-use Rattle.sim_model.specs.declared.setup.Setup.{Setup}
 use Rattle.sim_model.specs.declared.turns.Stand.{Stand}
 use Rattle.sim_model.specs.declared.turns.Stand.TheVariants.{Due, Sleeps}
 use Rattle.sim_model.specs.declared.turns.Turn.TheVariants.{Call}
 use Rattle.sim_model.specs.Calls.{nobody_served}
-use Rattle.sim_model.specs.Draws.{seeded, thought, after_thought}
-use Rattle.sim_model.specs.Sets.{no_cores, with_core, core_set}
-
-abbrev pub attr_at : List Attr → ℕ → Attr
-attr_at attrs p = slice_index_or attrs p (record { socket = 0; prio = 0; class = 0; kind = 0 })
-
--- two passes run on one socket
-abbrev pub is_mate : List Attr → ℕ → ℕ → Bool
-is_mate attrs p q = (attr_at attrs q).socket == (attr_at attrs p).socket
-
--- the set of the cores below n on the socket of the pass
-abbrev pub mates : List Attr → ℕ → ℕ → List ℕ
-mates attrs p zero = no_cores
-mates attrs p (suc n) = cond (is_mate attrs p n) (with_core (mates attrs p n) n) (mates attrs p n)
-
-abbrev pub core_of : List Attr → ℕ → Core
-core_of attrs p = record { attr = attr_at attrs p; own = core_set p; mates = mates attrs p (length attrs) }
-
-abbrev pub no_core : Core
-no_core = record { attr = record { socket = 0; prio = 0; class = 0; kind = 0 }; own = no_cores; mates = no_cores }
-
--- the cores of the first n passes
-abbrev pub cores_below : List Attr → ℕ → List Core
-cores_below attrs zero = replicate 1024 no_core
-cores_below attrs (suc n) = slice_set (cores_below attrs n) n (core_of attrs n)
 
 -- the first core has every line; then the first n passes have those of their own words
 abbrev pub lines_below : ℕ → List Line

@@ -6,17 +6,17 @@ use Rattle.shfl_line.specs.declared.events.Mode.TheVariants as mode
 use Rattle.shfl_core.specs.declared.phase.Ask.{Ask}
 use Rattle.shfl_core.specs.Runner.{Lock}
 use Rattle.shfl_core.specs.Worlds.{World, Move, Acquire, Release, Step as Advance, known, opening, after_move, run}
-use Rattle.sim_model.specs.declared.adviser.Advice.{Advice}
+use Rattle.sim_setup.specs.declared.adviser.Advice.{Advice}
+use Rattle.sim_setup.specs.declared.setup.Setup.{Setup}
+use Rattle.sim_setup.specs.Clock.{plus}
+use Rattle.sim_setup.specs.Places.{core_at}
 use Rattle.sim_model.specs.declared.bench.Bench.{Bench}
-use Rattle.sim_model.specs.declared.setup.Setup.{Setup}
 use Rattle.sim_model.specs.declared.turns.Turn.{Turn}
 use Rattle.sim_model.specs.declared.turns.Turn.TheVariants.{Call, Step, Gain, Free}
 use Rattle.sim_model.specs.declared.turns.Stand.TheVariants.{Due}
 use Rattle.sim_model.specs.declared.turns.Entry.{Entry}
 use Rattle.sim_model.specs.Calls.{served_at, draw_after, gained, all_overtaken, in_order, DataTouched, data_touched}
-use Rattle.sim_model.specs.Clock.{plus}
 use Rattle.sim_model.specs.Openings.{opening_bench}
-use Rattle.sim_model.specs.Places.{core_at}
 use Rattle.sim_model.specs.Steps.{advice_at, made_by, settled}
 use Rattle.sim_model.specs.Tries.{mode_wanted, in_vain, begun, with_attempt}
 use Rattle.sim_model.specs.Turns.{soonest}

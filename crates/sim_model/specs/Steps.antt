@@ -12,23 +12,23 @@ use Rattle.shfl_core.specs.Waiting.{ask}
 use Rattle.shfl_core.specs.Words.{site}
 use Rattle.shfl_core.specs.Worlds.{World, Step, known, after_move}
 use Rattle.shfl_line.specs.declared.words.Attr.{Attr}
-use Rattle.sim_model.specs.declared.adviser.Advice.{Advice}
+use Rattle.sim_setup.specs.declared.adviser.Advice.{Advice}
+use Rattle.sim_setup.specs.declared.lines.Touched.{Touched}
+use Rattle.sim_setup.specs.declared.setup.Costs.{Costs}
+use Rattle.sim_setup.specs.declared.setup.Setup.{Setup}
+use Rattle.sim_setup.specs.Advices.{advised}
+use Rattle.sim_setup.specs.Clock.{plus, times, later}
+use Rattle.sim_setup.specs.Draws.{thought, after_thought}
+use Rattle.sim_setup.specs.Lines.{touched}
+use Rattle.sim_setup.specs.Places.{line_of, is_load, rung, line_at, core_at}
 use Rattle.sim_model.specs.declared.bench.Bench.{Bench}
-use Rattle.sim_model.specs.declared.lines.Touched.{Touched}
-use Rattle.sim_model.specs.declared.setup.Costs.{Costs}
-use Rattle.sim_model.specs.declared.setup.Setup.{Setup}
 use Rattle.sim_model.specs.declared.steps.Made.{Made}
 use Rattle.sim_model.specs.declared.steps.Rest.{Rest}
 use Rattle.sim_model.specs.declared.steps.Rest.TheVariants.{Spins, Sleeps, Holds, Away, Goes}
 use Rattle.sim_model.specs.declared.turns.Stand.{Stand}
 use Rattle.sim_model.specs.declared.turns.Stand.TheVariants as stands
 use Rattle.sim_model.specs.declared.turns.Turn.TheVariants as turns
-use Rattle.sim_model.specs.Advices.{advised}
-use Rattle.sim_model.specs.Clock.{plus, times, later}
 use Rattle.sim_model.specs.Counts.{is_asked, with_access, with_step}
-use Rattle.sim_model.specs.Draws.{thought, after_thought}
-use Rattle.sim_model.specs.Lines.{touched}
-use Rattle.sim_model.specs.Places.{line_of, is_load, rung, line_at, core_at}
 use Rattle.sim_model.specs.Turns.{stand_at, all_woken}
 
 abbrev pub is_awake : Nap → Bool

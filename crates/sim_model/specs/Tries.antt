@@ -7,20 +7,20 @@ use Rattle.shfl_core.specs.Plan.{is_resting}
 use Rattle.shfl_core.specs.Take.{attempted}
 use Rattle.shfl_core.specs.Words.{look}
 use Rattle.shfl_core.specs.Worlds.{World, known}
+use Rattle.sim_setup.specs.declared.setup.Core.{Core}
+use Rattle.sim_setup.specs.declared.setup.Costs.{Costs}
+use Rattle.sim_setup.specs.declared.setup.Setup.{Setup}
+use Rattle.sim_setup.specs.declared.setup.Tries.{Tries}
+use Rattle.sim_setup.specs.Clock.{plus, times}
+use Rattle.sim_setup.specs.Lines.{touched}
+use Rattle.sim_setup.specs.Places.{line_of, line_at, core_at}
 use Rattle.sim_model.specs.declared.bench.Bench.{Bench}
 use Rattle.sim_model.specs.declared.counts.Served.{Served}
-use Rattle.sim_model.specs.declared.setup.Core.{Core}
-use Rattle.sim_model.specs.declared.setup.Costs.{Costs}
-use Rattle.sim_model.specs.declared.setup.Setup.{Setup}
-use Rattle.sim_model.specs.declared.setup.Tries.{Tries}
 use Rattle.sim_model.specs.declared.tries.Tried.{Tried}
 use Rattle.sim_model.specs.declared.turns.Stand.TheVariants.{Due}
 use Rattle.sim_model.specs.declared.turns.Turn.TheVariants.{Call}
 use Rattle.sim_model.specs.Calls.{served_at, mode_drawn, called}
-use Rattle.sim_model.specs.Clock.{plus, times}
 use Rattle.sim_model.specs.Counts.{reached}
-use Rattle.sim_model.specs.Lines.{touched}
-use Rattle.sim_model.specs.Places.{line_of, line_at, core_at}
 use Rattle.sim_model.specs.Turns.{all_woken}
 
 -- an attempt of the pass would take the lock: its one operation finds the lock word so

@@ -1,10 +1,10 @@
 -- When each pass has its next turn, and whose turn it is.
 use Rattle.std.specs.Prelude.{ℕ, zero, suc, ◌==◌, List, cond, nat_le, Option, Some, None, slice_index_or}
+use Rattle.sim_setup.specs.Clock.{later}
 use Rattle.sim_model.specs.declared.turns.Turn.TheVariants.{Step}
 use Rattle.sim_model.specs.declared.turns.Stand.{Stand}
 use Rattle.sim_model.specs.declared.turns.Stand.TheVariants.{Due, Spins, Sleeps}
 use Rattle.sim_model.specs.declared.turns.Entry.{Entry}
-use Rattle.sim_model.specs.Clock.{later}
 use Rattle.sim_model.specs.Firsts.{mapped}
 
 abbrev pub stand_at : List Stand → ℕ → Stand

@@ -3,12 +3,8 @@ ghost use Rattle.std.specs.Prelude.{◌≡◌, ◌≤◌};
 ghost use Rattle.sim_model.specs.Openings as openings;
 
 use crate::counts::{Counts, Order, Reaches, Served, UNSERVED};
-use crate::draws::{seeded, think};
-use crate::lines::Line;
-use crate::places::LINES;
-use crate::sets::core_set;
-use crate::setup::{Layout, PASSES, Setup};
 use crate::turns::{Stand, Turn};
+use sim_setup::{LINES, Layout, Line, PASSES, Setup, core_set, seeded, think};
 
 /// What a run has besides the lock.
 #[derive(Clone, Copy, Drop)]

@@ -2,13 +2,11 @@
 ghost use Rattle.std.specs.Prelude.{◌≡◌, ◌<◌, ◌≤◌, List, slice_set};
 ghost use Rattle.sim_model.specs.Calls as calls;
 
-use crate::clock::{later, plus};
 use crate::counts::{Order, Reaches, Served, UNSERVED, reached};
-use crate::draws::reads;
-use crate::lines::{Line, touch};
-use crate::places::{LINES, WORD_LINES, line_at};
-use crate::setup::{Core, Costs, PASSES, Setup};
 use shfl_line::{Form, Mode};
+use sim_setup::{
+    Core, Costs, LINES, Line, PASSES, Setup, WORD_LINES, later, line_at, plus, reads, touch,
+};
 
 /// What is counted of the pass; of one that isn't there nothing.
 #[inline(always)]

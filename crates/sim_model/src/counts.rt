@@ -2,10 +2,9 @@
 ghost use Rattle.std.specs.Prelude.{◌≡◌};
 ghost use Rattle.sim_model.specs.Counts as sums;
 
-use crate::clock::plus;
-use crate::lines::Reach;
 use crate::steps::Made;
 use shfl_core::{Access, Ask, Nap, Phase, Word};
+use sim_setup::{Reach, plus};
 
 /// How many accesses were hits, came from the core's socket, and came from another.
 #[derive(Clone, Copy, Drop)]

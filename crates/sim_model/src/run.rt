@@ -4,19 +4,16 @@ ghost use Rattle.shfl_core.specs.Runner as runner;
 ghost use Rattle.sim_model.specs.Runs as runs;
 ghost use Rattle.sim_model.specs.Steps.{made_by, settled};
 
-use crate::adviser::Adviser;
 use crate::bench::{Bench, opening};
 use crate::calls::{gained, in_order, mode_of, overtake, served_at, touch_data};
-use crate::clock::plus;
 use crate::locks::open_lock;
-use crate::places::core_at;
-use crate::setup::Setup;
 use crate::steps::{settle, step_lock};
 use crate::tries::{attempt, begun, in_vain};
 use crate::turns::{Entry, Stand, Turn, soonest};
 use crate::waiter::AnyWaiter;
 use shfl_core::PlainWorld;
 use shfl_line::{Attr, Mode, NoMemory};
+use sim_setup::{Adviser, Setup, core_at, plus};
 use std::alloc::Global;
 
 /// A run that has ended: what was counted, and the waits in the order of their gains.

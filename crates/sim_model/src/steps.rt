@@ -2,23 +2,21 @@
 ghost use Rattle.std.specs.Prelude.{◌≡◌, ◌<◌, ◌≤◌, length, IfSome};
 ghost use Rattle.shfl_core.specs.Runner as runner;
 ghost use Rattle.shfl_core.specs.Worlds.{Step as Advance};
-ghost use Rattle.sim_model.specs.Places.{rung as rung_by};
+ghost use Rattle.sim_setup.specs.Places.{rung as rung_by};
 ghost use Rattle.sim_model.specs.Steps as steps;
 
-use crate::adviser::{Advice, Adviser, advised};
 use crate::bench::Bench;
-use crate::clock::{later, plus, times};
 use crate::counts::{count_access, count_step};
-use crate::draws::think;
-use crate::lines::touch;
-use crate::places::{core_at, is_load, line_at, line_of, put_line, rung};
-use crate::setup::{Costs, PASSES, Setup};
 use crate::turns::{Stand, Turn, put_stand, stand_at, wake_line};
 use crate::waiter::AnyWaiter;
 use shfl_core::asks::{ask_row, is_resting};
 use shfl_core::plans::plan_row;
 use shfl_core::words::site;
 use shfl_core::{Access, Ask, Nap, PassState, Phase, PlainWorld};
+use sim_setup::{
+    Advice, Adviser, Costs, PASSES, Setup, advised, core_at, is_load, later, line_at, line_of,
+    plus, put_line, rung, think, times, touch,
+};
 
 /// A step that was made: where the pass stood before and after, what it asked, and its operation.
 #[derive(Clone, Copy, Drop)]

@@ -4,16 +4,15 @@ ghost use Rattle.sim_model.specs.Tries as attempts;
 
 use crate::bench::Bench;
 use crate::calls::{called, mode_of, served_at};
-use crate::clock::{plus, times};
 use crate::counts::{Reaches, Served, reached};
-use crate::lines::{Line, touch};
-use crate::places::{core_at, line_at, line_of, put_line};
-use crate::setup::{Core, Costs, Setup, Tries};
 use crate::turns::{Stand, Turn, wake_line};
 use crate::waiter::AnyWaiter;
 use shfl_core::asks::{attempt_row, is_resting};
 use shfl_core::{PlainWorld, Word};
 use shfl_line::Mode;
+use sim_setup::{
+    Core, Costs, Line, Setup, Tries, core_at, line_at, line_of, plus, put_line, times, touch,
+};
 
 /// What the operations of an attempt have come to: the line of the lock word, the accesses counted, and when they ended.
 #[derive(Clone, Copy, Drop)]

@@ -2,8 +2,7 @@
 ghost use Rattle.std.specs.Prelude.{◌≡◌, ◌<◌, ◌≤◌, IfSome, slice_set};
 ghost use Rattle.sim_model.specs.Turns as turns;
 
-use crate::clock::later;
-use crate::setup::PASSES;
+use sim_setup::{PASSES, later};
 
 /// What a pass does at its turn.
 #[derive(Clone, Copy, Drop)]

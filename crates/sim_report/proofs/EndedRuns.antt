@@ -1,8 +1,8 @@
 -- What a run that has ended is made of.
 use Rattle.std.proofs.Common.{◌≡◌, ℕ, List, Bool, refl}
 use Rattle.shfl_line.specs.declared.words.Attr.{Attr}
+use Rattle.sim_setup.specs.declared.setup.Setup.{Setup}
 use Rattle.sim_model.specs.declared.bench.Bench.{Bench}
-use Rattle.sim_model.specs.declared.setup.Setup.{Setup}
 use Rattle.sim_model.specs.Runs.{ran, opening_state}
 use Rattle.sim_text.specs.declared.setup.Rule.{Rule}
 use Rattle.sim_text.specs.Answering.{rule_advice}

@@ -2,7 +2,7 @@
 use Rattle.std.proofs.Common.{◌≡◌, inl, inr, ℕ, zero, suc, ◌+◌, ◌<◌, ◌≤◌, List, length, cond, Option, Some, None, nat_le, nat_lt, refl, sym, ap, ◌∙◌, subst, arith}
 use Rattle.std.proofs.lemmas.Bool.{cond-true, cond-false, le-leb, lt-leb, lt-ltb, le-ltb, cases_lt, cases_eq}
 use Rattle.shfl_line.specs.declared.words.Attr.{Attr}
-use Rattle.sim_model.specs.Openings.{attr_at}
+use Rattle.sim_setup.specs.Cores.{attr_at}
 use Rattle.sim_report.specs.declared.tallies.Key.{Key}
 use Rattle.sim_report.specs.Sums.{TalliesAddUp}
 use Rattle.sim_report.specs.Tallies.{value_of, lesser, least_from, of_value, values_from, values_of}

@@ -3,10 +3,10 @@ use Rattle.std.proofs.Common.{◌≡◌, ◌≢◌, ◌⊎◌, inl, inr, ℕ, ze
 use Rattle.std.proofs.lemmas.Bool.{cond-true, cond-false, eq-eqb, ne_eqb}
 use Rattle.std.proofs.lemmas.Bool.Decides.{nat_tests}
 use Rattle.shfl_line.specs.declared.words.Attr.{Attr}
+use Rattle.sim_setup.specs.Clock.{plus, later}
+use Rattle.sim_setup.specs.Cores.{attr_at}
 use Rattle.sim_model.specs.declared.counts.Served.{Served}
 use Rattle.sim_model.specs.Calls.{served_at}
-use Rattle.sim_model.specs.Clock.{plus, later}
-use Rattle.sim_model.specs.Openings.{attr_at}
 use Rattle.sim_report.specs.declared.tallies.Key.{Key}
 use Rattle.sim_report.specs.declared.tallies.Key.TheVariants.{All}
 use Rattle.sim_report.specs.declared.tallies.Tally.{Tally}

@@ -1,8 +1,8 @@
 -- How the run of a policy ends.
 use Rattle.std.specs.Prelude.{ℕ, List, Bool, length}
+use Rattle.sim_setup.specs.declared.setup.Setup.{Setup}
+use Rattle.sim_setup.specs.Cores.{cores_below}
 use Rattle.sim_model.specs.declared.bench.Bench.{Bench}
-use Rattle.sim_model.specs.declared.setup.Setup.{Setup}
-use Rattle.sim_model.specs.Openings.{cores_below}
 use Rattle.sim_model.specs.Runs.{State, ran, opening_state, is_cut, time_reached}
 use Rattle.sim_text.specs.declared.setup.Rule.{Rule}
 use Rattle.sim_text.specs.Answering.{rule_advice}

@@ -1,8 +1,8 @@
 -- The passes of all values together are all passes: of the sockets, of the priorities, and of the classes.
 use Rattle.std.specs.Prelude.{◌≡◌, ℕ, List, [], ◌∷◌, map}
 use Rattle.shfl_line.specs.declared.words.Attr.{Attr}
+use Rattle.sim_setup.specs.Clock.{plus, later}
 use Rattle.sim_model.specs.declared.counts.Served.{Served}
-use Rattle.sim_model.specs.Clock.{plus, later}
 use Rattle.sim_report.specs.declared.tallies.Key.{Key}
 use Rattle.sim_report.specs.declared.tallies.Key.TheVariants.{All}
 use Rattle.sim_report.specs.declared.tallies.Tally.{Tally}

@@ -1,10 +1,10 @@
 -- What is counted of passes together, and of waits in their order.
 use Rattle.std.specs.Prelude.{ℕ, zero, suc, ◌+◌, ◌-◌, ◌*◌, ◌/◌, ◌==◌, List, [], ◌∷◌, length, cond, nat_le, nat_lt, Option, Some, None, slice_index_or}
 use Rattle.shfl_line.specs.declared.words.Attr.{Attr}
+use Rattle.sim_setup.specs.Clock.{plus, later}
+use Rattle.sim_setup.specs.Cores.{attr_at}
 use Rattle.sim_model.specs.declared.counts.Served.{Served}
 use Rattle.sim_model.specs.Calls.{served_at}
-use Rattle.sim_model.specs.Clock.{plus, later}
-use Rattle.sim_model.specs.Openings.{attr_at}
 use Rattle.sim_report.specs.declared.tallies.Key.{Key}
 use Rattle.sim_report.specs.declared.tallies.Key.TheVariants.{All, Socket, Prio, Class}
 use Rattle.sim_report.specs.declared.tallies.Tally.{Tally}

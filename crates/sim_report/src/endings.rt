@@ -6,7 +6,8 @@ ghost use Rattle.sim_text.specs.Setups.{IsWithin};
 
 use shfl_core::Rules;
 use shfl_line::NoMemory;
-use sim_model::{Bench, Setup, cores_of, is_cut, simulate, time_reached};
+use sim_model::{Bench, is_cut, simulate, time_reached};
+use sim_setup::{Setup, cores_of};
 use sim_text::{Rule, SimSetup, tries_of};
 use std::alloc::Global;
 use std::marker::Model;

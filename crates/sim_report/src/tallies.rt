@@ -1,10 +1,11 @@
 //! What is counted of passes together.
 ghost use Rattle.std.specs.Prelude.{◌≡◌, ◌≤◌, length, IfSome, IfOk};
-ghost use Rattle.sim_model.specs.Clock as clock;
+ghost use Rattle.sim_setup.specs.Clock as clock;
 ghost use Rattle.sim_report.specs.Tallies as tallies;
 
 use shfl_line::Attr;
-use sim_model::{PASSES, Served};
+use sim_model::Served;
+use sim_setup::PASSES;
 use std::alloc::{AllocError, Global};
 
 /// By what passes are told together: all of them, or those of one socket, priority or class.
@@ -47,14 +48,14 @@ fn value_of(key: Key, attr: Attr) -> u16
     }
 }
 
-#[tactic(auto, unfolding(sim_model::specs::Clock::later))]
+#[tactic(auto, unfolding(sim_setup::specs::Clock::later))]
 fn larger(a: u64, b: u64) -> u64
     ensures { result ≡ clock.later a b }
 {
     if a < b { b } else { a }
 }
 
-#[tactic(auto, unfolding(sim_model::specs::Clock::plus))]
+#[tactic(auto, unfolding(sim_setup::specs::Clock::plus))]
 fn sum(a: u64, b: u64) -> u64
     ensures { result ≡ clock.plus a b }
 {

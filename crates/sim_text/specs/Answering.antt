@@ -7,8 +7,8 @@ use Rattle.shfl_core.specs.declared.phase.Ask.{Ask}
 use Rattle.shfl_core.specs.declared.phase.Ask.TheVariants.{Nothing, Skip, Should}
 use Rattle.shfl_policy.specs.Context.{context_of}
 use Rattle.shfl_policy.specs.Policies.{PolicyModel, no_waiter}
-use Rattle.sim_model.specs.declared.adviser.Advice.{Advice}
-use Rattle.sim_model.specs.Advices.{built_in}
+use Rattle.sim_setup.specs.declared.adviser.Advice.{Advice}
+use Rattle.sim_setup.specs.Advices.{built_in}
 use Rattle.sim_text.specs.declared.setup.Rule.{Rule}
 use Rattle.sim_text.specs.declared.setup.Rule.TheVariants.{Simple, Program}
 

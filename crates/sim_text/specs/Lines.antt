@@ -4,11 +4,11 @@ use Rattle.doc_text.specs.Words.{is_word, same, three, four, five, ◌>>?◌}
 use Rattle.doc_text.specs.Numbers.{number_in}
 use Rattle.lock_words.specs.Lines.{behind}
 use Rattle.policy_text.specs.Programs.{source_in}
-use Rattle.sim_model.specs.declared.setup.Costs.{Costs}
-use Rattle.sim_model.specs.declared.setup.Layout.{Layout}
-use Rattle.sim_model.specs.declared.setup.Layout.TheVariants as layouts
-use Rattle.sim_model.specs.declared.built_in.BuiltIn.{BuiltIn}
-use Rattle.sim_model.specs.declared.built_in.BuiltIn.TheVariants as simple
+use Rattle.sim_setup.specs.declared.setup.Costs.{Costs}
+use Rattle.sim_setup.specs.declared.setup.Layout.{Layout}
+use Rattle.sim_setup.specs.declared.setup.Layout.TheVariants as layouts
+use Rattle.sim_setup.specs.declared.built_in.BuiltIn.{BuiltIn}
+use Rattle.sim_setup.specs.declared.built_in.BuiltIn.TheVariants as simple
 use Rattle.sim_text.specs.declared.policies.RuleLine.{RuleLine}
 use Rattle.sim_text.specs.declared.policies.RuleLine.TheVariants as said
 use Rattle.sim_text.specs.declared.setup.Seeds.{Seeds}

@@ -1,7 +1,7 @@
 -- How often the passes of a setup try before they queue, under each of its policies.
 use Rattle.std.specs.Prelude.{ℕ, Bool, true, false, cond, is_some}
-use Rattle.sim_model.specs.declared.built_in.BuiltIn.TheVariants.{Never}
-use Rattle.sim_model.specs.declared.setup.Tries.{Tries}
+use Rattle.sim_setup.specs.declared.built_in.BuiltIn.TheVariants.{Never}
+use Rattle.sim_setup.specs.declared.setup.Tries.{Tries}
 use Rattle.sim_text.specs.declared.setup.Queueing.{Queueing}
 use Rattle.sim_text.specs.declared.setup.Queueing.TheVariants.{AtOnce, After, ByPolicy}
 use Rattle.sim_text.specs.declared.setup.Rule.{Rule}

@@ -2,7 +2,7 @@
 use Rattle.std.specs.Prelude.{ℕ, List, Option, Some, None, nat_lt, ◌||◌, if◌then◌else◌, codes}
 use Rattle.doc_text.specs.Words.{same, two, five, ◌>>?◌}
 use Rattle.doc_text.specs.Numbers.{number_in}
-use Rattle.sim_model.specs.declared.setup.Work.{Work}
+use Rattle.sim_setup.specs.declared.setup.Work.{Work}
 use Rattle.sim_text.specs.declared.setup.Queueing.{Queueing}
 use Rattle.sim_text.specs.declared.setup.Queueing.TheVariants.{AtOnce, After, ByPolicy}
 use Rattle.sim_text.specs.Words.{otherwise, number_next, name_next}

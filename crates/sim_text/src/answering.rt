@@ -8,7 +8,7 @@ use bpf_verifier::Program;
 use shfl_core::Ask;
 use shfl_line::Attr;
 use shfl_policy::{Policy, context};
-use sim_model::{Advice, Adviser};
+use sim_setup::{Advice, Adviser};
 
 /// The attributes of no waiter.
 const NOBODY: Attr = Attr {

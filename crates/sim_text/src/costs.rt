@@ -7,7 +7,7 @@ ghost use Rattle.sim_text.specs.Lines.{usual_costs, access_next, step_next, cost
 
 use crate::words::{name_next, number_next};
 use doc_text::{is_same, word_at};
-use sim_model::Costs;
+use sim_setup::Costs;
 
 /// Guesses of the usual size.
 const USUAL: Costs = Costs {

@@ -8,7 +8,7 @@ ghost use Rattle.sim_text.specs.Lines.{wide_in, until_alone, until_turns, turns_
 use crate::setup::Seeds;
 use doc_text::{four_words, is_same, number, three_words};
 use lock_words::behind;
-use sim_model::Layout;
+use sim_setup::Layout;
 
 fn layout_named(word: &[u8]) -> Option<Layout>
     ensures { result ≡ layout_named word.now }

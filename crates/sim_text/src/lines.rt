@@ -14,7 +14,7 @@ use crate::work::work_of;
 use doc_text::{Fault, fixed_due, line_due, or_fault};
 use lock_words::{form_due, limit_due};
 use policy_text::profile_due;
-use sim_model::{Costs, Layout, Work};
+use sim_setup::{Costs, Layout, Work};
 
 #[tactic(auto, unfolding(doc_text::specs::Faults::one_of))]
 fn layout_due(bytes: &[u8]) -> Result<(Layout, &[u8]), Fault>

@@ -15,7 +15,7 @@ use doc_text::{five_words, is_same, text_at, three_words};
 use policy_source::PolicySource;
 use policy_text::{DocumentError, NoMemory, begins, source_of};
 use shfl_policy::{LoadError, load};
-use sim_model::BuiltIn;
+use sim_setup::BuiltIn;
 use std::alloc::Global;
 
 /// The rule that a policy line says, the programs as their bytes.

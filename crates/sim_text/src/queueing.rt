@@ -3,7 +3,7 @@ ghost use Rattle.std.specs.Prelude.{◌≡◌};
 ghost use Rattle.sim_text.specs.Queueing as tries;
 
 use crate::setup::{Queueing, Rule};
-use sim_model::{BuiltIn, Tries};
+use sim_setup::{BuiltIn, Tries};
 
 /// How many attempts a pass makes at most that tries by the policy, where that moves nobody up: as many as a pass of `shfl_table`.
 pub const FEW_ATTEMPTS: u32 = 32;

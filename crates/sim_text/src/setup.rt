@@ -2,7 +2,7 @@
 use bpf_isa::Profile;
 use shfl_line::{Attr, Form};
 use shfl_policy::Policy;
-use sim_model::{BuiltIn, Costs, Layout, Tries, Work};
+use sim_setup::{BuiltIn, Costs, Layout, Tries, Work};
 use std::marker::Model;
 
 /// The lock, and the machine that it stands on.

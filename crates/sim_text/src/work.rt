@@ -8,7 +8,7 @@ ghost use Rattle.sim_text.specs.Works.{work_alone, work_next, queueing_named, tr
 use crate::setup::Queueing;
 use crate::words::{name_next, number_next};
 use doc_text::{five_words, is_same, number, two_words};
-use sim_model::{Tries, Work};
+use sim_setup::{Tries, Work};
 
 // `work HOLD LINES THINK READS`.
 fn work_alone(text: &[u8]) -> Option<(Work, Queueing)>

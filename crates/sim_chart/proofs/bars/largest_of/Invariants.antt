@@ -1,6 +1,6 @@
 use Rattle.std.proofs.Common.{◌≡◌, drop}
 use Rattle.std.specs.Prelude.{fold}
-use Rattle.sim_model.specs.Clock.{later}
+use Rattle.sim_setup.specs.Clock.{later}
 use Rattle.sim_chart.specs.Bars.{BarModel, largest_of}
 use Rattle.sim_chart.proofs.bars.largest_of.Given as goal
 

@@ -1,6 +1,0 @@
-use Rattle.std.proofs.Common.{◌≡◌}
-use Rattle.sim_model.specs.Openings.{mates}
-use Rattle.sim_model.proofs.setup.mates.Given as goal
-
-abbrev pub invariant-loop-other : goal.invariant-loop-other
-invariant-loop-other l = l.set ≡ mates l.attrs l.pass l.other
