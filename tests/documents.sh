@@ -14,6 +14,8 @@ bin/syncord </dev/null >/dev/null 2> >(grep -v '^syncord: words$' >&2)
 bin/accounts >/dev/null || exit 1
 bin/syncord-sim no-words </dev/null 2> >(grep -v '^syncord-sim: words$' >&2)
 [ "$?" = 2 ] || exit 1
+bin/syncord-rounds </dev/null 2> >(grep -v '^syncord-rounds: words$' >&2)
+[ "$?" = 2 ] || exit 1
 
 judge() {
     local got status=0

@@ -4,7 +4,7 @@
 # NAME.SUFFIX stand what it writes (.out), what it says on standard error (.err) and its status (.status); where one isn't there, nothing
 # is written, nothing is said, and the status is 0. What `replay` and `shards` write of several workers, and what `pool` writes, is judged by
 # tests/judge.sh, as is the report that stands beside such a trace, since two runs may order their calls differently. Then the forms of each policy in examples/policies are compared (the C where a clang for BPF is
-# there), and that each example is in the index and each output belongs to one.
+# there), and that each example is in the index and each output belongs to one. NAME.trace.rounds is what bin/syncord-rounds writes of a trace of one worker by `replay`.
 set -u
 top="$(cd "$(dirname "$(readlink -f "${BASH_SOURCE[0]}")")/.." && pwd)"
 got="$(mktemp -d)"
@@ -13,6 +13,8 @@ failed=0
 
 # the program is built before, so that it says nothing of that below; without words it only refuses them
 "$top/bin/syncord" </dev/null >/dev/null 2> >(grep -v '^syncord: words$' >&2)
+[ "$?" = 2 ] || exit 1
+"$top/bin/syncord-rounds" </dev/null >/dev/null 2> >(grep -v '^syncord-rounds: words$' >&2)
 [ "$?" = 2 ] || exit 1
 
 compare() {
@@ -66,6 +68,15 @@ run_trace() {
 for document in "$top"/examples/*.trace; do
     run_trace "$document" replay replay
     run_trace "$document" shards replay
+done
+for due in "$top"/examples/*.trace.rounds; do
+    name="$(basename "$due")"
+    if "$top/bin/syncord-rounds" replay <"${due%.rounds}" >"$got/out" 2>"$got/err" && [ ! -s "$got/err" ] && cmp -s "$got/out" "$due"; then
+        echo "examples/$name: as it must be"
+    else
+        echo "examples/$name: another text; to run it again: bin/syncord-rounds replay <examples/${name%.rounds}" >&2
+        failed=1
+    fi
 done
 for document in "$top"/examples/*.pool; do run_trace "$document" pool pool; done
 # as many attachments as a trace may have, each before two calls of four workers
@@ -135,7 +146,7 @@ ends_with 2 syncord bulk 1 1 1 1 1
 ends_with 2 syncord bulk 1 1 1 1 1 1 1
 
 # what belongs to no example
-for part in "$top"/examples/*.{out,err,status} "$top"/examples/policies/*.{out,err,status}; do
+for part in "$top"/examples/*.{out,err,status,rounds} "$top"/examples/policies/*.{out,err,status}; do
     if [ -e "$part" ] && [ ! -e "${part%.*}" ]; then
         echo "examples/${part#"$top/examples/"}: there is no such example" >&2
         failed=1

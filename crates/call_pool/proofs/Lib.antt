@@ -1,8 +1,10 @@
 mod AllPasses
 mod Crossing
+mod LogsKept
 mod Members
 mod Openings
 mod PoolHistory
 mod Running
+mod TakersRan
 mod Takings
 mod Workers

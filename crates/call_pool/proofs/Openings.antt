@@ -29,6 +29,7 @@ module _ {C : Type 0} (queue : QueueModel C) (cell : CellModel) (attrs : List At
     (takers k d below).taken,
     (takers k d below).ended,
     ap (λ (p : CellPassModel). p.seen) (cell_at k d below),
+    ap (λ (p : CellPassModel). p.decisions) (cell_at k d below),
   )
 
   pub all_attrs : HaveAttrs attrs passes

@@ -37,9 +37,9 @@ module _ {C : Type 0} where
     pub listed : All (λ c. slice_get pool.queue.calls c.at ≡ Some c.call) pass.taker.taken
     pub rising : AreRising (map (λ c. c.at) pass.taker.taken)
 
-  -- a pass that took nothing yet
+  -- a pass that took nothing yet, and asked nothing
   abbrev pub IsUnused : PoolPassModel C → Type 0
-  IsUnused pass = (pass.taker.taken ≡ []) × (pass.taker.ended ≡ false) × (pass.cell.seen ≡ [])
+  IsUnused pass = (pass.taker.taken ≡ []) × (pass.taker.ended ≡ false) × (pass.cell.seen ≡ []) × (pass.cell.decisions ≡ [])
 
   -- each pass has the attributes of its place
   abbrev pub HaveAttrs : List Attr → List (PoolPassModel C) → Type 0

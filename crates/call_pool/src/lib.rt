@@ -1,7 +1,9 @@
 //! Calls of no fixed worker: they stand in a queue, and each is taken and made once, on one object behind the lock.
 #![tactic(auto)]
 
+mod chooser;
 mod closing;
+mod logged;
 mod opening;
 mod pool;
 mod run;

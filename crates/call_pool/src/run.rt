@@ -9,13 +9,17 @@ ghost use Rattle.shfl_table.specs.Books.{actions, HavePlaces};
 ghost use Rattle.shfl_table.specs.Histories.{HasSeen};
 ghost use Rattle.shfl_cell.specs.Cells.{number, HasRunOf};
 ghost use Rattle.call_pool.specs.Pools.{IsPassOf, AreNumbered, calls_by};
-ghost use Rattle.call_pool.specs.Runs.{IsLeftBy};
+ghost use Rattle.call_pool.specs.Rounds.{HaveRounds};
+ghost use Rattle.call_pool.specs.Runs.{IsLeftBy, IsLeftWithLogs};
 
+use crate::chooser::OnePolicy;
+use crate::logged::{take_apart, with_logs};
 use crate::pool::{Pool, PoolPass};
 use crate::threads::{SharedCalls, take_in_threads};
 use dir_table::{Dir, DirCall};
 use hist_log::{Entry, Numbered};
-use shfl_line::{Attr, Chooser, NoMemory};
+use round_log::RoundLog;
+use shfl_line::{Attr, NoMemory};
 use shfl_policy::Policy;
 use std::alloc::Global;
 use std::sync::Wait;
@@ -43,14 +47,17 @@ impl SharedCalls for Pool<Dir> {
     ghost asks = { λ old new told told'. AsksInRounds old.cell.attr old.cell.decisions
         new.cell.decisions told told' };
 
-    fn take_rest<C: Chooser, G: Gate, R: Wait>(
+    fn take_rest<G: Gate, R: Wait>(
         &self,
         rt: &R,
         pass: &mut PoolPass<Dir>,
-        chooser: &mut C,
+        policy: &Policy,
+        log: &mut RoundLog,
         gate: &G,
     ) {
-        self.take_all(rt, pass, chooser, gate);
+        let mut chooser = OnePolicy::new(policy, log);
+        self.take_all(rt, pass, &mut chooser, gate);
+        let _log = chooser.done(policy);
     }
 }
 
@@ -79,7 +86,8 @@ fn close_in_order(pool: Pool<Dir>, passes: Vec<PoolPass<Dir>>) -> (Dir, Vec<Entr
 }
 
 /// Makes these calls on the directory, by a taker in a thread for each of the attributes; the policy serves all of them
-/// throughout. All memory is taken before the takers start.
+/// throughout. The logs are of the takers in the order of their numbers, and have what the policy was told in each one's rounds, where
+/// `keeps` says so and there was memory for all of it. All other memory is taken before the takers start.
 pub fn run_pool<G: Gate + Sync, R: Threads + Wait + Sync>(
     rt: &R,
     alloc: Global,
@@ -87,8 +95,9 @@ pub fn run_pool<G: Gate + Sync, R: Threads + Wait + Sync>(
     policy: &Policy,
     attrs: &[Attr],
     calls: &[DirCall],
+    keeps: bool,
     gate: &G,
-) -> Result<(Dir, Vec<Entry<Numbered<Dir>>>), NoMemory>
+) -> Result<(Dir, Vec<Entry<Numbered<Dir>>>, Vec<RoundLog>), NoMemory>
     requires takers { (0 < length attrs.now) × (length attrs.now ≤ 16) }
     requires few { length calls.now ≤ 4096 }
     requires spare { length attrs.now * length calls.now ≤ dir.spare }
@@ -108,8 +117,19 @@ pub fn run_pool<G: Gate + Sync, R: Threads + Wait + Sync>(
     // The calls of each worker's entries are just those that its pass took of such a pool, whose holds made the history.
     ensures passes { IfOk result (λ r. IsLeftBy call_numbers reply_numbers Admits
         (state_numbers dir) attrs.now calls.now r.1.items) }
+
+    // Each taker's log has whole rounds, which this policy answered; and of such a pool, it has just what the taker's pass asked.
+    ensures rounds { IfOk result (λ r.
+        HaveRounds (length attrs.now) policy.now keeps r.2.items) }
+    ensures asked { IfOk result (λ r. IsLeftWithLogs call_numbers reply_numbers Admits
+        (state_numbers dir) attrs.now calls.now r.1.items keeps r.2.items) }
 {
-    let (pool, mut passes) = Pool::<Dir>::open(alloc, dir, attrs, BATCH, calls)?;
-    take_in_threads(rt, &pool, policy, gate, &mut passes);
-    Ok(close_in_order(pool, passes))
+    let (pool, opened) = Pool::<Dir>::open(alloc, dir, attrs, BATCH, calls)?;
+    let mut takers = with_logs(alloc, opened, keeps)?;
+    let mut passes = Vec::with_capacity(alloc, attrs.len())?;
+    let mut logs = Vec::with_capacity(alloc, attrs.len())?;
+    take_in_threads(rt, &pool, policy, gate, &mut takers);
+    take_apart(takers, &mut passes, &mut logs);
+    let (dir, history) = close_in_order(pool, passes);
+    Ok((dir, history, logs))
 }

@@ -1,8 +1,12 @@
 //! Takers in threads.
-ghost use Rattle.std.specs.Prelude.{◌≡◌, true, All, length};
+ghost use Rattle.std.specs.Prelude.{◌≡◌, ◌<◌, ℕ, true, All, length, slice_index_or};
+ghost use Rattle.call_pool.specs.declared.logged.Logged.{Logged};
 ghost use Rattle.call_pool.specs.Pools.{AreNumbered};
+ghost use Rattle.call_pool.specs.Rounds.{AreRoundsBy, HasAsked};
+ghost use Rattle.round_log.specs.Logs.{InRounds, told_in};
 
-use shfl_line::Chooser;
+use crate::logged::Logged;
+use round_log::RoundLog;
 use shfl_policy::Policy;
 use std::sync::Wait;
 use std::thread;
@@ -31,43 +35,57 @@ pub trait SharedCalls {
     /// Between these two states the pass asked its policy just what a chooser was told between these two lists.
     ghost asks: { Self.Pass → Self.Pass → (told told' : Option (List Told)) → Type 0 };
 
-    /// Takes calls and makes them until none is left. Takes no memory.
-    fn take_rest<C: Chooser, G: Gate, R: Wait>(
+    /// Takes calls and makes them until none is left. The policy answers, and what it is told goes into the log. Takes no memory but the
+    /// log's.
+    fn take_rest<G: Gate, R: Wait>(
         &self,
         rt: &R,
         pass: &mut Self::Pass,
-        chooser: &mut C,
+        policy: &Policy,
+        log: &mut RoundLog,
         gate: &G,
     )
-        requires { is_pass self.now pass.old }
+        requires pass { is_pass self.now pass.old }
+        requires log { AreRoundsBy policy.now log.old }
         ensures pass { is_pass self.now pass.new }
         ensures number { number pass.new ≡ number pass.old }
         ensures ended { ended pass.new ≡ true }
-        ensures asked { asks pass.old pass.new (C.told chooser.old) (C.told chooser.new) };
+        ensures log { AreRoundsBy policy.now log.new }
+        ensures asked { asks pass.old pass.new (told_in log.old) (told_in log.new) }
+        ensures whole { InRounds (told_in log.old) (told_in log.new) };
 }
 
-/// All passes take calls until none is left, each in a thread of its own. Where a thread can't be had, the caller does its work.
+/// All takers take calls until none is left, each in a thread of its own. Where a thread can't be had, the caller does its work.
 pub fn take_in_threads<P: SharedCalls + Sync, G: Gate + Sync, R: Threads + Wait + Sync>(
     rt: &R,
     calls: &P,
     policy: &Policy,
     gate: &G,
-    passes: &mut [P::Pass],
+    takers: &mut [Logged<P::Pass>],
 )
-    requires passes { All (P.is_pass calls.now) passes.old }
-    requires numbered { AreNumbered P.number passes.old }
-    ensures passes { All (P.is_pass calls.now) passes.new }
-    ensures numbered { AreNumbered P.number passes.new }
-    ensures len { length passes.new ≡ length passes.old }
-    ensures ended { All (λ p. P.ended p ≡ true) passes.new }
+    requires passes { All (λ t. P.is_pass calls.now t.pass) takers.old }
+    requires numbered { AreNumbered (λ t. P.number t.pass) takers.old }
+    requires logs { All (λ t. AreRoundsBy policy.now t.log) takers.old }
+    ensures passes { All (λ t. P.is_pass calls.now t.pass) takers.new }
+    ensures numbered { AreNumbered (λ t. P.number t.pass) takers.new }
+    ensures len { length takers.new ≡ length takers.old }
+    ensures ended { All (λ t. P.ended t.pass ≡ true) takers.new }
+    ensures logs { All (λ t. AreRoundsBy policy.now t.log) takers.new }
+
+    // Each pass asked just what its log has more since, in whole rounds.
+    ensures asked { (k : ℕ) (d : Logged _) → k < length takers.old
+        → HasAsked P.asks (slice_index_or takers.old k d) (slice_index_or takers.new k d) }
 {
-    let job = |_place: usize, pass: &mut P::Pass|
-        requires { P.is_pass calls.now pass.now }
-        ensures { P.is_pass calls.entry.now pass.exit.now
-            × (P.number pass.exit.now ≡ P.number pass.entry.now)
-            × (P.ended pass.exit.now ≡ true) }
+    let job = |_place: usize, taker: &mut Logged<P::Pass>|
+        requires { P.is_pass calls.now taker.now.pass × AreRoundsBy policy.now taker.now.log }
+        ensures { P.is_pass calls.entry.now taker.exit.now.pass
+            × (P.number taker.exit.now.pass ≡ P.number taker.entry.now.pass)
+            × (P.ended taker.exit.now.pass ≡ true)
+            × AreRoundsBy policy.entry.now taker.exit.now.log
+            × HasAsked P.asks taker.entry.now taker.exit.now }
     {
-        calls.take_rest(rt, pass, &mut policy.running(), gate);
+        let Logged { pass, log } = taker;
+        calls.take_rest(rt, pass, policy, log, gate);
     };
-    thread::for_each_mut(rt, passes, THREADS, &job);
+    thread::for_each_mut(rt, takers, THREADS, &job);
 }

@@ -1,3 +1,4 @@
 //! Pools of a directory's calls.
 mod one;
+mod rounds;
 mod threads;

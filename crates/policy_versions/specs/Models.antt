@@ -1,16 +1,18 @@
 -- A registry and its parts, as contracts see them.
-use Rattle.std.specs.Prelude.{◌≡◌, ℕ, ◌+◌, ◌<◌, ◌≤◌, Bool, false, List, [], ◌∷◌, ◌++◌, length, map, slice_get, Option, Some, IfSome}
+use Rattle.std.specs.Prelude.{◌≡◌, ℕ, ◌+◌, ◌<◌, ◌≤◌, Bool, false, List, [], ◌∷◌, ◌++◌, length, map, slice_get, Option, Some, None, IfSome}
+use Rattle.round_log.specs.declared.log.Note.{Note}
 use Rattle.policy_versions.specs.declared.instance.Instance.{Instance}
 use Rattle.policy_versions.specs.declared.place.Place.{Place}
 use Rattle.policy_versions.specs.Places.{RegistryId, registry_of}
 use Rattle.policy_versions.specs.Rule.{IsAmong, VERSIONS, version_of, which_of, word_of}
 
--- a user's pass: the words that it has loaded, the last one first, and whether a use is open
+-- a user's pass: the words that it has loaded, the last one first, whether a use is open, and what its log keeps
 pub record PassModel : Type 0 where
   pub registry : RegistryId
   pub user : ℕ
   pub seen : List ℕ
   pub is_open : Bool
+  pub log : Option (List Note)
 
 -- the publisher: a row for each publication, in order
 pub record PublisherModel : Type 0 where
@@ -25,7 +27,7 @@ pub record UsingModel : Type 0 where
   pub which : ℕ
 
 abbrev pub fresh : RegistryId → ℕ → PassModel
-fresh registry user = record { registry = registry; user = user; seen = []; is_open = false }
+fresh registry user = record { registry = registry; user = user; seen = []; is_open = false; log = None }
 
 -- the passes of so many users, by number
 abbrev pub AreFresh : RegistryId → ℕ → List PassModel → Type 0

@@ -1,6 +1,7 @@
 //! The registry, its publisher, its users' passes and their uses.
 mod close;
 mod enter;
+mod logging;
 mod open;
 mod publish;
 
@@ -8,6 +9,7 @@ use crate::instance::Instance;
 use crate::place::{Place, Reading};
 use crate::view::{CurrentWord, Declared, View};
 use atomic_table::{Seat, Table};
+use round_log::RoundLog;
 use shfl_policy::Policy;
 use std::alloc::Global;
 use std::fmt;
@@ -72,11 +74,12 @@ impl Model for Publisher {
         × (vec_len p.rows ≤ 4096) × (4096 ≤ vec_capacity p.rows) };
 }
 
-/// A user's right to enter. It crosses threads.
+/// A user's right to enter, and the log of what its policies are told. It crosses threads.
 #[derive(Drop)]
 pub struct VersionPass {
     user: u32,
     is_open: bool,
+    log: RoundLog,
     seat: Seat<(), View>,
 }
 
@@ -92,6 +95,7 @@ impl Model for VersionPass {
       user = p.user;
       seen = p.seat.me.0.seen;
       is_open = p.is_open;
+      log = p.log;
     } };
 
     ghost invariant = { λ p. (p.seat.me.0.publisher ≡ false) × (p.seat.me.0.spent ≡ false)

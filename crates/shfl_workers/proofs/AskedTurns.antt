@@ -5,8 +5,16 @@ use Rattle.dir_table.specs.declared.calls.DirCall.{DirCall}
 use Rattle.shfl_line.specs.declared.choosers.Told.{Told}
 use Rattle.trace_text.specs.declared.trace.TraceCall.{TraceCall}
 use Rattle.trace_text.specs.Histories.{made_in, of_worker}
+use Rattle.round_log.proofs.WholeRounds.{asks_whole, in_rounds_more, in_rounds_none}
+use Rattle.dir_shards.specs.ShardPasses.{AsksInTurn, ShardPassModel}
 use Rattle.shfl_workers.specs.Asked.{AskInTurn}
+use Rattle.round_log.specs.Logs.{InRounds}
 use Rattle.shfl_workers.proofs.Turns.{made_more, made_one}
+
+-- what a pass asked at one lock after another, it asked in whole rounds
+pub in_turn_whole : (old new : ShardPassModel) (dirs : List ℕ) (a b : Option (List Told)) → AsksInTurn old new dirs a b → InRounds a b
+in_turn_whole old new [] a b h = subst (InRounds a) (sym h) (in_rounds_none a)
+in_turn_whole old new (dir ∷ dirs) a b h = in_rounds_more a h.0 b (asks_whole _ _ _ a h.0 h.1) (in_turn_whole old new dirs h.0 b h.2)
 
 module _ {Pass : Type 0} (asks : Pass → DirCall → Pass → Option (List Told) → Option (List Told) → Type 0) where
   -- some calls, and then others

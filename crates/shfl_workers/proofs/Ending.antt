@@ -22,7 +22,7 @@ use Rattle.rw_cell.specs.RwCells.{RwCellModel, RwPassModel, number, IsPassOf}
 use Rattle.trace_text.specs.declared.trace.Trace.{Trace}
 use Rattle.trace_text.specs.Report.{done_of}
 use Rattle.trace_text.specs.Traces.{IsWithin}
-use Rattle.trace_text.specs.Histories.{IsHistoryOf, made_of, made_in, of_worker, beginning}
+use Rattle.trace_text.specs.Histories.{IsHistoryOf, made_of, made_in, of_worker}
 use Rattle.shfl_workers.specs.Passes.{AtEachPlace, IsDone}
 use Rattle.shfl_workers.specs.Opened.{IsCellFor}
 use Rattle.shfl_workers.specs.RwDirs.{HasMade}
@@ -31,7 +31,7 @@ use Rattle.shfl_workers.proofs.Numbered.{of_all, element_at}
 use Rattle.shfl_workers.proofs.Receipts.{IsWrite, only_writes, merged_counts}
 use Rattle.shfl_workers.proofs.WritesMade.{written, merged_written}
 use Rattle.shfl_workers.proofs.Merging.{made_once, nobody}
-use Rattle.shfl_workers.proofs.Histories.{HasAll, has_all, is_history}
+use Rattle.shfl_workers.proofs.Histories.{has_all, is_history}
 
 any_default : {X : Type 0} (xs : List X) (i : ℕ) (d e : X) → i < length xs → get_or xs i d ≡ get_or xs i e
 any_default [] i d e lt = absurd (omega arith)

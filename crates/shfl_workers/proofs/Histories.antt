@@ -1,5 +1,5 @@
 -- A history in which each worker made its own calls of the trace.
-use Rattle.std.proofs.Common.{◌≡◌, ℕ, ◌<◌, ◌≤◌, List, [], map, length, refl, sym, ap, ◌∙◌, subst, arith}
+use Rattle.std.proofs.Common.{◌≡◌, ℕ, ◌≤◌, List, [], map, length, refl, sym, ap, ◌∙◌, subst, arith}
 use native.Mathlib.Decide.{dec_lt}
 use Rattle.std.proofs.Math.ListN.{length-map}
 use Rattle.dir_table.specs.declared.calls.DirCall.{DirCall}

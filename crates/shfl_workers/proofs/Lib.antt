@@ -11,6 +11,7 @@ pub mod Numbered
 pub mod Histories
 pub mod Ending
 pub mod Ran
+pub mod Logged
 pub mod MadeOnce
 pub mod ShardEnding
 pub mod CellEnding

@@ -1,15 +1,13 @@
 -- Calls of which each worker makes its own ones in order.
-use Rattle.std.proofs.Common.{◌≡◌, ◌≢◌, ℕ, suc, ◌+◌, ◌≤◌, true, false, cond, eqb, List, [], ◌∷◌, ◌++◌, map, length, sym, refl, ap, ◌∙◌, subst, arith, inl, inr, length-append}
-use Rattle.std.specs.List.{filter, AllByRecursion}
+use Rattle.std.proofs.Common.{◌≡◌, ◌≢◌, ℕ, suc, ◌+◌, ◌≤◌, true, false, cond, eqb, List, [], ◌∷◌, map, length, sym, refl, ap, ◌∙◌, subst, arith, inl, inr, length-append}
+use Rattle.std.specs.List.{filter}
 use Rattle.std.proofs.lemmas.Bool.{cases_eq}
 use Rattle.std.proofs.lemmas.Bool.Decides.{nat_tests}
 use Rattle.dir_table.specs.declared.calls.DirCall.{DirCall}
-use Rattle.dir_table.specs.Meanings.{IsAdmitted}
 use Rattle.trace_text.specs.declared.trace.TraceAct.{TraceAct}
 use Rattle.trace_text.specs.declared.trace.TraceAct.TheVariants as does
 use Rattle.trace_text.specs.declared.trace.TraceCall.{TraceCall}
 use Rattle.trace_text.specs.Histories.{Made, made_by, made_in, of_worker}
-use Rattle.trace_text.specs.Traces.{IsActOf, IsCallOf}
 
 own_first : (k : ℕ) (m : Made) (ms : List Made) → m.worker ≡ k → of_worker k (m ∷ ms) ≡ m.call ∷ of_worker k ms
 own_first k m ms same =

@@ -9,7 +9,7 @@ use Rattle.hist_log.specs.declared.entry.Entry.{Entry}
 use Rattle.hist_log.specs.Merge.{reads_at, merged_from, merged}
 use Rattle.shfl_table.specs.declared.kept.Action.{Action}
 use Rattle.shfl_table.specs.Books.{actions}
-use Rattle.trace_text.specs.Report.{Done, done_of}
+use Rattle.trace_text.specs.Report.{done_of}
 use Rattle.shfl_workers.specs.LockRuns.{action_of, writes_of}
 use Rattle.shfl_workers.proofs.Receipts.{IsReadAt, kept_at}
 

@@ -1,8 +1,8 @@
-pub mod Choosing
 pub mod Attaching
 pub mod Shares
 pub mod Progress
 pub mod Asked
+pub mod Rounds
 pub mod Activities
 pub mod RwDirs
 pub mod ShardDirs

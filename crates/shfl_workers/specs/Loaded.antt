@@ -1,5 +1,5 @@
 -- The policies of a trace, loaded.
-use Rattle.std.specs.Prelude.{◌≡◌, ℕ, List, Some, slice_get}
+use Rattle.std.specs.Prelude.{◌≡◌, List, Some, slice_get}
 use Rattle.bpf_isa.specs.declared.insn.Profile.{Profile}
 use Rattle.shfl_policy.specs.Loading.{IsLoaded}
 use Rattle.shfl_policy.specs.Policies.{PolicyModel}

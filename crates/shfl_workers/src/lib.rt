@@ -4,7 +4,6 @@
 mod activity;
 mod attaching;
 mod cell_dir;
-mod chooser;
 mod empty_dir;
 mod policies;
 mod prevailing;
@@ -17,10 +16,9 @@ mod worker;
 
 pub use activity::{Activity, join, run_all, take_apart};
 pub use attaching::{Attaching, copies_of};
-pub use chooser::UsingChooser;
 pub use policies::{load_all, load_one};
 pub use prevailing::do_writes_prevail;
-pub use run::{Outcome, run_on, run_shards, run_trace};
+pub use run::{Outcome, run_copies, run_on, run_one, run_shards, run_trace};
 pub use shared_dir::SharedDir;
 pub use shares::shares_of;
 pub use worker::work;

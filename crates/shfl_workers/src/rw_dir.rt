@@ -1,5 +1,5 @@
 //! A directory with a copy for each worker, behind a readers-writer lock.
-ghost use Rattle.std.specs.Prelude.{◌≡◌, ◌<◌, ◌+◌, ◌++◌, ◌∷◌, [], List, slice_index, length, map, vec_len, All, IfOk};
+ghost use Rattle.std.specs.Prelude.{◌≡◌, ◌<◌, ◌+◌, ◌++◌, ◌∷◌, [], false, List, slice_index, length, map, vec_len, All, IfOk};
 ghost use Rattle.dir_table.specs.declared.calls.DirCall.{DirCall as DirCallValue};
 ghost use Rattle.dir_table.specs.Meanings.{IsAdmitted};
 ghost use Rattle.rw_cell.specs.RwCells.{number, IsPassOf};
@@ -12,6 +12,7 @@ ghost use Rattle.shfl_workers.specs.LockRuns.{RanOnCopies};
 ghost use Rattle.shfl_workers.specs.Opened.{directory_for, IsCellFor};
 ghost use Rattle.shfl_workers.specs.Passes.{AtEachPlace, IsDone};
 ghost use Rattle.shfl_workers.specs.Receipts.{CountWrites};
+ghost use Rattle.round_log.specs.Logs.{InRounds};
 
 use crate::empty_dir::{BATCH, open_directory};
 use crate::shared_dir::SharedDir;
@@ -104,6 +105,8 @@ impl SharedDir for RwCellOf<Book<Dir>, Entry<Dir>, Dir> {
         ensures asked { AsksInRounds pass.old.attr pass.old.decisions pass.new.decisions
             (C.told chooser.old) (C.told chooser.new) }
         ensures home { C.home chooser.new ≡ C.home chooser.old }
+        ensures whole { InRounds (C.told chooser.old) (C.told chooser.new) }
+        ensures in_round { C.in_round chooser.old ≡ false → C.in_round chooser.new ≡ false }
 
         // A read holds the lock beside other readers, and a write alone.
         ensures mode { pass.new.reg.mode ≡ mode_of call.now }

@@ -1,11 +1,12 @@
 //! A directory that several workers call, each by a pass of its own.
-ghost use Rattle.std.specs.Prelude.{◌≡◌, ℕ, ◌+◌, ◌<◌, List, [], ◌∷◌, ◌++◌, map, length, vec_len, IfOk};
+ghost use Rattle.std.specs.Prelude.{◌≡◌, ℕ, ◌+◌, ◌<◌, false, List, [], ◌∷◌, ◌++◌, map, length, vec_len, IfOk};
 ghost use Rattle.dir_table.specs.declared.calls.DirCall.{DirCall};
 ghost use Rattle.dir_table.specs.Meanings.{IsAdmitted};
 ghost use Rattle.trace_text.specs.Report.{done_of};
 ghost use Rattle.trace_text.specs.Traces.{IsWithin};
 ghost use Rattle.trace_text.specs.Histories.{IsHistoryOf};
 ghost use Rattle.shfl_workers.specs.Passes.{AtEachPlace, IsReady, IsDone};
+ghost use Rattle.round_log.specs.Logs.{InRounds};
 
 use dir_table::{Dir, DirCall};
 use hist_log::Entry;
@@ -89,7 +90,9 @@ pub trait SharedDir: Drop {
             → made pass.new (calls ++ call.now ∷ []) }
         ensures asked { asks pass.old call.now pass.new
             (C.told chooser.old) (C.told chooser.new) }
-        ensures home { C.home chooser.new ≡ C.home chooser.old };
+        ensures home { C.home chooser.new ≡ C.home chooser.old }
+        ensures whole { InRounds (C.told chooser.old) (C.told chooser.new) }
+        ensures in_round { C.in_round chooser.old ≡ false → C.in_round chooser.new ≡ false };
 
     /// A history of the trace whose calls the passes have made, and the directory that it leaves.
     fn close(

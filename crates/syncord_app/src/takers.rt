@@ -32,13 +32,14 @@ pub fn run_by_takers<Rt: Threads + Wait + Sync, G: Gate + Sync>(
     let Ok(dir) = Dir::open(alloc, trace.names.len() as u32, spare) else {
         return Err(NoMemory);
     };
-    let Ok((dir, history)) = call_pool::run_pool(
+    let Ok((dir, history, _logs)) = call_pool::run_pool(
         rt,
         alloc,
         dir,
         &policy,
         attrs,
         calls.as_slice(),
+        false,
         gate,
     ) else {
         return Err(NoMemory);

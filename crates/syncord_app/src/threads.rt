@@ -11,7 +11,10 @@ use syn_outer::Gate;
 use syncord_replay::Run;
 use trace_text::{NoMemory, Trace};
 
-// What a run leaves, as a report takes it.
+// Whether what policies are told is kept.
+const KEEPS: bool = false;
+
+// What a run leaves, as a report takes it. Its logs keep nothing.
 fn run_of(outcome: Outcome) -> Run
     ensures { (result.history ≡ outcome.history) × (result.dir ≡ outcome.dir)
         × (result.versions ≡ outcome.versions) }
@@ -20,6 +23,7 @@ fn run_of(outcome: Outcome) -> Run
         history,
         dir,
         versions,
+        rounds: _,
     } = outcome;
     Run {
         history,
@@ -38,7 +42,7 @@ pub fn run_by_threads<Rt: Threads + Wait + Sync, G: Gate + Sync>(
     requires { IsRunnable trace.now }
     ensures { IfOk result (IsRunOf RanByThreads trace.now) }
 {
-    Ok(run_of(run_trace(rt, alloc, trace, gate)?))
+    Ok(run_of(run_trace(rt, alloc, trace, KEEPS, gate)?))
 }
 
 /// Runs a trace by a thread for each of its workers, with a lock for each directory, whose calls take turns at one journal.
@@ -51,5 +55,5 @@ pub fn run_by_shards<Rt: Threads + Wait + Sync, G: Gate + Sync>(
     requires { IsRunnable trace.now }
     ensures { IfOk result (IsRunOf RanByShards trace.now) }
 {
-    Ok(run_of(run_shards(rt, alloc, trace, gate)?))
+    Ok(run_of(run_shards(rt, alloc, trace, KEEPS, gate)?))
 }

@@ -8,6 +8,8 @@ mod choosers;
 #[cfg(test)]
 mod reached;
 #[cfg(test)]
+mod rounds;
+#[cfg(test)]
 mod shards;
 #[cfg(test)]
 mod takers;

@@ -1,8 +1,7 @@
 //! Traces that are run by threads.
 use crate::checks::same;
-use dir_table::{Dir, DirReply};
-use rw_cell::RwCell;
-use shfl_workers::{Outcome, do_writes_prevail, run_on, run_shards, run_trace};
+use dir_table::DirReply;
+use shfl_workers::{Outcome, do_writes_prevail, run_copies, run_shards, run_trace};
 use std::alloc::Global;
 use std::process::Abort;
 use std::sync::Wait;
@@ -126,7 +125,7 @@ pub(crate) enum Way {
     Shards,
 }
 
-/// Runs the trace that the text is in this way, behind the gate.
+/// Runs the trace that the text is in this way, behind the gate, and keeps what its policies are told.
 pub(crate) fn run_text<G: Gate + Sync, R: Threads + Wait + Sync>(
     rt: &R,
     alloc: Global,
@@ -136,9 +135,9 @@ pub(crate) fn run_text<G: Gate + Sync, R: Threads + Wait + Sync>(
 ) -> Result<Outcome, Fail> {
     let trace = read_trace(alloc, text)?;
     let outcome = match way {
-        Way::ByCalls => run_trace(rt, alloc, &trace, gate)?,
-        Way::Copies => run_on::<RwCell<Dir>, G, R>(rt, alloc, &trace, gate)?,
-        Way::Shards => run_shards(rt, alloc, &trace, gate)?,
+        Way::ByCalls => run_trace(rt, alloc, &trace, true, gate)?,
+        Way::Copies => run_copies(rt, alloc, &trace, true, gate)?,
+        Way::Shards => run_shards(rt, alloc, &trace, true, gate)?,
     };
     Ok(outcome)
 }

@@ -76,7 +76,7 @@ fn two_takers(rt: HostRuntime) -> Result<(), Fail> {
     };
     let policy = Policy::new(0, None, None);
     let dir = Dir::open(alloc, 1, 4)?;
-    let (_dir, history) = run_pool(&rt, alloc, dir, &policy, &attrs, &calls, &gate)?;
+    let (_dir, history, _logs) = run_pool(&rt, alloc, dir, &policy, &attrs, &calls, false, &gate)?;
     made_once(&rt, &gate.late, &history);
     Ok(())
 }
@@ -122,7 +122,9 @@ fn sixteen_takers_make_each_call_once(rt: HostRuntime) -> Result<(), Fail> {
     let policy = Policy::new(0, None, None);
     let calls = makes(alloc)?;
     let dir = Dir::open(alloc, CALLS, 16 * CALLS)?;
-    let (_dir, history) = run_pool(&rt, alloc, dir, &policy, &attrs, &calls, &OpenGate)?;
+    let (_dir, history, _logs) = run_pool(
+        &rt, alloc, dir, &policy, &attrs, &calls, false, &OpenGate,
+    )?;
     holds(&rt, all_made(alloc, &history)?);
     Ok(())
 }

@@ -30,6 +30,7 @@ fn gather(
         let VersionPass {
             user: _,
             is_open: _,
+            log: _,
             seat: other,
         } = pass;
         table.shared.join_seat::<ReturnUser>(seat, other);

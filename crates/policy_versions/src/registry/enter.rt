@@ -15,6 +15,7 @@ impl VersionPass {
         requires registry { self.old.registry.table ≡ registry.now.table }
         requires closed { self.old.is_open ≡ false }
         ensures same { (self.new.registry ≡ self.old.registry) × (self.new.user ≡ self.old.user) }
+        ensures log { self.new.log ≡ self.old.log }
         ensures tries { Tries self.old self.new result }
         ensures none { result ≡ None → self.new.is_open ≡ false }
         ensures open { IfSome result (λ _. self.new.is_open ≡ true) }
@@ -45,11 +46,13 @@ impl VersionPass {
     pub fn enter<'r, R: Wait>(&mut self, rt: &R, registry: &'r Registry) -> Using<'r>
         requires { IsClosed registry.now self.old }
         ensures same { (self.new.registry ≡ self.old.registry) × (self.new.user ≡ self.old.user) }
+        ensures log { self.new.log ≡ self.old.log }
         ensures open { self.new.is_open ≡ true }
         ensures current { LoadedLast self.old.seen self.new.seen
             (word_of result.version result.which) }
         ensures version { IsVersion result.version }
         ensures newest { IsNewest self.old.seen result.version }
+        ensures newest_so_far { IsNewest self.new.seen result.version }
         ensures of_registry { result.registry ≡ registry.now }
         ensures of_user { result.user ≡ self.old.user }
     {

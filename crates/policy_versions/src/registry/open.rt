@@ -10,6 +10,7 @@ use crate::place::{Place, PlaceId, Right, fill};
 use crate::turns::{SlotTurns, Turns};
 use crate::view::{CurrentWord, Declared, NextUser, View};
 use atomic_table::{Seat, Table};
+use round_log::RoundLog;
 use shfl_line::NoMemory;
 use shfl_policy::Policy;
 use std::alloc::Global;
@@ -57,6 +58,7 @@ fn passes(
         passes.push_reserved(VersionPass {
             user,
             is_open: false,
+            log: RoundLog::new(alloc, false),
             seat: next,
         });
     }
@@ -83,7 +85,7 @@ impl Registry {
     }
 
     /// A registry of 1 to 64 declared policies, the one publisher, and a pass for each of 1 to 65,535 users. Version 0 is a copy of the
-    /// first policy. The room for 4,096 publications is taken here.
+    /// first policy. The room for 4,096 publications is taken here. No pass keeps a log yet.
     pub fn open(
         alloc: Global,
         declared: Vec<Policy>,

@@ -16,15 +16,17 @@ free-requires-clause-within c = let d = (goal.at.free-requires-clause-within c).
 
 pub returns : goal.returns
 returns c = let d = (goal.at.returns c).After-put_value in let i = in-again d in
-    let freed = c.free.ensures (c.args.kept ∷ []) (ap (λ (p : LockPass). p.values) i) in
-    (freed.0, freed.1 ∙ (λ j. record {
-      board = (i j).board;
-      own = as_idle (i j).own;
-      steps_taken = (i j).steps_taken + 1;
-      found = (i j).found ++ freed.0 ∷ [];
-      decisions = (i j).decisions;
-      attempts = (i j).attempts;
-      initial_state = (i j).initial_state;
-      history = sym c.requires.out.unseen j;
-      values = [];
-    }))
+    let freed = c.free.ensures (c.args.kept ∷ []) (ap (λ (p : LockPass). p.values) i) in (
+      freed.0,
+      freed.1 ∙ (λ j. record {
+        board = (i j).board;
+        own = as_idle (i j).own;
+        steps_taken = (i j).steps_taken + 1;
+        found = (i j).found ++ freed.0 ∷ [];
+        decisions = (i j).decisions;
+        attempts = (i j).attempts;
+        initial_state = (i j).initial_state;
+        history = sym c.requires.out.unseen j;
+        values = [];
+      }),
+    )

@@ -10,7 +10,7 @@ invariant-loop-pass g l = record {
   next : (goal.iterator-loop-pass g).can_next l.pass-iterator;
   finite : (goal.iterator-loop-pass g).is_finite l.pass-iterator;
   all : l.fn.passes.items ≡ l.yielded ++ l.pass-iterator.rest.items;
-  users : (done : List PassModel) × (l.fn.users.items ≡ done ++ into_iter_items l.users) × Joined l.yielded done (Some l.fn.attaching) l.activities.items;
+  users : (done : List PassModel) × (l.fn.users.items ≡ done ++ into_iter_items l.users) × Joined l.yielded done l.fn.keeps (Some l.fn.attaching) l.activities.items;
   attaching : l.attaching ≡ first_left l.yielded (Some l.fn.attaching);
   room : vec_len l.activities + length l.pass-iterator.rest.items ≤ vec_capacity l.activities;
 }

@@ -1,4 +1,4 @@
-use Rattle.std.proofs.Common.{◌≡◌, ◌++◌, ◌∷◌, [], length, slice_get, Some, sym, ap, ◌∙◌, subst, arith}
+use Rattle.std.proofs.Common.{◌≡◌, length, slice_get, sym, ap, ◌∙◌, subst, arith}
 use Rattle.shfl_policy.specs.Loading.{IsLoaded}
 use Rattle.trace_text.specs.declared.trace.NamedSource.{NamedSource}
 use Rattle.shfl_workers.specs.Loaded.{AreLoaded}

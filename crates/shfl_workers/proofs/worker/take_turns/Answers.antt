@@ -1,5 +1,6 @@
 use Rattle.std.proofs.Common.{◌+◌, suc, take, drop, sym, ◌∙◌, subst, arith}
 use Rattle.shfl_workers.specs.Progress.{Progress}
+use Rattle.round_log.proofs.WholeRounds.{in_rounds_more}
 use Rattle.shfl_workers.proofs.AskedTurns.{turned}
 use Rattle.shfl_workers.proofs.Turns.{at_place, past_place}
 use Rattle.shfl_workers.proofs.worker.take_turns.Goals as goal
@@ -21,5 +22,7 @@ loop-call-preserved g c =
       progress = subst (λ w. Progress g.D.SharedDir.made g.D.SharedDir.left c.args.registry.now w (take (i + 1) calls) (drop (i + 1) calls) c.take_turn.new.pass c.take_turn.new.attaching) v.worker
           (past_place _ _ _ _ calls i _ _ _ (omega arith) next);
       asked = turned _ _ _ v.worker calls i _ _ _ _ _ _ _ (omega arith) v.asked e.asked;
+      whole = in_rounds_more _ _ _ v.whole e.whole;
+      in_round = λ out. e.in_round (v.in_round out);
       home = e.home ∙ v.home;
     }

@@ -23,4 +23,5 @@ loop-preserved g c = let e = c.try_enter.ensures in let i = c.loop.invariant in 
   e.same.1 ∙ i.1,
   e.none c.in_default.is,
   (e.tries.word ∷ i.3.0, e.tries.seen ∙ ap (λ l. e.tries.word ∷ l) i.3.1),
+  e.log ∙ i.4,
 )

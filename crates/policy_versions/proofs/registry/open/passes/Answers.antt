@@ -1,4 +1,4 @@
-use Rattle.std.proofs.Common.{rules, arith, ◌≡◌, sym, ap, ◌∙◌, length, vec_len, Some, false}
+use Rattle.std.proofs.Common.{None, rules, arith, ◌≡◌, sym, ap, ◌∙◌, length, vec_len, Some, false}
 use Rattle.policy_versions.specs.Places.{RegistryId}
 use Rattle.policy_versions.specs.Models.{fresh, PassModel}
 use Rattle.policy_versions.proofs.Steps.{split_keeps}
@@ -26,6 +26,7 @@ loop-user-preserved c = let i = c.loop-user.invariant in let e = c.split_seat-ne
             user = (let o = old.ok.0 in let n : c.loop-user.user ≡ length old.items = sym i.0 ∙ o in n) j;
             seen = ap (λ m. m.0.seen) next j;
             is_open = false;
+            log = (let none : c.new.result ≡ None = c.new.ensures in none) j;
           })
           i.4,
     )

@@ -1,4 +1,4 @@
-use Rattle.std.proofs.Common.{◌≡◌, List, All, length, ap, ◌∙◌, subst, arith}
+use Rattle.std.proofs.Common.{◌≡◌, length, ap, ◌∙◌, subst, arith}
 use Rattle.dir_table.specs.Numbers.{call_numbers, reply_numbers}
 use Rattle.dir_table.specs.Meanings.{reply_at, state_after}
 use Rattle.hist_log.specs.History.{IsLegal, operations, state_left}

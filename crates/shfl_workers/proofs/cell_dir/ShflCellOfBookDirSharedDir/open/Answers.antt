@@ -1,4 +1,4 @@
-use Rattle.std.proofs.Common.{◌<◌, ◌≤◌, length, map, sum, slice_index, slice_index_or, refl, sym, ap, ◌∙◌, subst, arith}
+use Rattle.std.proofs.Common.{◌≤◌, length, map, sum, slice_index, slice_index_or, refl, sym, ap, ◌∙◌, subst, arith}
 use Rattle.dir_table.specs.Directory.{Directory}
 use Rattle.dir_table.specs.Numbers.{state_numbers}
 use Rattle.shfl_line.specs.Words.{attr_word}

@@ -1,4 +1,4 @@
-use Rattle.std.proofs.Common.{◌<◌, ◌≤◌, ℕ, length, map, vec_len, sum, slice_index, slice_index_or, refl, sym, ap, ◌∙◌, subst, arith}
+use Rattle.std.proofs.Common.{◌<◌, ◌≤◌, length, map, sum, slice_index, slice_index_or, refl, sym, ap, ◌∙◌, subst, arith}
 use Rattle.shfl_line.specs.Words.{attr_word}
 use Rattle.rw_cell.specs.RwCells.{fresh, no_attr}
 use Rattle.shfl_workers.proofs.Opening.{all_alike, first_empty, enough_left}

@@ -13,7 +13,7 @@ use Rattle.dir_shards.specs.Commits.{IsLegalFor}
 use Rattle.shfl_workers.proofs.Numbered.{each_of_dir, everyone, element_at, of_all}
 use Rattle.shfl_workers.proofs.LockRuns.{ran_for}
 use Rattle.shfl_workers.proofs.ShardEnding.{journal_has_all}
-use Rattle.shfl_workers.proofs.Histories.{HasAll, few_entries, is_history}
+use Rattle.shfl_workers.proofs.Histories.{few_entries, is_history}
 use Rattle.shfl_workers.proofs.shard_dir.ShardsSharedDir.close.Goals as goal
 
 pub close-rows-requires-clause-dir : goal.close-rows-requires-clause-dir

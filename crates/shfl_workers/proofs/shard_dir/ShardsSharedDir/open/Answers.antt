@@ -1,4 +1,4 @@
-use Rattle.std.proofs.Common.{◌<◌, length, slice_index, slice_index_or, refl, ap, ◌∙◌, arith}
+use Rattle.std.proofs.Common.{length, slice_index, slice_index_or, refl, ap, ◌∙◌, arith}
 use Rattle.dir_shards.specs.ShardPasses.{fresh, no_attr}
 use Rattle.shfl_workers.proofs.Numbered.{each_place}
 use Rattle.shfl_workers.proofs.shard_dir.ShardsSharedDir.open.Goals as goal
