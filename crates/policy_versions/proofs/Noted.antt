@@ -2,15 +2,17 @@
 use Rattle.std.proofs.Common.{◌≡◌, ℕ, ◌≤◌, List, [], ◌∷◌, ◌++◌, map, Option, Some, None, slice_get, inl, inr, ⊎_elim, sym, refl, ap, ◌∙◌, subst, arith}
 use Rattle.std.specs.List.{AllByRecursion}
 use Rattle.shfl_line.specs.declared.choosers.Told.{Told}
+use Rattle.shfl_line.specs.declared.choosers.Told.TheVariants.{Begun}
 use Rattle.shfl_line.specs.Policies.{Adds}
 use Rattle.round_log.specs.declared.log.Note.{Note}
-use Rattle.round_log.specs.Logs.{AddsNote, NeverFall, told_in}
+use Rattle.round_log.specs.Logs.{AddsNote, told_in}
+use Rattle.round_log.proofs.Growing.{Follows, FollowsBehind, all-more, begun-follows, falls-more, keeps-more}
 use Rattle.shfl_policy.specs.Policies.{PolicyModel}
 use Rattle.policy_versions.specs.Rule.{IsAmong, version_of, which_of, word_of}
 use Rattle.policy_versions.specs.Places.{RegistryId}
 use Rattle.policy_versions.specs.Models.{IsNewest, IsRow, UsingModel}
 use Rattle.policy_versions.specs.Choosing.{IsUseBy}
-use Rattle.policy_versions.specs.Noting.{IsAnswerOf, IsNoted, IsLogOf, IsPublishedNote, AreRoundsOf, note_of}
+use Rattle.policy_versions.specs.Noting.{IsAnswerOf, IsNoted, IsLogOf, IsPublishedNote, AreRoundsOf, EndsUnder, AreLastUnder, IsNotedLast, note_of}
 use Rattle.policy_versions.proofs.Indexed.{has_longer}
 
 -- what is told once more
@@ -27,17 +29,14 @@ pub adds_none : (old : Option (List Note)) (new : Option (List Note)) (more : Li
 adds_none None new more e = ap told_in e
 adds_none (Some notes) new more e = inr (ap told_in e)
 
-all-more : {X : Type 0} (P : X → Type 0) (xs : List X) (x : X) → AllByRecursion P xs → P x → AllByRecursion P (xs ++ x ∷ [])
-all-more P [] x h p = (p, tt)
-all-more P (y ∷ ys) x h p = (h.0, all-more P ys x h.1 p)
-
 all-each : {X : Type 0} (P Q : X → Type 0) (xs : List X) → ((x : X) → P x → Q x) → AllByRecursion P xs → AllByRecursion Q xs
 all-each P Q [] f h = tt
 all-each P Q (x ∷ xs) f h = (f x h.0, all-each P Q xs f h.1)
 
-falls-more : (notes : List Note) (n : Note) → NeverFall notes → AllByRecursion (λ m. m.version ≤ n.version) notes → NeverFall (notes ++ n ∷ [])
-falls-more [] n h below = (tt, tt)
-falls-more (x ∷ xs) n h below = (all-more (λ (m : Note). x.version ≤ m.version) xs n h.0 below.0, falls-more xs n h.1 below.1)
+-- a log that keeps anything goes on with this note
+abbrev pub FollowsIn : Option (List Note) → Note → Type 0
+FollowsIn None n = Unit {0}
+FollowsIn (Some notes) n = Follows notes n
 
 module _ (declared : List PolicyModel) (seen : List ℕ) where
   below : (v : ℕ) → IsNewest seen v → (m : Note) → IsNoted declared seen m → m.version ≤ v
@@ -46,13 +45,14 @@ module _ (declared : List PolicyModel) (seen : List ℕ) where
       let same : version_of (word_of m.version m.which) ≡ m.version = omega (arith, fits) in omega (arith, le, same)
 
   -- a note of the newest version
-  pub log_more : (old new : Option (List Note)) (n : Note) → IsLogOf declared seen old → AddsNote old new n → IsNoted declared seen n → IsNewest seen n.version
-      → IsLogOf declared seen new
-  log_more None new n log adds noted newest = subst (IsLogOf declared seen) (sym adds) tt
-  log_more (Some notes) new n log adds noted newest = ⊎_elim
+  pub log_more : (old new : Option (List Note)) (n : Note) → IsLogOf declared seen old → FollowsIn old n → AddsNote old new n → IsNoted declared seen n
+      → IsNewest seen n.version → IsLogOf declared seen new
+  log_more None new n log follows adds noted newest = subst (IsLogOf declared seen) (sym adds) tt
+  log_more (Some notes) new n log follows adds noted newest = ⊎_elim
       (λ e. subst (IsLogOf declared seen) (sym e) (
         all-more (IsNoted declared seen) notes n log.0 noted,
         falls-more notes n log.1 (all-each (IsNoted declared seen) (λ (m : Note). m.version ≤ n.version) notes (below n.version newest) log.0),
+        keeps-more notes n log.2 follows,
       ))
       (λ e. subst (IsLogOf declared seen) (sym e) tt) adds
 
@@ -63,6 +63,7 @@ module _ (declared : List PolicyModel) (seen : List ℕ) where
     all-each (IsNoted declared seen) (IsNoted declared (more ++ seen)) notes
         (λ m h. record { answered = h.answered; loaded = has_longer (word_of m.version m.which) more seen h.loaded; version = h.version }) log.0,
     log.1,
+    log.2,
   )
 
   -- what was loaded was published
@@ -80,11 +81,42 @@ module _ (declared : List PolicyModel) (seen : List ℕ) where
           published = subst (λ (r : ℕ × ℕ). IsRow rows r.0 r.1) (λ i. (version i, which i)) (loaded word h.loaded);
         }) log.0,
     log.1,
+    log.2,
   )
 
 module _ (registry : RegistryId) (user : ℕ) (seen : List ℕ) (u : UsingModel) (here : IsUseBy registry user seen u) (told : Told) (answer : IsAnswerOf (slice_get registry.declared u.which) told) where
   -- what is told under the use that a round has
-  pub log_under : (old new : Option (List Note)) (n : Note) → IsLogOf registry.declared seen old → n ≡ note_of u told → AddsNote old new n
-      → IsLogOf registry.declared seen new
-  log_under old new n log is adds = log_more registry.declared seen old new (note_of u told) log (subst (AddsNote old new) is adds)
+  pub log_under : (old new : Option (List Note)) (n : Note) → IsLogOf registry.declared seen old → FollowsIn old (note_of u told) → n ≡ note_of u told
+      → AddsNote old new n → IsLogOf registry.declared seen new
+  log_under old new n log follows is adds = log_more registry.declared seen old new (note_of u told) log follows (subst (AddsNote old new) is adds)
       (record { answered = answer; loaded = here.loaded; version = here.version }) here.newest
+
+module _ (u : UsingModel) (told : Told) where
+  ends-behind : (before : Note) (rest : List Note) → EndsUnder u before rest → FollowsBehind before rest (note_of u told)
+  ends-behind before [] h = inr (sym h.0, sym h.1)
+  ends-behind before (m ∷ rest) h = ends-behind m rest h
+
+  ends-more : (before : Note) (rest : List Note) → EndsUnder u before (rest ++ note_of u told ∷ [])
+  ends-more before [] = (refl, refl)
+  ends-more before (m ∷ rest) = ends-more m rest
+
+  are-last : (notes : List Note) → AreLastUnder u (notes ++ note_of u told ∷ [])
+  are-last [] = (refl, refl)
+  are-last (n ∷ rest) = ends-more n rest
+
+  -- in a round that is open
+  pub follows_last : (old : Option (List Note)) → IsNotedLast (Some u) old → FollowsIn old (note_of u told)
+  follows_last None last = tt
+  follows_last (Some []) last = tt
+  follows_last (Some (n ∷ rest)) last = ends-behind n rest last
+
+  pub is_noted_last : (old new : Option (List Note)) (n : Note) → n ≡ note_of u told → AddsNote old new n → IsNotedLast (Some u) new
+  is_noted_last None new n is adds = subst (IsNotedLast (Some u)) (sym adds) tt
+  is_noted_last (Some notes) new n is adds = ⊎_elim
+      (λ e. subst (IsNotedLast (Some u)) (sym (e ∙ ap (λ (m : Note). Some (notes ++ m ∷ [])) is)) (are-last notes))
+      (λ e. subst (IsNotedLast (Some u)) (sym e) tt) adds
+
+-- a round begins
+pub follows_begun : (u : UsingModel) (old : Option (List Note)) → FollowsIn old (note_of u Begun)
+follows_begun u None = tt
+follows_begun u (Some notes) = begun-follows notes (note_of u Begun) refl

@@ -26,7 +26,7 @@ pub struct UsingChooser<'a, 'p> {
 impl<'a, 'p> Model for UsingChooser<'a, 'p> {
     ghost use Rattle.std.specs.Prelude.{◌≡◌};
     ghost use Rattle.policy_versions.specs.Choosing.{ChooserModel, IsHeldBy, is_open};
-    ghost use Rattle.policy_versions.specs.Noting.{IsLogOf};
+    ghost use Rattle.policy_versions.specs.Noting.{IsLogOf, IsNotedLast};
 
     ghost Value = { ChooserModel };
 
@@ -41,7 +41,8 @@ impl<'a, 'p> Model for UsingChooser<'a, 'p> {
     ghost invariant = { λ c. (c.pass.now.registry.table ≡ c.registry.now.table)
         × (c.pass.now.is_open ≡ is_open c.held)
         × IsHeldBy c.registry.now c.pass.now.user c.pass.now.seen c.held
-        × IsLogOf c.registry.now.declared c.pass.now.seen c.pass.now.log };
+        × IsLogOf c.registry.now.declared c.pass.now.seen c.pass.now.log
+        × IsNotedLast c.held c.pass.now.log };
 }
 
 // What is told under a use.

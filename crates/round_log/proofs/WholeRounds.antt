@@ -1,5 +1,5 @@
 -- Whole rounds, one behind the other.
-use Rattle.std.proofs.Common.{◌≡◌, List, [], ◌++◌, flat_map, Option, Some, None, inr, refl}
+use Rattle.std.proofs.Common.{List, [], ◌++◌, flat_map, Option, Some, None, inr, refl}
 use Rattle.shfl_line.specs.declared.choosers.Answer.{Answer}
 use Rattle.shfl_line.specs.declared.choosers.Told.{Told}
 use Rattle.shfl_line.specs.Rounds.{AsksBy}

@@ -3,6 +3,7 @@ use Rattle.std.specs.Prelude.{◌≡◌, ◌⊎◌, ◌≤◌, Bool, List, [], �
 use Rattle.std.specs.List.{AllByRecursion}
 use Rattle.shfl_line.specs.declared.choosers.Answer.{Answer}
 use Rattle.shfl_line.specs.declared.choosers.Told.{Told}
+use Rattle.shfl_line.specs.declared.choosers.Told.TheVariants.{Begun}
 use Rattle.shfl_line.specs.Rounds.{TellsInRounds}
 use Rattle.round_log.specs.declared.log.Note.{Note}
 
@@ -24,6 +25,19 @@ told_in (Some notes) = Some (map (λ n. n.told) notes)
 abbrev pub NeverFall : List Note → Type 0
 NeverFall [] = Unit {0}
 NeverFall (n ∷ rest) = AllByRecursion (λ m. n.version ≤ m.version) rest × NeverFall rest
+
+-- what begins no round has the version, and so the policy, of the note before it
+abbrev pub GoesOn : Note → Note → Type 0
+GoesOn before n = (n.told ≡ Begun) ⊎ ((n.version ≡ before.version) × (n.which ≡ before.which))
+
+abbrev pub GoOnBehind : Note → List Note → Type 0
+GoOnBehind before [] = Unit {0}
+GoOnBehind before (n ∷ rest) = GoesOn before n × GoOnBehind n rest
+
+-- each round keeps the version that it began with
+abbrev pub KeepVersions : List Note → Type 0
+KeepVersions [] = Unit {0}
+KeepVersions (n ∷ rest) = GoOnBehind n rest
 
 -- between these two a policy was told whole rounds, and nothing else
 abbrev pub InRounds : Option (List Told) → Option (List Told) → Type 0

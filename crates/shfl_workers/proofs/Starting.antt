@@ -47,7 +47,7 @@ joined_count (p ∷ ps) (u ∷ us) keeps first [] j = absurd j
 joined_count (p ∷ ps) (u ∷ us) keeps first (a ∷ all) j = ap suc (joined_count ps us keeps None all j.1)
 
 log_begun : (declared : List PolicyModel) (seen : List ℕ) (keeps : Bool) → IsLogOf declared seen (begun keeps)
-log_begun declared seen true = (tt, tt)
+log_begun declared seen true = (tt, tt, tt)
 log_begun declared seen false = tt
 
 module _ {Pass : Type 0} (number : Pass → ℕ) (is_pass : Pass → Type 0) (made : Pass → List DirCall → Type 0) (left : Pass → ℕ)

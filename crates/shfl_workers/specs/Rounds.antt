@@ -8,7 +8,8 @@ use Rattle.trace_text.specs.declared.trace.Trace.{Trace}
 use Rattle.shfl_workers.specs.Loaded.{AreLoaded}
 
 -- A log for each worker of the trace. Where they keep anything, each has whole rounds; each note is of a version that was published,
--- or of the first one, and its answer is that of the trace's policy which this version is; and versions never fall.
+-- or of the first one, and its answer is that of the trace's policy which this version is; each round keeps its version, and versions
+-- never fall.
 pub record HaveRounds (t : Trace) (keeps : Bool) (versions : List (ℕ × ℕ)) (logs : List (Option (List Note))) : Type 0 where
   pub many : length logs ≡ length t.workers.items
   pub declared : List PolicyModel
