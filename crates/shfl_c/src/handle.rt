@@ -1,17 +1,15 @@
 //! A ticket as C holds it: one pointer.
 ghost use Rattle.std.specs.Prelude.{◌≡◌, [], ◌∷◌, List};
 ghost use Rattle.shfl_ticket.specs.Tickets.{TicketModel};
-ghost use Rattle.shfl_c.specs.Handles.{handle_owns, tickets_coded};
+ghost use Rattle.shfl_c.specs.Handles.{ticket_owned, tickets_coded};
 
-mod parts;
-
-use parts::Parts;
+use boxed_handle::Handle;
 use shfl_ticket::Ticket;
 use std::alloc::Global;
 use std::marker::Model;
 use std::mem::replace;
 
-/// Null, or the place of a ticket that it owns.
+/// A `Handle` of tickets without its type parameters, since a signature for C takes no type that has any.
 #[repr(C)]
 #[derive(Drop)]
 pub struct ShflPass {
@@ -21,51 +19,33 @@ pub struct ShflPass {
 }
 
 impl Model for ShflPass {
-    ghost also_owns = { λ p. handle_owns p.alloc p.at p.tickets };
+    ghost also_owns = { λ p. ticket_owned p.alloc p.at p.tickets };
 }
 
 impl ShflPass {
-    /// A handle that owns nothing.
-    pub fn blank(alloc: Global) -> ShflPass
-        ensures { result.tickets ≡ [] }
-    {
-        ShflPass {
-            at: std::ptr::null_mut(),
-            alloc,
-        }
-    }
-
     /// The handle of this ticket.
     pub fn new(ticket: Box<Ticket, Global>) -> ShflPass
         ensures { result.tickets ≡ ticket.value ∷ [] }
     {
-        ShflPass::of_parts(Parts::of(ticket))
+        ShflPass::of_handle(Handle::new(ticket))
     }
 
-    fn into_box(self) -> Box<Ticket, Global>
-        requires { (x : TicketModel) × (self.tickets ≡ x ∷ []) }
-        ensures { self.tickets ≡ result.value ∷ [] }
+    fn of_handle(handle: Handle<Ticket, Global>) -> ShflPass
+        ensures { result.tickets ≡ handle.owned }
     {
-        self.into_parts().into_box()
-    }
-
-    fn of_parts(parts: Parts<Ticket, Global>) -> ShflPass
-        ensures { result.tickets ≡ parts.value ∷ [] }
-    {
-        let Parts { ptr, alloc } = parts;
+        let Handle { at, alloc } = handle;
         ShflPass {
-            at: ptr as *mut u8,
+            at: at as *mut u8,
             alloc,
         }
     }
 
-    fn into_parts(self) -> Parts<Ticket, Global>
-        requires { (x : TicketModel) × (self.tickets ≡ x ∷ []) }
-        ensures { self.tickets ≡ result.value ∷ [] }
+    fn into_handle(self) -> Handle<Ticket, Global>
+        ensures { result.owned ≡ self.tickets }
     {
         let ShflPass { at, alloc } = self;
-        Parts {
-            ptr: at as *mut Ticket,
+        Handle {
+            at: at as *mut Ticket,
             alloc,
         }
     }
@@ -79,5 +59,7 @@ pub fn taken(alloc: Global, pass: &mut ShflPass) -> Box<Ticket, Global>
     ensures value { pass.old.tickets ≡ result.value ∷ [] }
     ensures empty { pass.new.tickets ≡ [] }
 {
-    replace(pass, ShflPass::blank(alloc)).into_box()
+    replace(pass, ShflPass::of_handle(Handle::blank(alloc)))
+        .into_handle()
+        .into_box()
 }

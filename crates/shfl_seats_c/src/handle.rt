@@ -1,17 +1,15 @@
 //! A ticket as C holds it: one pointer.
 ghost use Rattle.std.specs.Prelude.{◌≡◌, [], ◌∷◌, List};
 ghost use Rattle.shfl_seats.specs.Tickets.{TicketModel};
-ghost use Rattle.shfl_seats_c.specs.Handles.{handle_owns, tickets_coded};
+ghost use Rattle.shfl_seats_c.specs.Handles.{ticket_owned, tickets_coded};
 
-mod parts;
-
-use parts::Parts;
+use boxed_handle::Handle;
 use shfl_seats::SeatTicket;
 use std::alloc::Global;
 use std::marker::Model;
 use std::mem::replace;
 
-/// Null, or the place of a ticket that it owns.
+/// A `Handle` of tickets without its type parameters, since a signature for C takes no type that has any.
 #[repr(C)]
 #[derive(Drop)]
 pub struct ShflSeat {
@@ -21,51 +19,33 @@ pub struct ShflSeat {
 }
 
 impl Model for ShflSeat {
-    ghost also_owns = { λ p. handle_owns p.alloc p.at p.tickets };
+    ghost also_owns = { λ p. ticket_owned p.alloc p.at p.tickets };
 }
 
 impl ShflSeat {
-    /// A handle that owns nothing.
-    pub fn blank(alloc: Global) -> ShflSeat
-        ensures { result.tickets ≡ [] }
-    {
-        ShflSeat {
-            at: std::ptr::null_mut(),
-            alloc,
-        }
-    }
-
     /// The handle of this ticket.
     pub fn new(ticket: Box<SeatTicket, Global>) -> ShflSeat
         ensures { result.tickets ≡ ticket.value ∷ [] }
     {
-        ShflSeat::of_parts(Parts::of(ticket))
+        ShflSeat::of_handle(Handle::new(ticket))
     }
 
-    fn into_box(self) -> Box<SeatTicket, Global>
-        requires { (x : TicketModel) × (self.tickets ≡ x ∷ []) }
-        ensures { self.tickets ≡ result.value ∷ [] }
+    fn of_handle(handle: Handle<SeatTicket, Global>) -> ShflSeat
+        ensures { result.tickets ≡ handle.owned }
     {
-        self.into_parts().into_box()
-    }
-
-    fn of_parts(parts: Parts<SeatTicket, Global>) -> ShflSeat
-        ensures { result.tickets ≡ parts.value ∷ [] }
-    {
-        let Parts { ptr, alloc } = parts;
+        let Handle { at, alloc } = handle;
         ShflSeat {
-            at: ptr as *mut u8,
+            at: at as *mut u8,
             alloc,
         }
     }
 
-    fn into_parts(self) -> Parts<SeatTicket, Global>
-        requires { (x : TicketModel) × (self.tickets ≡ x ∷ []) }
-        ensures { self.tickets ≡ result.value ∷ [] }
+    fn into_handle(self) -> Handle<SeatTicket, Global>
+        ensures { result.owned ≡ self.tickets }
     {
         let ShflSeat { at, alloc } = self;
-        Parts {
-            ptr: at as *mut SeatTicket,
+        Handle {
+            at: at as *mut SeatTicket,
             alloc,
         }
     }
@@ -79,5 +59,7 @@ pub fn taken(alloc: Global, pass: &mut ShflSeat) -> Box<SeatTicket, Global>
     ensures value { pass.old.tickets ≡ result.value ∷ [] }
     ensures empty { pass.new.tickets ≡ [] }
 {
-    replace(pass, ShflSeat::blank(alloc)).into_box()
+    replace(pass, ShflSeat::of_handle(Handle::blank(alloc)))
+        .into_handle()
+        .into_box()
 }

@@ -1,7 +1,7 @@
-use Rattle.std.proofs.Common.{◌≡◌, List, [], ◌∷◌, map, subst}
+use Rattle.std.proofs.Common.{subst}
 use Rattle.shfl_line.specs.declared.events.Form.{Form}
 use Rattle.shfl_ticket.specs.Tickets.{AreOpened}
-use Rattle.shfl_c.proofs.BoxedTickets.{each-boxed, ok-more}
+use Rattle.boxed_handle.proofs.Boxes.{each-boxed, ok-more}
 use Rattle.shfl_c.proofs.opening.opened.Goals as goal
 
 pub returns : goal.returns
