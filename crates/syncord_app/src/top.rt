@@ -6,9 +6,9 @@ ghost use Rattle.syn_outer.specs.Causes.{CallsAtMost};
 ghost use Rattle.syncord_endings.specs.Endings.{most_bytes};
 ghost use Rattle.syncord_endings.specs.Traffic.{through, Takes, Told};
 ghost use Rattle.syncord_line.specs.Reports as line;
-ghost use Rattle.syncord_verify.specs.Verdicts.{Verifies};
-ghost use Rattle.syncord_asm.specs.Assemblies.{Assembles};
-ghost use Rattle.syncord_asm.specs.Listings.{Disassembles};
+ghost use Rattle.syncord_verify.specs.Verdicts as verify;
+ghost use Rattle.syncord_asm.specs.Assemblies as assembly;
+ghost use Rattle.syncord_asm.specs.Listings as listing;
 ghost use Rattle.shfl_workers.specs.LockRuns.{RanByThreads, RanByShards};
 ghost use Rattle.syncord_replay.specs.declared.words.BulkWords.{BulkWords as Numbers};
 ghost use Rattle.syncord_replay.specs.Replays as replay;
@@ -72,7 +72,8 @@ pub fn syncord<Rt: Threads + Wait + Sync, R: Source, W: Sink, E: Sink, G: Gate +
 
     // `verify` accepts or refuses the program, or ends otherwise with its cause.
     ensures verify { (profile : ProfileValue) →
-        command_in (map string_bytes words.now) ≡ Some (Verify profile) → Verifies profile
+        command_in (map string_bytes words.now) ≡ Some (Verify profile) →
+        Performs (verify.Reports profile) (verify.Refuses profile)
         (through R.left R.faults src.old src.new)
         (through W.held W.faults out.old out.new)
         (through E.held E.faults err.old err.new) result }
@@ -111,14 +112,16 @@ pub fn syncord<Rt: Threads + Wait + Sync, R: Source, W: Sink, E: Sink, G: Gate +
 
     // `asm` assembles a text, or ends otherwise with its cause.
     ensures asm { (profile : ProfileValue) →
-        command_in (map string_bytes words.now) ≡ Some (Assemble profile) → Assembles profile
+        command_in (map string_bytes words.now) ≡ Some (Assemble profile) →
+        Performs (assembly.Reports profile) (assembly.Refuses profile)
         (through R.left R.faults src.old src.new)
         (through W.held W.faults out.old out.new)
         (through E.held E.faults err.old err.new) result }
 
     // `disasm` lists a program, or ends otherwise with its cause.
     ensures disasm { (profile : ProfileValue) →
-        command_in (map string_bytes words.now) ≡ Some (Disassemble profile) → Disassembles profile
+        command_in (map string_bytes words.now) ≡ Some (Disassemble profile) →
+        Performs (listing.Reports profile) (verify.IsNoProgram profile)
         (through R.left R.faults src.old src.new)
         (through W.held W.faults out.old out.new)
         (through E.held E.faults err.old err.new) result }

@@ -7,8 +7,6 @@ use Rattle.bpf_asm.specs.Assembly.{assembly}
 use Rattle.bpf_asm.specs.declared.error.AsmError.TheVariants.{Format}
 use Rattle.syncord_endings.specs.declared.ending.Refusal.{Refusal}
 use Rattle.syncord_endings.specs.declared.ending.Refusal.TheVariants.{Line}
-use Rattle.syncord_endings.specs.Traffic.{Traffic}
-use Rattle.syncord_endings.specs.Endings.{Answers, Decides}
 use Rattle.syncord_asm.specs.Slots.{slot_lines}
 
 -- the text says these instructions, and the report has the slots of their encoding
@@ -23,9 +21,3 @@ pub record Refuses (profile : Profile) (text : List ℕ) (refusal : Refusal) : T
   pub what : ℕ
   pub found : assembly profile text ≡ Err (Format line what)
   pub told : refusal ≡ Line line what
-
--- What the command does with its input, its output and the error stream, and the status that it answers:
--- the status has its cause, and a text is assembled or refused unless something fails or memory runs out.
-pub record Assembles (profile : Profile) (input output error : Traffic) (status : ℕ) : Type 0 where
-  pub answer : Answers (Reports profile) (Refuses profile) input output error status
-  pub complete : Decides (Refuses profile) input output status

@@ -3,8 +3,6 @@ use Rattle.std.specs.Prelude.{◌≡◌, ℕ, List}
 use Rattle.bpf_isa.specs.declared.insn.Insn.{Insn}
 use Rattle.bpf_isa.specs.declared.insn.Profile.{Profile}
 use Rattle.bpf_asm.specs.Disassembly.{disassembly}
-use Rattle.syncord_endings.specs.Traffic.{Traffic}
-use Rattle.syncord_endings.specs.Endings.{Answers, Decides}
 use Rattle.syncord_verify.specs.Verdicts.{Writes, IsNoProgram}
 
 -- the digits write bytes that decode to these instructions, and the report is their text
@@ -12,9 +10,3 @@ pub record Reports (profile : Profile) (digits report : List ℕ) : Type 0 where
   pub insns : List Insn
   pub written : Writes profile digits insns
   pub told : report ≡ disassembly insns
-
--- What the command does with its input, its output and the error stream, and the status that it answers:
--- the status has its cause, and a program is listed or refused unless something fails or memory runs out.
-pub record Disassembles (profile : Profile) (input output error : Traffic) (status : ℕ) : Type 0 where
-  pub answer : Answers (Reports profile) (IsNoProgram profile) input output error status
-  pub complete : Decides (IsNoProgram profile) input output status

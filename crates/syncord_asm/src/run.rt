@@ -27,8 +27,8 @@ impl Work for Assemble {
 
     ghost refuses = { λ command text refusal. Refuses command.profile text refusal };
 
-    fn report(&self, alloc: Global, text: &[u8]) -> Result<Vec<u8>, Refusal> {
-        assembled(alloc, self.profile, text)
+    fn report(&self, alloc: Global, text: Vec<u8>) -> Result<Vec<u8>, Refusal> {
+        assembled(alloc, self.profile, &text)
     }
 }
 
@@ -46,8 +46,8 @@ impl Work for Disassemble {
 
     ghost refuses = { λ command digits refusal. IsNoProgram command.profile digits refusal };
 
-    fn report(&self, alloc: Global, digits: &[u8]) -> Result<Vec<u8>, Refusal> {
-        listed(alloc, self.profile, digits)
+    fn report(&self, alloc: Global, digits: Vec<u8>) -> Result<Vec<u8>, Refusal> {
+        listed(alloc, self.profile, &digits)
     }
 }
 

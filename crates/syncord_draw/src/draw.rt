@@ -19,8 +19,8 @@ impl Work for Command {
 
     ghost refuses = { λ _ bytes refusal. Refuses bytes refusal };
 
-    fn report(&self, alloc: Global, bytes: &[u8]) -> Result<Vec<u8>, Refusal> {
-        drawn(alloc, *self, bytes)
+    fn report(&self, alloc: Global, bytes: Vec<u8>) -> Result<Vec<u8>, Refusal> {
+        drawn(alloc, *self, &bytes)
     }
 }
 

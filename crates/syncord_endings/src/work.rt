@@ -19,15 +19,20 @@ pub trait Work {
     /// The bytes are refused so.
     ghost refuses: { Self → List ℕ → Refusal → Type 0 };
 
-    /// Makes the report of the bytes, or says why there is none.
-    fn report(&self, alloc: Global, bytes: &[u8]) -> Result<Vec<u8>, Refusal>
-        requires { length bytes.now ≤ most_bytes }
-        ensures report { IfOk result (λ text. reports self.now bytes.now text.items) }
-        ensures refusal { IfErr result (Due (refuses self.now bytes.now)) };
+    /// What it rests on, as what a closure promises that it calls. Most rest on nothing.
+    ghost ready: { Self → Type 0 } = { λ _. Unit {0} };
+
+    /// Makes the report of the bytes, whose memory it may give back before, or says why there is none.
+    fn report(&self, alloc: Global, bytes: Vec<u8>) -> Result<Vec<u8>, Refusal>
+        requires few { length bytes.items ≤ most_bytes }
+        requires ready { ready self.now }
+        ensures report { IfOk result (λ text. reports self.now bytes.items text.items) }
+        ensures refusal { IfErr result (Due (refuses self.now bytes.items)) };
 }
 
 /// Reads, makes the report, and writes it.
 fn ending<K: Work, R: Source, W: Sink>(work: &K, alloc: Global, src: &mut R, out: &mut W) -> Ending
+    requires { K.ready work.now }
     ensures ends { Ends (K.reports work.now) (K.refuses work.now)
         (through R.left R.faults src.old src.new)
         (through W.held W.faults out.old out.new) result }
@@ -37,7 +42,7 @@ fn ending<K: Work, R: Source, W: Sink>(work: &K, alloc: Global, src: &mut R, out
         Ok(bytes) => bytes,
         Err(ending) => return ending,
     };
-    match work.report(alloc, &bytes) {
+    match work.report(alloc, bytes) {
         Ok(text) => deliver(out, &text),
         Err(refusal) => Ending::NoReport(refusal),
     }
@@ -52,6 +57,7 @@ pub fn perform_as<K: Work, R: Source, W: Sink, E: Sink>(
     out: &mut W,
     err: &mut E,
 ) -> u8
+    requires { K.ready work.now }
     ensures answer { AnswersAs program.now (K.reports work.now) (K.refuses work.now)
         (through R.left R.faults src.old src.new)
         (through W.held W.faults out.old out.new)
@@ -74,6 +80,7 @@ pub fn perform<K: Work, R: Source, W: Sink, E: Sink>(
     out: &mut W,
     err: &mut E,
 ) -> u8
+    requires { K.ready work.now }
     ensures answer { Answers (K.reports work.now) (K.refuses work.now)
         (through R.left R.faults src.old src.new)
         (through W.held W.faults out.old out.new)

@@ -2,41 +2,18 @@
 ghost use Rattle.std.specs.Prelude.{◌+◌};
 ghost use Rattle.syn_outer.specs.Causes.{CallsAtMost};
 ghost use Rattle.syncord_endings.specs.Traffic.{through};
-ghost use Rattle.syncord_endings.specs.Endings.{Ends, Answers, Decides, most_bytes};
+ghost use Rattle.syncord_endings.specs.Endings.{Answers, Decides, most_bytes};
 ghost use Rattle.syncord_pool.specs.Runs.{TakesEach, LeavesRuns};
 ghost use Rattle.syncord_pool.specs.Reports.{Reports, Refuses};
 
 use crate::manner::PoolManner;
 use crate::outcome::PoolRun;
-use crate::report::pooled;
+use crate::report::Pooling;
 use std::alloc::Global;
+use std::marker::PhantomData;
 use syn_outer::{Sink, Source};
-use syncord_endings::{Ending, deliver, read_input, tell_ending};
+use syncord_endings::perform;
 use trace_text::{NoMemory, Trace};
-
-/// Reads, runs the calls, and writes the report.
-fn ending<M: PoolManner, F: Fn(Global, &Trace) -> Result<PoolRun, NoMemory>, R: Source, W: Sink>(
-    runner: &F,
-    alloc: Global,
-    src: &mut R,
-    out: &mut W,
-) -> Ending
-    requires takes { TakesEach (F.pre runner.now) (λ t. t.now) }
-    requires leaves { LeavesRuns M.ran (F.post runner.now) (λ t. t.now) }
-    ensures ends { Ends (Reports M.ran) Refuses
-        (through R.left R.faults src.old src.new)
-        (through W.held W.faults out.old out.new) result }
-    ensures reads { CallsAtMost (most_bytes + 1) (R.calls src.old) (R.calls src.new) }
-{
-    let bytes = match read_input(alloc, src) {
-        Ok(bytes) => bytes,
-        Err(ending) => return ending,
-    };
-    match pooled::<M, F>(runner, alloc, &bytes) {
-        Ok(text) => deliver(out, &text),
-        Err(refusal) => Ending::NoReport(refusal),
-    }
-}
 
 /// Does all of the command `pool` that follows its words, and answers the status. The calls are run by `runner`: who takes which
 /// call, and in which order they are made, is left open.
@@ -58,7 +35,9 @@ pub fn run_pool<
         (through W.held W.faults out.old out.new) result }
     ensures reads { CallsAtMost (most_bytes + 1) (R.calls src.old) (R.calls src.new) }
 {
-    let ending = ending::<M, F, R, W>(runner, alloc, src, out);
-    tell_ending(err, ending);
-    ending.status()
+    let work: Pooling<'_, M, F> = Pooling {
+        runner,
+        manner: PhantomData,
+    };
+    perform(&work, alloc, src, out, err)
 }

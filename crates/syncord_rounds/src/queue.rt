@@ -1,15 +1,11 @@
 //! From the bytes of a trace whose calls stand in one queue to its report with the rounds behind it, or to the first bad line.
-ghost use Rattle.std.specs.Prelude.{◌≡◌, ◌++◌, map, codes, IsSome, IfOk, IfErr, OnOk};
-ghost use Rattle.std.specs.List.{AllByRecursion};
+ghost use Rattle.std.specs.Prelude.{IfOk, IfErr};
 ghost use Rattle.syncord_endings.specs.Endings.{Due};
-ghost use Rattle.trace_text.specs.Traces.{policy_names_of};
-ghost use Rattle.pool_text.specs.PoolReports.{pool_report, pool_of};
 ghost use Rattle.syncord_pool.specs.Reports.{Refuses};
 ghost use Rattle.syncord_pool.specs.Runs.{MayRun, IsPooled};
 ghost use Rattle.syncord_rounds.specs.Queued.{HaveFirstRounds, IsToldOf, RanFromQueue, TellsPool};
-ghost use Rattle.syncord_rounds.specs.Rounds.{rounds_text, notes_in};
 
-use crate::rounds::{are_kept, push_rounds};
+use crate::rounds::with_rounds;
 use call_pool::run_pool;
 use dir_table::Dir;
 use doc_text::Fault;
@@ -65,23 +61,6 @@ fn run_queue<Rt: Threads + Wait + Sync, G: Gate + Sync>(
     }
 }
 
-// The report of what a run left, and the rounds behind it. Where a log is wanting, so is all.
-fn text_of(alloc: Global, trace: &Trace, outcome: &PoolOutcome) -> Result<Vec<u8>, NoMemory>
-    ensures text { IfOk result (λ text. text.items
-        ≡ pool_report (pool_of trace.now outcome.now.history.items outcome.now.dir)
-        ++ rounds_text (policy_names_of trace.now) (codes "queue")
-        (map notes_in outcome.now.rounds.items)) }
-    ensures kept { OnOk result (AllByRecursion IsSome outcome.now.rounds.items) }
-{
-    let logs = outcome.rounds.as_slice();
-    if !are_kept(logs) {
-        return Err(NoMemory);
-    }
-    let mut text = render_pool(alloc, trace, outcome.history.as_slice(), &outcome.dir)?;
-    push_rounds(&mut text, trace.policies.as_slice(), b"queue", logs)?;
-    Ok(text)
-}
-
 // Runs the calls of a trace, and tells what came of it.
 fn told_of<Rt: Threads + Wait + Sync, G: Gate + Sync>(
     rt: &Rt,
@@ -93,7 +72,10 @@ fn told_of<Rt: Threads + Wait + Sync, G: Gate + Sync>(
     ensures { IfOk result (λ text. IsToldOf trace.now text.items) }
 {
     let outcome = run_queue(rt, gate, alloc, trace)?;
-    let text = text_of(alloc, trace, &outcome)?;
+    let history = outcome.history.as_slice();
+    let report = render_pool(alloc, trace, history, &outcome.dir)?;
+    let logs = outcome.rounds.as_slice();
+    let text = with_rounds(report, trace, b"queue", logs)?;
     Ok(text)
 }
 

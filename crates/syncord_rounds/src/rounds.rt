@@ -1,16 +1,17 @@
 //! How a report tells what policies were told.
-ghost use Rattle.std.specs.Prelude.{◌≡◌, ◌++◌, map, IsSome, IsTrue, OnOk};
+ghost use Rattle.std.specs.Prelude.{◌≡◌, ◌++◌, map, IsSome, IsTrue, IfOk, OnOk};
 ghost use Rattle.std.specs.List.{AllByRecursion, flat_map};
 ghost use Rattle.doc_text.specs.Text.{ended};
 ghost use Rattle.name_order.specs.Names.{name_at};
 ghost use Rattle.policy_text.specs.Blanks.{blanked};
+ghost use Rattle.trace_text.specs.Traces.{policy_names_of};
 ghost use Rattle.syncord_rounds.specs.Rounds.{question_words, answer_words, told_words, note_line, log_lines, notes_in, heading_line, rounds_text};
 
 use doc_text::{push_decimal, push_line};
 use policy_text::{NoMemory, push_number, push_word};
 use round_log::{Note, RoundLog};
 use shfl_line::{Answer, Attr, Told};
-use trace_text::NamedSource;
+use trace_text::{NamedSource, Trace};
 
 // The name of a policy, and no bytes where there is no such policy.
 fn policy_name(policies: &[NamedSource], k: u32) -> &[u8]
@@ -119,9 +120,9 @@ fn push_heading(out: &mut Vec<u8>, lock: &[u8]) -> Result<(), NoMemory>
     Ok(())
 }
 
-/// Which kind of lock ran, and what the policies of each worker were told.
+// Which kind of lock ran, and what the policies of each worker were told.
 #[tactic(auto, using(policy_text::proofs::Written::text_rules))]
-pub fn push_rounds(
+fn push_rounds(
     out: &mut Vec<u8>,
     policies: &[NamedSource],
     lock: &[u8],
@@ -136,8 +137,8 @@ pub fn push_rounds(
     Ok(())
 }
 
-/// Whether each log has all that it was to keep: there was memory for it.
-pub fn are_kept(logs: &[RoundLog]) -> bool
+// Whether each log has all that it was to keep: there was memory for it.
+fn are_kept(logs: &[RoundLog]) -> bool
     ensures { IsTrue result → AllByRecursion IsSome logs.now }
 {
     for log in logs {
@@ -146,4 +147,23 @@ pub fn are_kept(logs: &[RoundLog]) -> bool
         }
     }
     true
+}
+
+/// The report of a run, and the rounds behind it. Where a log is wanting, so is all.
+pub fn with_rounds(
+    report: Vec<u8>,
+    trace: &Trace,
+    lock: &[u8],
+    logs: &[RoundLog],
+) -> Result<Vec<u8>, NoMemory>
+    ensures text { IfOk result (λ text. text.items ≡ report.items
+        ++ rounds_text (policy_names_of trace.now) lock.now (map notes_in logs.now)) }
+    ensures kept { OnOk result (AllByRecursion IsSome logs.now) }
+{
+    if !are_kept(logs) {
+        return Err(NoMemory);
+    }
+    let mut text = report;
+    push_rounds(&mut text, trace.policies.as_slice(), lock, logs)?;
+    Ok(text)
 }

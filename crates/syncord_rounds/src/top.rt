@@ -1,7 +1,7 @@
 //! The program as one call: words and bytes in, a status, a report with its rounds and an error line out.
 ghost use Rattle.std.specs.Prelude.{◌≡◌, map, string_bytes, codes, Some, None, IfOk, IfErr};
 ghost use Rattle.syncord_endings.specs.Traffic.{through, Told};
-ghost use Rattle.syncord_endings.specs.Endings.{AnswersAs, Decides, Due, Ends};
+ghost use Rattle.syncord_endings.specs.Endings.{AnswersAs, Decides, Due};
 ghost use Rattle.syncord_rounds.specs.declared.commands.Command.{Command as Wanted};
 ghost use Rattle.syncord_rounds.specs.Commands.{command_in};
 ghost use Rattle.syncord_rounds.specs.Reports.{Reports, Refuses};
@@ -13,7 +13,7 @@ use std::alloc::Global;
 use std::sync::Wait;
 use std::thread::Threads;
 use syn_outer::{Gate, Sink, Source};
-use syncord_endings::{Ending, Refusal, deliver, read_input, tell, tell_ending_as};
+use syncord_endings::{Refusal, Work, perform_as, tell};
 
 /// What the command tells of the trace that the bytes are.
 fn rounds_of<Rt: Threads + Wait + Sync, G: Gate + Sync>(
@@ -32,26 +32,25 @@ fn rounds_of<Rt: Threads + Wait + Sync, G: Gate + Sync>(
     }
 }
 
-/// Reads, runs, and writes what came of it.
-fn ending<Rt: Threads + Wait + Sync, G: Gate + Sync, R: Source, W: Sink>(
-    rt: &Rt,
-    gate: &G,
-    alloc: Global,
+/// A command, whose report `teller` makes: that starts threads, over what is `Sync` by a bound of the function alone that made it.
+#[derive_where(Clone, Copy)]
+struct Telling<'a, F> {
     command: Command,
-    src: &mut R,
-    out: &mut W,
-) -> Ending
-    ensures { Ends (Reports command) (Refuses command)
-        (through R.left R.faults src.old src.new)
-        (through W.held W.faults out.old out.new) result }
-{
-    let bytes = match read_input(alloc, src) {
-        Ok(bytes) => bytes,
-        Err(ending) => return ending,
-    };
-    match rounds_of(rt, gate, alloc, command, bytes) {
-        Ok(text) => deliver(out, &text),
-        Err(refusal) => Ending::NoReport(refusal),
+    teller: &'a F,
+}
+
+impl<'a, F: Fn(Global, Vec<u8>) -> Result<Vec<u8>, Refusal>> Work for Telling<'a, F> {
+    ghost use Rattle.syncord_rounds.specs.Reports.{Reports, Refuses, TellsEach};
+
+    ghost reports = { λ work bytes text. Reports work.command bytes text };
+
+    ghost refuses = { λ work bytes refusal. Refuses work.command bytes refusal };
+
+    ghost ready = { λ work. F.IsAlwaysCallable work.teller.now
+        × TellsEach work.command (F.post work.teller.now) (λ v. v.items) };
+
+    fn report(&self, alloc: Global, bytes: Vec<u8>) -> Result<Vec<u8>, Refusal> {
+        (self.teller)(alloc, bytes)
     }
 }
 
@@ -73,9 +72,15 @@ fn perform<Rt: Threads + Wait + Sync, G: Gate + Sync, R: Source, W: Sink, E: Sin
         (through R.left R.faults src.old src.new)
         (through W.held W.faults out.old out.new) result }
 {
-    let ending = ending(rt, gate, alloc, command, src, out);
-    tell_ending_as(err, b"syncord-rounds", ending);
-    ending.status()
+    let teller = |alloc: Global, bytes: Vec<u8>| -> Result<Vec<u8>, Refusal>
+        ensures report { IfOk result (λ text. Reports command bytes.items text.items) }
+        ensures refusal { IfErr result (Due (Refuses command bytes.items)) }
+    { rounds_of(rt, gate, alloc, command, bytes) };
+    let work = Telling {
+        command,
+        teller: &teller,
+    };
+    perform_as(b"syncord-rounds", &work, alloc, src, out, err)
 }
 
 /// Runs a trace as the words behind the program's name say, tells its report and its rounds, and answers the status. A thread runs for

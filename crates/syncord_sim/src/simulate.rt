@@ -1,6 +1,6 @@
 //! The program as one call: words and bytes in, a status, a report and an error line out.
 ghost use Rattle.std.specs.Prelude.{◌≡◌, map, string_bytes, codes, Some, None};
-ghost use Rattle.syncord_endings.specs.Traffic.{traffic, Told};
+ghost use Rattle.syncord_endings.specs.Traffic.{through, Told};
 ghost use Rattle.syncord_endings.specs.Endings.{AnswersAs, Decides};
 ghost use Rattle.syncord_sim.specs.Commands.{Wanted, command_in};
 ghost use Rattle.syncord_sim.specs.Simulations.{Writes, Refuses};
@@ -19,8 +19,8 @@ impl<'a> Work for Command<'a> {
 
     ghost refuses = { λ command bytes refusal. Refuses (said command) bytes refusal };
 
-    fn report(&self, alloc: Global, bytes: &[u8]) -> Result<Vec<u8>, Refusal> {
-        simulation(alloc, *self, bytes)
+    fn report(&self, alloc: Global, bytes: Vec<u8>) -> Result<Vec<u8>, Refusal> {
+        simulation(alloc, *self, &bytes)
     }
 }
 
@@ -37,21 +37,21 @@ pub fn simulate<R: Source, W: Sink, E: Sink>(
     ensures untouched { command_in (map string_bytes words.now) ≡ None →
         (src.new ≡ src.old) × (out.new ≡ out.old) }
     ensures told { command_in (map string_bytes words.now) ≡ None →
-        Told (traffic (E.held err.old) (E.held err.new) (E.faults err.old) (E.faults err.new))
+        Told (through E.held E.faults err.old err.new)
         (codes "syncord-sim: words\n") }
 
     // The status has its cause.
     ensures answer { (wanted : Wanted) → command_in (map string_bytes words.now) ≡ Some wanted →
         AnswersAs (codes "syncord-sim") (Writes wanted) (Refuses wanted)
-        (traffic (R.left src.old) (R.left src.new) (R.faults src.old) (R.faults src.new))
-        (traffic (W.held out.old) (W.held out.new) (W.faults out.old) (W.faults out.new))
-        (traffic (E.held err.old) (E.held err.new) (E.faults err.old) (E.faults err.new)) result }
+        (through R.left R.faults src.old src.new)
+        (through W.held W.faults out.old out.new)
+        (through E.held E.faults err.old err.new) result }
 
     // What is wanted of a setup is written, and another document refused, unless something fails or memory runs out.
     ensures complete { (wanted : Wanted) → command_in (map string_bytes words.now) ≡ Some wanted →
         Decides (Refuses wanted)
-        (traffic (R.left src.old) (R.left src.new) (R.faults src.old) (R.faults src.new))
-        (traffic (W.held out.old) (W.held out.new) (W.faults out.old) (W.faults out.new)) result }
+        (through R.left R.faults src.old src.new)
+        (through W.held W.faults out.old out.new) result }
 {
     match command_of(words) {
         Some(command) => perform_as(b"syncord-sim", &command, alloc, src, out, err),

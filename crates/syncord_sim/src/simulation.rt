@@ -1,9 +1,8 @@
 //! From the bytes of a setup to what is wanted of it, or to the first bad line.
-ghost use Rattle.std.specs.Prelude.{◌≡◌, ◌+◌, ◌≤◌, length, Ok, IfOk, IfErr};
+ghost use Rattle.std.specs.Prelude.{Ok, IfOk, IfErr};
 ghost use Rattle.syncord_endings.specs.Endings.{Due};
 ghost use Rattle.sim_text.specs.Grammar.{ReadsSetup};
 ghost use Rattle.sim_text.specs.Setups.{IsWithin};
-ghost use Rattle.syncord_endings.specs.declared.ending.Refusal.TheVariants.{Line};
 ghost use Rattle.syncord_sim.specs.Commands.{said, Report, Picture, Schedule};
 ghost use Rattle.syncord_sim.specs.Simulations.{Writes, IsNoSetup, Refuses};
 
@@ -51,38 +50,25 @@ fn pictured(alloc: Global, bytes: &[u8]) -> Result<Vec<u8>, Refusal>
     }
 }
 
-// A setup without a policy of this name is refused at the line behind its policies.
-fn missing(setup: &SimSetup) -> Refusal
-    requires { length setup.now.policies ≤ 16 }
-    ensures { result ≡ Line (10 + length setup.now.policies) 16 }
-{
-    Refusal::Line {
-        line: 10 + setup.policies.len() as u32,
-        what: 16,
-    }
-}
-
-// One with more passes than a schedule is refused at the line of the first too many.
-fn crowded(setup: &SimSetup) -> Refusal
-    requires { length setup.now.policies ≤ 16 }
-    ensures { result ≡ Line (74 + length setup.now.policies) 17 }
-{
-    Refusal::Line {
-        line: 74 + setup.policies.len() as u32,
-        what: 17,
-    }
-}
-
+// A setup without a policy of this name is refused at the line behind its policies, one with more passes than a schedule at that of the
+// first too many.
 fn scheduled(alloc: Global, name: &[u8], bytes: &[u8]) -> Result<Vec<u8>, Refusal>
     ensures text { IfOk result (λ text. Writes (Schedule name.now) bytes.now text.items) }
     ensures refusal { IfErr result (Due (Refuses (Schedule name.now) bytes.now)) }
 {
     let setup = setup_of(alloc, bytes)?;
+    let policies = setup.policies.len() as u32;
     let Some(candidate) = candidate_named(&setup, name) else {
-        return Err(missing(&setup));
+        return Err(Refusal::Line {
+            line: 10 + policies,
+            what: 16,
+        });
     };
     if setup.passes.len() > MOST_PASSES {
-        return Err(crowded(&setup));
+        return Err(Refusal::Line {
+            line: 74 + policies,
+            what: 17,
+        });
     }
     match schedule_of(alloc, &setup, candidate) {
         Ok(text) => Ok(text),

@@ -12,8 +12,6 @@ use Rattle.bpf_verifier.specs.Faults.{HasFault, IsFirst}
 use Rattle.bpf_verifier.specs.Acceptance.{IsAccepted}
 use Rattle.syncord_endings.specs.declared.ending.Refusal.{Refusal}
 use Rattle.syncord_endings.specs.declared.ending.Refusal.TheVariants.{Line}
-use Rattle.syncord_endings.specs.Traffic.{Traffic}
-use Rattle.syncord_endings.specs.Endings.{Answers, Decides}
 use Rattle.syncord_verify.specs.Refusals.{of_decoder, of_verifier}
 
 -- the digits write bytes that decode to these instructions
@@ -60,9 +58,3 @@ pub record IsFaulty (profile : Profile) (digits : List ℕ) (refusal : Refusal) 
 
 abbrev pub Refuses : Profile → List ℕ → Refusal → Type 0
 Refuses profile digits refusal = IsNoProgram profile digits refusal ⊎ IsFaulty profile digits refusal
-
--- What the command does with its input, its output and the error stream, and the status that it answers:
--- the status has its cause, and a program is accepted or refused unless something fails or memory runs out.
-pub record Verifies (profile : Profile) (input output error : Traffic) (status : ℕ) : Type 0 where
-  pub answer : Answers (Reports profile) (Refuses profile) input output error status
-  pub complete : Decides (Refuses profile) input output status

@@ -24,8 +24,8 @@ impl Work for Verify {
 
     ghost refuses = { λ command digits refusal. Refuses command.profile digits refusal };
 
-    fn report(&self, alloc: Global, digits: &[u8]) -> Result<Vec<u8>, Refusal> {
-        verdict(alloc, self.profile, digits)
+    fn report(&self, alloc: Global, digits: Vec<u8>) -> Result<Vec<u8>, Refusal> {
+        verdict(alloc, self.profile, &digits)
     }
 }
 

@@ -13,4 +13,4 @@ pub returns-in-Ok-report-clause-ends : goal.returns-in-Ok-report-clause-ends
 returns-in-Ok-report-clause-ends g c =
     ends_delivered (g.K.Work.reports c.args.work.now) (g.K.Work.refuses c.args.work.now)
     (through g.R.Source.left g.R.Source.faults c.args.src.now c.read_input.new.src) (through g.W.Sink.held g.W.Sink.faults c.args.out.now c.deliver.new.out)
-    c.in-Ok.bytes.items c.in-Ok-report.text.items c.deliver.result c.in-Ok.ensures.whole (rw c.deref.ensures.value at c.in-Ok-report.ensures.report) (rw c.deref-in-Ok-report.ensures.value at c.deliver.ensures)
+    c.in-Ok.bytes.items c.in-Ok-report.text.items c.deliver.result c.in-Ok.ensures.whole c.in-Ok-report.ensures.report (rw c.deref.ensures.value at c.deliver.ensures)

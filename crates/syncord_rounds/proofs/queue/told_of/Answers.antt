@@ -8,6 +8,6 @@ returns g c = record {
   logs = c.in_ok-outcome.outcome.rounds.items;
   ran = c.in_ok-outcome.ensures.ran;
   rounds = c.in_ok-outcome.ensures.rounds;
-  kept = c.in_ok-text.ensures.kept;
-  told = c.in_ok-text.ensures.text;
+  kept = rw c.as_slice-logs.ensures.value at c.in_ok-text.ensures.kept;
+  told = rw (c.in_ok-report.ensures, c.as_slice-history.ensures.value, c.as_slice-logs.ensures.value) at c.in_ok-text.ensures.text;
 }

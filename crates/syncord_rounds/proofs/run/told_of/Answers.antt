@@ -12,6 +12,6 @@ returns g c = record {
   ran = c.in_ok-outcome.ensures.ran;
   logs = c.in_ok-outcome.outcome.rounds.items;
   rounds = c.in_ok-outcome.ensures.rounds;
-  kept = c.in_ok-text.ensures.kept;
-  told = rw (c.in_ok-outcome.ensures.versions) at c.in_ok-text.ensures.text;
+  kept = rw c.as_slice-logs.ensures.value at c.in_ok-text.ensures.kept;
+  told = rw (c.in_ok-report.ensures, c.as_slice-history.ensures.value, c.rows-attaches.ensures, c.in_ok-outcome.ensures.versions, c.word-word.ensures, c.as_slice-logs.ensures.value) at c.in_ok-text.ensures.text;
 }

@@ -1,11 +1,15 @@
-use Rattle.std.proofs.Common.{Ok, refl, subst}
+use Rattle.std.proofs.Common.{Ok, refl, sym, ◌∙◌, subst}
 use Rattle.trace_text.specs.Grammar.{ReadsTrace}
 use Rattle.trace_text.specs.Traces.{document_of}
-use Rattle.syncord_replay.proofs.Runs.{fits_runnable}
-use Rattle.syncord_replay.proofs.replay.replay.Goals as goal
+use Rattle.trace_text.proofs.Runnable.{fits_accepted}
+use Rattle.syncord_pool.proofs.report.PoolingWork.report.Goals as goal
 
 pub report_of-requires-clause-trace : goal.report_of-requires-clause-trace
-report_of-requires-clause-trace g c = fits_runnable c.in-Ok.trace c.in-Ok.ensures.within c.in-Ok.ensures.found.1
+report_of-requires-clause-trace g c = record {
+  within = c.in-Ok.ensures.within;
+  few = c.first_fault.ensures.few c.in_default.is;
+  accepted = fits_accepted c.in-Ok.trace c.in-Ok.ensures.found.1;
+}
 
 pub returns-in-Ok-report_of-clause-report : goal.returns-in-Ok-report_of-clause-report
 returns-in-Ok-report_of-clause-report g c =
@@ -13,6 +17,7 @@ returns-in-Ok-report_of-clause-report g c =
     record {
       document = document_of t;
       read = subst (λ bytes. ReadsTrace bytes (Ok (document_of t))) c.deref.ensures.value c.in-Ok.ensures.exact;
+      fits = sym c.first_fault.ensures.exact ∙ c.in_default.is;
       trace = t;
       is_trace = record { says = refl; within = c.in-Ok.ensures.within; rising = c.in-Ok.ensures.rising; named = c.in-Ok.ensures.named };
       is_report = c.in-Ok-report_of.ensures;
