@@ -74,7 +74,8 @@ def turns(pid, to, programs, seconds, rounds, orders=None):
     def end(*_):
         raise KeyboardInterrupt
 
-    usual = signal.signal(signal.SIGTERM, end)
+    # (the terminal may go; who is to outlive it lets the signal pass)
+    usual = {it: signal.signal(it, end) for it in (signal.SIGTERM, signal.SIGHUP) if signal.getsignal(it) != signal.SIG_IGN}
     try:
         for word, these in (("off", OFF), ("on", programs)) * rounds:
             found.append(turn(pid, to, word, these, seconds))
@@ -88,7 +89,8 @@ def turns(pid, to, programs, seconds, rounds, orders=None):
     finally:
         if before:
             turned(pid, to, before)
-        signal.signal(signal.SIGTERM, usual)
+        for it, what in usual.items():
+            signal.signal(it, what)
     return found, before
 
 

@@ -24,10 +24,16 @@ def one_meant(pid, selector):
 
 
 def put(pid, selector, to):
-    found = meant(pid, selector)
-    for it in found:
-        ask(pid, "class", str(it["number"]), f"{it['address']:x}", to)
-    return len(found)
+    """How many locks are in the class now; one that the program has destroyed meanwhile isn't."""
+    count = 0
+    for it in meant(pid, selector):
+        try:
+            ask(pid, "class", str(it["number"]), f"{it['address']:x}", to)
+            count += 1
+        except Failed as failed:
+            if ": error 2 " not in str(failed):
+                raise
+    return count
 
 
 def since(now, before, key):

@@ -1,5 +1,7 @@
 """Where the addresses of a process lie: the file, and the symbol of a lock or of a function, as far as they can be known."""
-import bisect, os, struct
+import bisect, os, stat, struct
+
+from shfl_process import printable
 
 
 class Places:
@@ -30,16 +32,15 @@ class Places:
                 if name.startswith("["):
                     return name.strip("[]"), f"{name.strip('[]')}+{address - low:#x}"
                 if name:
-                    return os.path.basename(name), self.symbol(name, address - base[name], functions)
+                    return printable(os.path.basename(name)), printable(self.symbol(name, address - base[name], functions))
         return "", f"{address:#x}"
 
     def extent(self, name):
         if name not in self.extents:
             try:
-                with open(name, "rb") as file:
-                    parts = parts_of(file.read(1 << 16))
-                self.extents[name] = max(at + size for at, size in parts) - min(parts)[0]
-            except (OSError, struct.error, ValueError):
+                parts = parts_of(bytes_of(name, 1 << 16))
+                self.extents[name] = max((at + size for at, size in parts), default=0) - min(parts, default=(0, 0))[0]
+            except (OSError, struct.error, ValueError, OverflowError):
                 self.extents[name] = 0
         return self.extents[name]
 
@@ -52,7 +53,7 @@ class Places:
         if key not in self.tables:
             try:
                 self.tables[key] = symbols(name, 2 if functions else 1)
-            except (OSError, struct.error, IndexError, UnicodeDecodeError, ValueError):
+            except (OSError, struct.error, IndexError, UnicodeDecodeError, ValueError, OverflowError):
                 self.tables[key] = []
         table = self.tables[key]
         place = bisect.bisect_right(table, (offset + 1,))
@@ -77,8 +78,18 @@ def shown(it, places):
     return f"by {caller[1]}" if caller and not has_symbol else where
 
 
+def bytes_of(name, most=-1):
+    """What is read of a file. (A look at a device may wait, or do something; what is mapped there is no program.)"""
+    if not stat.S_ISREG(os.stat(name).st_mode):
+        return b""
+    with open(name, "rb") as file:
+        return file.read(most)
+
+
 def parts_of(data):
     """Where the parts of an ELF file of 64 bits are loaded, and their sizes there."""
+    if data[:6] != b"\x7fELF\x02\x01":
+        return []
     start, (size, count) = struct.unpack_from("<Q", data, 32)[0], struct.unpack_from("<HH", data, 54)
     heads = [struct.unpack_from("<IIQQQQQ", data, start + k * size) for k in range(count)]
     return [(it[3], it[6]) for it in heads if it[0] == 1]
@@ -86,8 +97,7 @@ def parts_of(data):
 
 def symbols(name, wanted):
     """The symbols of a kind (1 data, 2 functions) in an ELF file of 64 bits: offset from where it is loaded, size, name."""
-    with open(name, "rb") as file:
-        data = file.read()
+    data = bytes_of(name)
     if data[:6] != b"\x7fELF\x02\x01":
         return []
     is_fixed = struct.unpack_from("<H", data, 16)[0] == 2

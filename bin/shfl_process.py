@@ -1,5 +1,5 @@
 """What bin/shfl asks a process at its control socket."""
-import os, re, socket, struct, time
+import contextlib, os, re, socket, stat, struct, time
 
 # what docs/ERRORS.md says of the faults of programs
 FAULTS = {
@@ -16,6 +16,11 @@ class Failed(Exception):
     def __init__(self, status, text, slot=None):
         super().__init__(text)
         self.status, self.slot = status, slot
+
+
+def printable(text):
+    """A file's name or a process's words may be meant for the terminal."""
+    return "".join(it if it.isprintable() else "?" for it in text)
 
 
 def pid_of(word):
@@ -77,16 +82,24 @@ def answer(place, request):
 def sweep(age=60):
     """Takes away the sockets that processes left which were killed or became another program."""
     room = directory()
-    for name in os.listdir(room):
-        place = f"{room}/{name}"
-        try:
-            # (one that is new may be about to listen)
-            if re.fullmatch(r"shfl-[0-9]+", name) and time.time() - os.lstat(place).st_mtime >= age:
-                connected(place).close()
-        except ConnectionRefusedError:
+    with contextlib.suppress(FileNotFoundError):
+        for name in os.listdir(room):
+            if re.fullmatch(r"shfl-[0-9]+", name):
+                sweep_one(f"{room}/{name}", age)
+
+
+def sweep_one(place, age=0):
+    """(One that is new may be about to listen. A file that is no socket refuses a connection too, and isn't a process's.)"""
+    try:
+        it = os.lstat(place)
+        if stat.S_ISSOCK(it.st_mode) and time.time() - it.st_mtime >= age:
+            connected(place).close()
+    except ConnectionRefusedError:
+        # (another one may do the same)
+        with contextlib.suppress(FileNotFoundError):
             os.unlink(place)
-        except OSError:
-            pass
+    except OSError:
+        pass
 
 
 def ask(pid, *words):
@@ -101,7 +114,7 @@ def ask(pid, *words):
         words = lines[0].split()
         raise Failed(6, refusal(words), int(words[3]) if int(words[1]) >= 4 else None)
     if lines[0] != "ok":
-        raise Failed(1, f"process {pid}: {lines[0]}")
+        raise Failed(1, f"process {pid}: {printable(lines[0])}")
     return lines[1:-1]
 
 

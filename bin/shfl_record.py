@@ -55,8 +55,8 @@ def name_of(pid, thread):
         return "-"
 
 
-def recorded(pid, it, name, seconds, most):
-    """Fetches until the time is over, or there are so many events; then the process needs its room no more."""
+def recorded(pid, it, name, seconds, most, may_break=False):
+    """Fetches until the time is over, or there are so many events, or an interrupt comes that may; then the process needs its room no more."""
     record, came = Record(pid, name, it), []
     number = ask(pid, "record", str(it["number"]), f"{it['address']:x}", str(int(seconds * 1000)))[0].split()[1]
     begun, k, over = time.monotonic(), "0", False
@@ -70,6 +70,9 @@ def recorded(pid, it, name, seconds, most):
             if not over and len(lines) < 100:
                 time.sleep(0.01)
         record.look_for_names()
+    except KeyboardInterrupt:
+        if not may_break:
+            raise
     finally:
         record.seconds = min(seconds, time.monotonic() - begun)
         try:
@@ -166,7 +169,7 @@ def do_record(words):
         raise Failed(2, shfl_help.usage("record"))
     pid = pid_of(words[0])
     it = one_meant(pid, words[1])
-    record = recorded(pid, it, shown(it, Places(pid)), float(words[2]), int(most))
+    record = recorded(pid, it, shown(it, Places(pid)), float(words[2]), int(most), may_break=True)
     spans = held(record)
     text = "\n".join(text_of(record, *spans)) + "\n"
     if "--svg" in values:

@@ -4,7 +4,7 @@ import os, re, signal, subprocess, sys, time
 import shfl_help
 from shfl_locks import put
 from shfl_policy import TOP, attach
-from shfl_process import Failed, ask, class_of, directory, sweep
+from shfl_process import Failed, ask, class_of, directory, sweep, sweep_one
 
 
 def preload():
@@ -13,8 +13,15 @@ def preload():
     # (where it is installed it stands in lib/shfl)
     for it in ([told] if told else [f"{TOP}/../libshfl_preload.so", f"{TOP}/../lib/libshfl_preload.so", "/usr/local/lib/libshfl_preload.so", "/usr/lib/libshfl_preload.so"]):
         if os.path.isfile(it):
-            return os.path.realpath(it)
+            return preloadable(os.path.realpath(it))
     return None
+
+
+def preloadable(place):
+    """(The loader parts the names in LD_PRELOAD at blanks and colons.)"""
+    if re.search(r"[ :]", place):
+        raise Failed(3, f"{place} can't be preloaded: a blank or a colon in its name")
+    return place
 
 
 def set_up(child, wishes):
@@ -87,24 +94,27 @@ def do_run(words):
     wishes, more, words = options_of(words)
     room, env = directory(), {**os.environ, **more}
     os.makedirs(room, 0o700, exist_ok=True)
-    env["SHFL_CONTROL"] = room
+    # (the program may go to another directory)
+    env["SHFL_CONTROL"] = os.path.abspath(room)
     library = preload()
     if library:
         env["LD_PRELOAD"] = " ".join(filter(None, (library, env.get("LD_PRELOAD"))))
     try:
-        child = subprocess.Popen(words, env=env)
+        # (what is open here is the program's, as without this)
+        child = subprocess.Popen(words, env=env, close_fds=False)
     except OSError as error:
         raise Failed(3, f"{words[0]}: {error.strerror}") from None
-    # (the program gets the terminal's signals itself, and its end is this one's)
+    # (the program gets the terminal's signals itself, and its end is this one's; what is sent to this one is meant for it)
     signal.signal(signal.SIGINT, signal.SIG_IGN)
-    signal.signal(signal.SIGTERM, lambda *_: child.terminate())
+    for it in (signal.SIGTERM, signal.SIGHUP, signal.SIGUSR1, signal.SIGUSR2):
+        if signal.getsignal(it) != signal.SIG_IGN:
+            signal.signal(it, lambda number, _: child.send_signal(number))
     try:
         set_up(child, wishes)
     except Failed as failed:
         print(f"shfl: {failed}", file=sys.stderr)
     status = child.wait()
-    if os.path.lexists(f"{room}/shfl-{child.pid}"):
-        # (it was killed)
-        os.unlink(f"{room}/shfl-{child.pid}")
+    # (it was killed)
+    sweep_one(f"{room}/shfl-{child.pid}")
     sweep()
     return status if status >= 0 else 128 - status

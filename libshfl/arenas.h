@@ -32,6 +32,10 @@ static inline uint8_t shfl_hold(struct shfl_thread *me, uint32_t lock) {
     return shfl_seat_hold(at.seat, at.lock);
 }
 
+#ifndef SHFL_HEAP_H
+static inline void shfl_find_register(void) {}
+#endif
+
 /* Opens one more arena; who calls it has the guard of the process's lists. EAGAIN: there are as many as may be; ENOMEM. */
 int shfl_grow(void);
 #endif

@@ -2,6 +2,7 @@
  * That the seat refuses it is proved; the message, and the list of what a thread has, is this file's. */
 #include <stdio.h>
 #include <stdlib.h>
+#include <string.h>
 #include "inside.h"
 
 SHFL_COLD int shfl_refuse(int error, const void *lock, const char *what) {
@@ -14,12 +15,13 @@ SHFL_COLD int shfl_refuse(int error, const void *lock, const char *what) {
     return error;
 }
 
-/* Where there is no memory the lock isn't noted. */
+/* Where there is no memory the lock isn't noted, and the next one is where there is again. */
 void shfl_note_taken(struct shfl_thread *me, const void *lock) {
-    if (me->holding == me->held_room) {
-        uint32_t room = me->held_room ? 2 * me->held_room : 16;
+    if (me->holding >= me->held_room) {
+        uint32_t room = 2 * me->holding + 16;
         const void **held = realloc(me->held, room * sizeof *held);
         if (!held) return;
+        memset(held + me->held_room, 0, (room - me->held_room) * sizeof *held);
         me->held = held;
         me->held_room = room;
     }

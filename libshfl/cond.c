@@ -1,7 +1,8 @@
 /* Condition variables, over a futex. Nothing of them is proved but that a waiter has the mutex when its call returns.
  *
  * A waiter reads the count of signals while it has the mutex, and sleeps only where the count is still the same; a signal after that read
- * changes it. So none is lost, unless 2^32 signals come between the read and the sleep.
+ * changes it. So none is lost, unless 2^32 signals come between the read and the sleep. Where one comes while a signal is given, the system may wake it in place of the
+ * one that was waiting, if its priority is higher; then it wakes all.
  *
  * Of the word `waiting` the low half counts who waits, and the high half who of them was woken and is about to leave: fewer than 65,536, since each has a
  * seat. Whoever destroys the condition variable waits for these, as POSIX allows a program to destroy one as soon as nobody sleeps there. */
@@ -43,32 +44,55 @@ int shfl_cond_init(shfl_cond_t *cond) {
     return 0;
 }
 
+static void wake(shfl_cond_t *cond, bool all) {
+    if (!is_to_wake(cond, all)) return;
+    if (all) shfl_wake_all(&cond->signals);
+    else shfl_wake_one(&cond->signals);
+}
+
+/* It was woken. Where no signal has come since its look, while one that was woken before hasn't left, the wakeup may have been that one's. */
+static void pass_on(shfl_cond_t *cond, uint32_t seen) {
+    if (shfl_load(&cond->signals) == seen && shfl_load(&cond->waiting) / WOKEN > 0) wake(cond, true);
+}
+
 /* Sleeps until a signal or the deadline. */
-static int sleep_on(uint32_t *signals, uint32_t seen, clockid_t clock, const struct timespec *deadline) {
+static int sleep_on(shfl_cond_t *cond, uint32_t seen, clockid_t clock, const struct timespec *deadline) {
+    uint32_t *signals = &cond->signals;
     if (!deadline) {
-        shfl_futex(signals, FUTEX_WAIT, seen, NULL);
+        if (shfl_futex(signals, FUTEX_WAIT, seen, NULL) == 0) pass_on(cond, seen);
         return 0;
     }
-    uint64_t at = (uint64_t)deadline->tv_sec * 1000000000u + (uint64_t)deadline->tv_nsec;
+    uint64_t at = shfl_time_of(deadline);
     while (shfl_load(signals) == seen) {
         uint64_t now = shfl_clock_of(clock);
-        if (deadline->tv_sec < 0 || now >= at) return ETIMEDOUT;
+        if (now >= at) return ETIMEDOUT;
         /* a clock that somebody sets is looked at again */
         uint64_t most = at - now;
         if (clock == CLOCK_REALTIME && most > 1000000000u) most = 1000000000u;
-        if (shfl_sleep(signals, seen, most)) break;
+        if (!shfl_sleep(signals, seen, most)) continue;
+        pass_on(cond, seen);
+        break;
     }
     return 0;
 }
 
+/* A thread that ends has its seat no longer than its locks; here it keeps it, so that it can have the mutex again. */
+static bool keeps_seat(void) {
+    struct shfl_thread *me = shfl_me;
+    if (!me || !(shfl_load(&me->unusual) & SHFL_IS_ENDING)) return false;
+    __atomic_fetch_and(&me->unusual, ~(uint32_t)SHFL_IS_ENDING, __ATOMIC_SEQ_CST);
+    return true;
+}
+
 static int wait_on(shfl_cond_t *cond, shfl_mutex_t *mutex, clockid_t clock, const struct timespec *deadline) {
+    bool ends = keeps_seat();
     uint32_t seen = shfl_load(&cond->signals);
     __atomic_fetch_add(&cond->waiting, 1, __ATOMIC_SEQ_CST);
     int error = shfl_mutex_unlock(mutex);
-    int told = error ? error : sleep_on(&cond->signals, seen, clock, deadline);
+    int told = error ? error : sleep_on(cond, seen, clock, deadline);
     leave(cond, told == 0 && shfl_load(&cond->signals) != seen);
-    if (error) return error;
-    error = shfl_mutex_lock(mutex);
+    if (!error) error = shfl_mutex_lock(mutex);
+    if (ends) __atomic_fetch_or(&shfl_me->unusual, SHFL_IS_ENDING, __ATOMIC_SEQ_CST);
     return error ? error : told;
 }
 
@@ -86,13 +110,13 @@ int shfl_cond_timedwait(shfl_cond_t *cond, shfl_mutex_t *mutex, const struct tim
 
 int shfl_cond_signal(shfl_cond_t *cond) {
     if (!cond) return EINVAL;
-    if (is_to_wake(cond, false)) shfl_wake_one(&cond->signals);
+    wake(cond, false);
     return 0;
 }
 
 int shfl_cond_broadcast(shfl_cond_t *cond) {
     if (!cond) return EINVAL;
-    if (is_to_wake(cond, true)) shfl_wake_all(&cond->signals);
+    wake(cond, true);
     return 0;
 }
 

@@ -26,6 +26,7 @@
 /* A client: its request as far as it came, then what it is answered as far as that went. */
 struct client {
     int socket; /* -1: there is none */
+    ino_t is; /* by which it is known */
     uint64_t since;
     size_t read, sent;
     struct shfl_reply reply; /* its length is 0 until the request is whole */
@@ -35,18 +36,27 @@ struct client {
 static struct sockaddr_un place = {.sun_family = AF_UNIX};
 static pid_t owner; /* the process that listens; a child of it doesn't */
 
-/* Guarded by `table`, so that the child of a fork knows them all: the descriptors that are the library's. */
+/* Guarded by `table`, so that the child of a fork knows them all: the descriptors that are the library's. A program may close what it doesn't know, and
+ * the number come to another file; so each is looked at before it is used. */
 static shfl_guard table;
 static int listening = -1;
-static ino_t listens_as; /* by which it is known: a program may close what it doesn't know, and the number come to another file */
+static ino_t listens_as; /* by which it is known */
 static struct client *clients;
 
 void shfl_control_stop(void) { shfl_guard_lock(&table); }
 void shfl_control_go_on(void) { shfl_guard_unlock(&table); }
 
-static bool is_listening(void) {
+static bool is_still(int socket, ino_t as) {
     struct stat it;
-    return listening >= 0 && fstat(listening, &it) == 0 && S_ISSOCK(it.st_mode) && it.st_ino == listens_as;
+    return socket >= 0 && fstat(socket, &it) == 0 && S_ISSOCK(it.st_mode) && it.st_ino == as;
+}
+
+static bool is_listening(void) { return is_still(listening, listens_as); }
+
+/* Whether the client is there, and its socket the library's still. */
+static bool is_there(struct client *client) {
+    if (!is_still(client->socket, client->is)) client->socket = -1;
+    return client->socket >= 0;
 }
 
 static bool make_listening(void) {
@@ -80,10 +90,25 @@ static bool directory(char *room, size_t size) {
     return true;
 }
 
+#ifdef SHFL_HEAP_H
+/* A program that uses the library by itself, and is preloaded besides, is asked for its own locks: whoever comes second, the preload library gives way. */
+static bool gives_way(void) {
+    shfl_guard_lock(&table);
+    int at = socket(AF_UNIX, SOCK_STREAM | SOCK_CLOEXEC | SOCK_NONBLOCK, 0);
+    bool is_there = at >= 0 && (connect(at, (struct sockaddr *)&place, sizeof place) == 0 || errno == EAGAIN);
+    if (at >= 0) close(at);
+    shfl_guard_unlock(&table);
+    return is_there;
+}
+#else
+static bool gives_way(void) { return false; }
+#endif
+
 static bool open_socket(void) {
     char room[sizeof place.sun_path];
     if (!directory(room, sizeof room - 20)) return false;
     snprintf(place.sun_path, sizeof place.sun_path, "%.*s/shfl-%ld", (int)(sizeof room - 20), room, (long)getpid());
+    if (gives_way()) return false;
     if (!make_listening()) return complain(strerror(errno), room), false;
     unlink(place.sun_path);
     if (bind(listening, (struct sockaddr *)&place, sizeof place) == 0 && listen(listening, 64) == 0) return true;
@@ -102,14 +127,16 @@ static bool may_ask(int socket) {
 
 static void drop(struct client *client) {
     shfl_guard_lock(&table);
-    close(client->socket);
+    if (is_there(client)) close(client->socket);
     client->socket = -1;
     shfl_guard_unlock(&table);
 }
 
 static bool next_in(struct client *client) {
+    struct stat it;
     shfl_guard_lock(&table);
     client->socket = accept4(listening, NULL, NULL, SOCK_CLOEXEC | SOCK_NONBLOCK);
+    if (client->socket >= 0 && fstat(client->socket, &it) == 0) client->is = it.st_ino;
     shfl_guard_unlock(&table);
     return client->socket >= 0;
 }
@@ -180,7 +207,7 @@ static void *serve(void *none) {
         int wait = whom_to_hear(at);
         if (poll(at, CLIENTS + 1, wait) <= 0) continue;
         for (int k = 0; k < CLIENTS; k++) {
-            if (clients[k].socket < 0 || !at[k].revents) continue;
+            if (!at[k].revents || !is_there(&clients[k])) continue;
             if (clients[k].reply.length) tell(&clients[k]);
             else hear(&clients[k]);
         }
@@ -221,7 +248,9 @@ SHFL_COLD void shfl_control(void) {
     static pid_t begun;
     pid_t before = __atomic_load_n(&begun, __ATOMIC_SEQ_CST), now = getpid();
     if (before == now || !__atomic_compare_exchange_n(&begun, &before, now, false, __ATOMIC_SEQ_CST, __ATOMIC_SEQ_CST)) return;
-    int error = errno;
+    int error = errno, cancels;
+    /* no lock is a point of cancellation */
+    pthread_setcancelstate(PTHREAD_CANCEL_DISABLE, &cancels);
     if (open_socket()) {
         owner = now;
         if (!make_places() || !begin()) {
@@ -231,6 +260,7 @@ SHFL_COLD void shfl_control(void) {
             owner = 0;
         }
     }
+    pthread_setcancelstate(cancels, NULL);
     errno = error;
 }
 
@@ -238,7 +268,7 @@ SHFL_COLD void shfl_control(void) {
 void shfl_control_forked(void) {
     end_listening();
     for (int k = 0; clients && k < CLIENTS; k++)
-        if (clients[k].socket >= 0) close(clients[k].socket);
+        if (is_there(&clients[k])) close(clients[k].socket);
     if (clients) munmap(clients, CLIENTS * sizeof *clients);
     clients = NULL;
     shfl_record_forked();

@@ -1,6 +1,7 @@
-/* What threads count at locks. How often a lock was taken alone, and handed over so, stands at the lock, where who has it writes. For the rest each
- * thread has a small table of its own, by the lock's number; where two locks meet in a place, what stands there is added to the first one's totals. So a thread has 24 KB and a lock 96 bytes (and what waits.c has), however long they count, and the sum of a lock's
- * totals and of its entries in all tables is exact. Nothing of this is proved, and who holds a lock doesn't depend on it. */
+/* What threads count at locks. How often a lock was taken alone, and handed over so, stands at the lock, on the line that whoever has it writes
+ * anyway. For the rest each thread has a small table of its own, by the lock's number; where two locks meet in a place, what stands there is
+ * added to the first one's totals. So a thread has 24 KB and a lock 112 bytes (and what waits.c has), however long they count, and the sum of
+ * what stands at a lock, of its totals and of its entries in all tables is exact. Nothing of this is proved, and who holds a lock doesn't depend on it. */
 #include <string.h>
 #include "inside.h"
 
@@ -24,6 +25,13 @@ static void add(struct shfl_stat *to, const struct shfl_stat *from) {
     add_one(&to->questions, &from->questions);
     add_one(&to->yes, &from->yes);
     add_one(&to->skipped, &from->skipped);
+}
+
+/* What stands at the lock itself. */
+static void add_at_lock(struct shfl_stat *to, const struct shfl_parking *parking) {
+    add_one(&to->taken, &parking->taken);
+    add_one(&to->within, &parking->within);
+    add_one(&to->across, &parking->across);
 }
 
 static void clear(struct shfl_stat *counts) {
@@ -78,11 +86,11 @@ SHFL_COLD struct shfl_stat *shfl_count_anew(struct shfl_counted *at, uint32_t lo
 
 /* The thread with this mark holds the lock alone. Who comes again after itself hands nothing over, whatever its socket is now. */
 SHFL_COLD void shfl_count_hand_over(uint32_t lock, uint32_t mark) {
-    struct shfl_stat *counts = &shfl_process.totals[lock].counts;
-    uint32_t *at = &shfl_parking_of(lock)->last, last = __atomic_load_n(at, __ATOMIC_RELAXED);
-    if (last != mark) __atomic_store_n(at, mark, __ATOMIC_RELAXED);
+    struct shfl_parking *parking = shfl_parking_of(lock);
+    uint32_t last = __atomic_load_n(&parking->last, __ATOMIC_RELAXED);
+    if (last != mark) __atomic_store_n(&parking->last, mark, __ATOMIC_RELAXED);
     if (last == 0 || last >> 16 == mark >> 16) return;
-    shfl_more((uint16_t)last == (uint16_t)mark ? &counts->within : &counts->across, 1);
+    shfl_more((uint16_t)last == (uint16_t)mark ? &parking->within : &parking->across, 1);
 }
 
 SHFL_COLD void shfl_count_waited(struct shfl_thread *me, uint32_t lock, uint64_t since) {
@@ -98,8 +106,10 @@ void shfl_count_end(uint32_t lock) {
     struct shfl_parking *parking = shfl_parking_of(lock);
     struct shfl_total *total = &shfl_process.totals[lock];
     begin_move(lock);
-    add_one(&total->counts.taken, &parking->taken);
+    add_at_lock(&total->counts, parking);
     __atomic_store_n(&parking->taken, 0, __ATOMIC_RELAXED);
+    __atomic_store_n(&parking->within, 0, __ATOMIC_RELAXED);
+    __atomic_store_n(&parking->across, 0, __ATOMIC_RELAXED);
     add_ended(shfl_load(&parking->class_of), &total->counts, NULL, lock);
     clear(&total->counts);
     shfl_waits_end(lock);
@@ -119,7 +129,7 @@ void shfl_sum_lock(uint32_t lock, struct shfl_stat *out, struct shfl_waits *wait
         memset(waits, 0, sizeof *waits);
         shfl_waits_add(waits, &shfl_process.lock_waits[lock]);
         add(out, &total->counts);
-        add_one(&out->taken, &shfl_parking_of(lock)->taken);
+        add_at_lock(out, shfl_parking_of(lock));
         for (uint32_t k = 0; k < shfl_load(&shfl_process.threads_seen); k++) {
             struct shfl_counted *at = &shfl_process.threads[k].counts[shfl_counted_at(lock)];
             if (__atomic_load_n(&at->tag, __ATOMIC_SEQ_CST) != tag) continue;
@@ -145,7 +155,7 @@ void shfl_sum_class(uint32_t class_of, struct shfl_class_stat *out, struct shfl_
         if (!__atomic_load_n(&total->address, __ATOMIC_SEQ_CST)) continue;
         struct shfl_parking *parking = shfl_parking_of(shfl_number_at(k));
         if (shfl_load(&parking->class_of) != class_of) continue;
-        add_one(&out->counts.taken, &parking->taken);
+        add_at_lock(&out->counts, parking);
         shfl_waits_add(waits, &all->lock_waits[shfl_number_at(k)]);
         add(&out->counts, &total->counts);
         out->locks++;

@@ -20,6 +20,13 @@ static inline uint64_t shfl_clock_of(clockid_t clock) {
     return (uint64_t)t.tv_sec * 1000000000u + (uint64_t)t.tv_nsec;
 }
 
+/* A deadline in nanoseconds: 0 where it was before the clock began, and the last that can be told where it is behind that. */
+static inline uint64_t shfl_time_of(const struct timespec *deadline) {
+    if (deadline->tv_sec < 0) return 0;
+    bool fits = (uint64_t)deadline->tv_sec < UINT64_MAX / 1000000000u;
+    return fits ? (uint64_t)deadline->tv_sec * 1000000000u + (uint64_t)deadline->tv_nsec : UINT64_MAX;
+}
+
 static inline uint64_t shfl_clock(void) { return shfl_clock_of(CLOCK_MONOTONIC); }
 
 static inline void shfl_hints(uint32_t count) {

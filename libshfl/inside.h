@@ -31,7 +31,8 @@ void shfl_guard_lock(shfl_guard *guard);
 void shfl_guard_unlock(shfl_guard *guard);
 
 /* Where the threads of a lock sleep. It decides nothing about who holds the lock: a word of it that is wrong costs time. It is all
- * zero while nobody waits, but for what was counted. What each unlock reads stands first. */
+ * zero while nobody waits, but for what was counted. Who has given the lock back may write here still when the next holder has destroyed it,
+ * and its number is free or another lock's. What each unlock reads stands first. */
 struct shfl_parking {
     union { /* 1 while the queue's head sleeps or is about to; how many sleep outside the queue, or are about to; both */
         struct { uint32_t head_asleep, outside; };
@@ -41,10 +42,9 @@ struct shfl_parking {
     uint32_t queued; /* how many queue */
     uint32_t wakeups; /* changes with each wakeup outside */
     uint32_t promoted; /* 1 from the wakeup of one that is to queue until that one knows */
-    union { uint32_t holds, next_free; }; /* that passed those outside; of a lock's number that is free */
+    uint32_t holds; /* that passed those outside */
     uint32_t last; /* the mark of the thread that took it last alone, or 0 */
-    uint64_t taken; /* how often it was taken alone; who has it so writes this */
-    uint64_t woken_at, promoted_at; /* when one outside was last woken, and to queue */
+    uint64_t taken, within, across; /* how often it was taken alone, and handed over so, by socket; who has it so writes these */
     uint32_t generation, class_of; /* which lock has the number: changes where it comes back; its class */
 };
 
@@ -68,19 +68,21 @@ struct shfl_waits {
     uint64_t of[SHFL_WAITS];
 };
 
-/* What threads have given over to a lock, and where that is. Who has the lock alone writes how often it was handed over, and nobody else. */
+/* What threads have given over to a lock, and where that is; and what is seldom needed, apart from the line that each lock and unlock reads. */
 struct shfl_total {
     struct shfl_stat counts;
     const void *address; /* null where the number is free */
     uint32_t moves; /* odd while a thread gives over */
     uint32_t stale; /* 1 where the thread that forked has it, in the child */
+    uint32_t next_free; /* of a number that is free: the one that came back before it, plus one */
+    uint64_t woken_at, promoted_at; /* when one outside was last woken, and to queue */
 };
 
 /* A read lock that a thread took again. */
 struct shfl_again { uint32_t lock, times; };
 
-/* In the child of a fork, of the thread that forked and had locks; of all threads, while a lock is recorded; of one that took a lock again. */
-enum { SHFL_IS_STALE = 1, SHFL_IS_WATCHED = 2, SHFL_HAS_AGAIN = 4, SHFL_MARK_WATCHED = 0x8000 };
+/* In the child of a fork, of the thread that forked and had locks; of all threads, while a lock is recorded; of one that took a lock again; that ends. */
+enum { SHFL_IS_STALE = 1, SHFL_IS_WATCHED = 2, SHFL_HAS_AGAIN = 4, SHFL_IS_ENDING = 8, SHFL_MARK_WATCHED = 0x8000 };
 
 /* A thread, or a place for one. What each lock and unlock reads stands first; the last line is written by those who wake it, too. */
 struct shfl_thread {
@@ -100,7 +102,7 @@ struct shfl_thread {
     struct shfl_thread *next_free;
     const void *caller; /* in the preload library: where the call comes from that waits, or null */
     uint64_t attr; /* its attributes, as its seat in the first arena has them */
-    uint32_t tid; /* the system's number, once it was recorded */
+    uint32_t tid; /* the system's number; 0: it has none, or isn't in this process */
     uint8_t aside; /* it lets others go first, once */
     uint32_t asleep __attribute__((aligned(128))); /* 1 while it sleeps in the queue, or is about to */
 };
@@ -185,6 +187,7 @@ static inline uint32_t shfl_class_behind(const uint32_t *word) {
 }
 
 static inline struct shfl_parking *shfl_parking_of(uint32_t lock) { return &shfl_process.parkings[lock]; }
+static inline struct shfl_total *shfl_total_of(const struct shfl_parking *parking) { return &shfl_process.totals[parking - shfl_process.parkings]; }
 static inline uint32_t shfl_mark_of(struct shfl_thread *me) { return __atomic_load_n(&me->mark, __ATOMIC_RELAXED) & ~(uint32_t)SHFL_MARK_WATCHED; }
 static inline struct shfl_class *shfl_class_at(uint32_t class_of) { return &shfl_process.classes[class_of % SHFL_CLASSES]; }
 

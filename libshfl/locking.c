@@ -1,6 +1,7 @@
 /* What mutexes and locks for readers and writers have in common: the errors, the locks that a thread took again, the counts. Proved is that
  * a seat takes no lock that it holds, gives none back that it doesn't, and that a writer holds alone (crates/shfl_seats). Not proved is what stands
  * here: how often a reader took its lock, which error is answered, and that a number names one lock. */
+#include <fcntl.h>
 #include <stdlib.h>
 #include "arenas.h"
 #include "locking.h"
@@ -93,6 +94,14 @@ int shfl_take_after(struct shfl_thread *me, uint32_t *word, uint32_t number, boo
     return error ? error : had(me, word, lock, shared);
 }
 
+/* A reader that tries in vain is counted for a moment. Who wanted to write may have found that, and sleep now beside a free lock; so where somebody sleeps it tries again. */
+static uint8_t try_as(struct shfl_thread *me, uint32_t lock, bool shared) {
+    uint8_t answer = shfl_attempt(me, lock, shared);
+    if (answer != SHFL_BUSY || !shared) return answer;
+    struct shfl_parking *parking = shfl_parking_of(lock);
+    return shfl_load(&parking->outside) > 0 && shfl_load(&parking->inside) == 0 ? shfl_attempt(me, lock, true) : answer;
+}
+
 int shfl_try(uint32_t *word, bool shared) {
     int error = 0;
     uint32_t lock;
@@ -100,7 +109,7 @@ int shfl_try(uint32_t *word, bool shared) {
     if (!me) return error;
     error = shfl_number(word, shfl_class_behind(word), &lock);
     if (error) return error;
-    uint8_t answer = shfl_attempt(me, lock, shared);
+    uint8_t answer = try_as(me, lock, shared);
     if (answer == SHFL_DONE) return had(me, word, lock, shared);
     if (answer != SHFL_BUSY) return other_answer(me, word, lock, shared, answer, EBUSY);
     shfl_count_contended(me, lock);
@@ -133,8 +142,44 @@ int shfl_take_until(uint32_t *word, bool shared, clockid_t clock, const struct t
     return had(me, word, lock, shared);
 }
 
-/* In the child of a fork a lock is given back, in whose words threads may stand that aren't there: the seat keeps that number, and the lock's
- * next use gives it another. */
+/* Whether the lock with this number is where it was. The system looks, since the program may have given the memory away. */
+static bool is_there(uint32_t *word, uint32_t number) {
+    int before = errno;
+    bool has = word && syscall(SYS_futex, word, FUTEX_CMP_REQUEUE | FUTEX_PRIVATE_FLAG, 0, NULL, word, number) == 0;
+    errno = before;
+    return has;
+}
+
+/* Whether this process alone sees what is written there; a lock that only its parent uses may lie in memory that they share. Of what the system says of
+ * the page, bit 63 is that it is there, and bit 61 that it is a file's or shared. */
+static bool is_own(const void *at) {
+    uint64_t entry = 0, page = (uint64_t)sysconf(_SC_PAGESIZE);
+    int before = errno, file = open("/proc/self/pagemap", O_RDONLY | O_CLOEXEC);
+    bool done = file >= 0 && pread(file, &entry, sizeof entry, (off_t)((uintptr_t)at / page * sizeof entry)) == sizeof entry;
+    if (file >= 0) close(file);
+    errno = before;
+    return done && entry >> 61 == 4;
+}
+
+/* In the child of a fork this thread has a lock in whose words others may stand that aren't there. It has it by another number from now on, before any
+ * new thread comes to it. False: that can't be, and all is as it was. */
+bool shfl_renumber(struct shfl_thread *me, uint32_t lock) {
+    uint32_t *word = (uint32_t *)(uintptr_t)shfl_process.totals[lock].address, number = 0, fresh;
+    if (!is_there(word, lock + 1) || !is_own(word) || shfl_give_number(&number, shfl_load(&shfl_parking_of(lock)->class_of), &fresh)) return false;
+    if (shfl_attempt(me, fresh, shfl_hold(me, lock) == 2) != SHFL_DONE) {
+        shfl_take_number_back(fresh);
+        return false;
+    }
+    for (uint32_t k = 0; k < me->again_count; k++)
+        if (me->again[k].lock == lock) me->again[k].lock = fresh;
+    shfl_release(me, lock);
+    shfl_leave_number(lock);
+    __atomic_store_n(&shfl_process.totals[fresh].address, word, __ATOMIC_SEQ_CST);
+    __atomic_store_n(word, number, __ATOMIC_SEQ_CST);
+    return true;
+}
+
+/* Where that couldn't be, the lock is given back so: the seat keeps its number, and the lock's next use gives it another. */
 static SHFL_COLD bool leave_number(struct shfl_thread *me, uint32_t *word, uint32_t lock) {
     if (!shfl_process.totals[lock].stale || shfl_hold(me, lock) == 0) return false;
     shfl_given(me, word);
@@ -159,13 +204,22 @@ int shfl_not_given_back(uint32_t *word) {
     return me && number > shfl_process.arena_locks ? give_back_in_place(me, word, number - 1) : refuse_to_give(word);
 }
 
-/* A lock that was taken again, or one that is stale or recorded; or another one of a thread that has such a lock, or while one is recorded. */
-int shfl_give_back_other(struct shfl_thread *me, uint32_t *word, uint32_t number) {
-    uint32_t lock = number - 1;
+static int give_back_looking(struct shfl_thread *me, uint32_t *word, uint32_t lock) {
     if (give_again(me, lock)) return 0;
     if ((shfl_load(&me->unusual) & SHFL_IS_STALE) && lock < shfl_load(&shfl_process.lock_count) && leave_number(me, word, lock)) return 0;
     shfl_happens(me, lock, SHFL_FREES);
     return give_back_in_place(me, word, lock);
+}
+
+static void leave_seat_at_end(struct shfl_thread *me) {
+    if (me->holding == 0 && (shfl_load(&me->unusual) & SHFL_IS_ENDING)) shfl_leave_seat(me);
+}
+
+/* A lock that was taken again, or one that is stale or recorded; or another one of a thread that has such a lock, or that ends, or while one is recorded. */
+int shfl_give_back_other(struct shfl_thread *me, uint32_t *word, uint32_t number) {
+    int error = give_back_looking(me, word, number - 1);
+    leave_seat_at_end(me);
+    return error;
 }
 
 /* Gives the lock's number back, where nobody has the lock. */
@@ -179,5 +233,6 @@ int shfl_end(uint32_t *word) {
     shfl_given(shfl_me, word);
     shfl_races_ended(word);
     shfl_take_number_back(number - 1);
+    leave_seat_at_end(shfl_me);
     return 0;
 }

@@ -38,13 +38,20 @@ static int init(uint32_t *number, uint32_t *its, unsigned class_of) {
     return 0;
 }
 
+/* It is zero afterwards. */
+static int end(uint32_t *number, uint32_t *its) {
+    int error = shfl_end(number);
+    if (!error) *its = 0;
+    return error;
+}
+
 int shfl_mutex_init(shfl_mutex_t *m, unsigned class_of) { return m ? init(&m->number, &m->class_of, class_of) : EINVAL; }
 int shfl_mutex_lock(shfl_mutex_t *m) { return take(&m->number, false); }
 int shfl_mutex_trylock(shfl_mutex_t *m) { return m ? try(&m->number, false) : EINVAL; }
 int shfl_mutex_timedlock(shfl_mutex_t *m, const struct timespec *at) { return m ? take_until(&m->number, false, CLOCK_MONOTONIC, at) : EINVAL; }
 int shfl_mutex_clocklock(shfl_mutex_t *m, clockid_t clock, const struct timespec *at) { return m ? take_until(&m->number, false, clock, at) : EINVAL; }
 int shfl_mutex_unlock(shfl_mutex_t *m) { return give_back(&m->number); }
-int shfl_mutex_destroy(shfl_mutex_t *m) { return m ? shfl_end(&m->number) : EINVAL; }
+int shfl_mutex_destroy(shfl_mutex_t *m) { return m ? end(&m->number, &m->class_of) : EINVAL; }
 
 int shfl_rwlock_init(shfl_rwlock_t *l, unsigned class_of) { return l ? init(&l->number, &l->class_of, class_of) : EINVAL; }
 int shfl_rwlock_rdlock(shfl_rwlock_t *l) { return take(&l->number, true); }
@@ -56,7 +63,7 @@ int shfl_rwlock_timedwrlock(shfl_rwlock_t *l, const struct timespec *at) { retur
 int shfl_rwlock_clockrdlock(shfl_rwlock_t *l, clockid_t clock, const struct timespec *at) { return l ? take_until(&l->number, true, clock, at) : EINVAL; }
 int shfl_rwlock_clockwrlock(shfl_rwlock_t *l, clockid_t clock, const struct timespec *at) { return l ? take_until(&l->number, false, clock, at) : EINVAL; }
 int shfl_rwlock_unlock(shfl_rwlock_t *l) { return give_back(&l->number); }
-int shfl_rwlock_destroy(shfl_rwlock_t *l) { return l ? shfl_end(&l->number) : EINVAL; }
+int shfl_rwlock_destroy(shfl_rwlock_t *l) { return l ? end(&l->number, &l->class_of) : EINVAL; }
 
 int shfl_thread_attr(uint16_t prio, uint16_t class_of, uint16_t kind) {
     int error = 0;

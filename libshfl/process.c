@@ -3,90 +3,86 @@
 #include <pthread.h>
 #include <stdlib.h>
 #include "arenas.h"
+#include "locking.h"
+#include "process.h"
 #include "races.h"
 
 struct shfl_process shfl_process;
 __thread struct shfl_thread *shfl_me;
 
-/* This thread forks and has every guard: another handler of the fork may use locks too. */
-static __thread bool forks __attribute__((tls_model("initial-exec")));
+/* This thread has begun to end. It may use locks still, and libc may have called its last destructor, so its seat goes back with its last lock. */
+static __thread bool ends __attribute__((tls_model("initial-exec")));
 
-/* Guarded by `lists`: what is open, what is free, and how many threads have a seat. */
-static shfl_guard lists;
+shfl_guard shfl_lists;
+uint32_t shfl_seated, shfl_fresh_locks;
 static bool is_open;
-static uint32_t seated;
 static struct shfl_thread *free_threads;
-static uint32_t fresh_locks, free_locks; /* how many numbers were given for the first time; the last one that came back, plus one */
+static uint32_t free_locks; /* the last number that came back, plus one */
 static pthread_key_t at_end;
 
-void shfl_guard_lock(shfl_guard *guard) {
-    uint32_t none = 0;
-    if (forks || __atomic_compare_exchange_n(guard, &none, 1, false, __ATOMIC_SEQ_CST, __ATOMIC_SEQ_CST)) return;
-    while (__atomic_exchange_n(guard, 2, __ATOMIC_SEQ_CST) != 0) shfl_futex(guard, FUTEX_WAIT, 2, NULL);
+/* Has the guard of the lists. */
+static void free_seat(struct shfl_thread *thread) {
+    thread->aside = 0;
+    thread->tid = 0;
+    __atomic_fetch_and(&thread->unusual, ~(uint32_t)SHFL_IS_ENDING, __ATOMIC_SEQ_CST);
+    thread->next_free = free_threads;
+    free_threads = thread;
+    shfl_seated--;
 }
 
-void shfl_guard_unlock(shfl_guard *guard) {
-    if (!forks && __atomic_exchange_n(guard, 0, __ATOMIC_SEQ_CST) == 2) shfl_wake_one(guard);
+static void give_seat_back(struct shfl_thread *me) {
+    shfl_me = NULL;
+    shfl_guard_lock(&shfl_lists);
+    free_seat(me);
+    shfl_guard_unlock(&shfl_lists);
 }
 
-/* Where a thread ends its seat goes to another, unless it holds a lock: that stays held, and the seat with it. A later destructor of the
- * thread's may give the lock back, so this one is called again as long as POSIX lets it. */
+/* A thread that used a lock once more after its last destructors, as libc's own end of it may in a program's malloc, is gone with its seat. Where there is no other, those of
+ * such threads are free, too; who looks in vain asks the system no more for a tenth of a second. */
+static void free_seats_of_gone(void) {
+    static uint64_t looked_at;
+    uint64_t now = shfl_clock();
+    int before = errno;
+    if (now - looked_at < 100000000) return;
+    for (uint32_t k = 0; k < shfl_process.threads_seen; k++) {
+        struct shfl_thread *thread = &shfl_process.threads[k];
+        bool is_gone = thread->tid != 0 && syscall(SYS_tgkill, getpid(), thread->tid, 0) != 0 && errno == ESRCH;
+        if (is_gone && __atomic_load_n(&thread->holding, __ATOMIC_RELAXED) == 0) free_seat(thread);
+    }
+    if (!free_threads) looked_at = now;
+    errno = before;
+}
+
+/* What is counted at the number from now on is another lock's. In the child of a fork a number may never be used again. */
+static void leave_number(uint32_t lock, bool comes_back) {
+    shfl_count_end(lock);
+    shfl_guard_lock(&shfl_lists);
+    __atomic_store_n(&shfl_process.totals[lock].address, NULL, __ATOMIC_SEQ_CST);
+    shfl_record_end(lock);
+    if (comes_back) {
+        shfl_process.totals[lock].next_free = free_locks;
+        free_locks = lock + 1;
+    }
+    shfl_guard_unlock(&shfl_lists);
+}
+
+void shfl_leave_number(uint32_t lock) { leave_number(lock, false); }
+void shfl_take_number_back(uint32_t lock) { leave_number(lock, true); }
+
+void shfl_leave_seat(struct shfl_thread *me) {
+    pthread_setspecific(at_end, NULL);
+    give_seat_back(me);
+}
+
+/* Where a thread ends its seat goes to another, unless it holds a lock: that stays held, and the seat with it, until a later destructor of the
+ * thread's gives the lock back. This one is called again as long as POSIX lets it. */
 static void end_thread(void *at) {
     struct shfl_thread *me = at;
-    if (me->holding > 0) {
-        shfl_refuse(0, me->held ? me->held[0] : NULL, "a thread ends that has a lock");
-        pthread_setspecific(at_end, me);
-        return;
-    }
-    shfl_me = NULL;
-    me->aside = 0;
-    me->tid = 0;
-    shfl_guard_lock(&lists);
-    me->next_free = free_threads;
-    free_threads = me;
-    seated--;
-    shfl_guard_unlock(&lists);
-}
-
-static void before_fork(void) {
-    shfl_guard_lock(&shfl_process.is_loading);
-    shfl_guard_lock(&lists);
-    for (int k = 0; k < SHFL_CLASSES; k++) shfl_guard_lock(&shfl_process.classes[k].guard);
-    for (uint32_t k = 0; k < SHFL_COUNTED; k++) shfl_guard_lock(&shfl_process.moving[k]);
-    shfl_guard_lock(&shfl_process.ending);
-    shfl_heap_stop();
-    shfl_control_stop();
-    forks = true;
-}
-
-static void after_fork(void) {
-    forks = false;
-    shfl_control_go_on();
-    shfl_heap_go_on();
-    shfl_guard_unlock(&shfl_process.ending);
-    for (uint32_t k = SHFL_COUNTED; k-- > 0;) shfl_guard_unlock(&shfl_process.moving[k]);
-    for (int k = SHFL_CLASSES; k-- > 0;) shfl_guard_unlock(&shfl_process.classes[k].guard);
-    shfl_guard_unlock(&lists);
-    shfl_guard_unlock(&shfl_process.is_loading);
-}
-
-/* In the child of a fork only the thread that called it goes on. The guards are free there; who held a lock, holds it for good; who
- * waited, or was in the midst of an attempt, stands so in the lock's words for good. So where this thread has a lock its number isn't used again
- * when it is given back. */
-static void in_child(void) {
-    struct shfl_thread *me = shfl_me;
-    for (uint32_t k = 0; k < fresh_locks && seated > 1; k++) {
-        struct shfl_parking *parking = shfl_parking_of(shfl_number_at(k));
-        parking->head_asleep = parking->outside = parking->inside = parking->queued = parking->promoted = 0;
-        bool stale = me && shfl_hold(me, shfl_number_at(k)) != 0;
-        if (stale) me->unusual |= SHFL_IS_STALE;
-        if (stale) shfl_process.totals[shfl_number_at(k)].stale = 1;
-    }
-    for (uint32_t k = 0; k < shfl_process.threads_seen; k++)
-        if (&shfl_process.threads[k] != me) shfl_process.threads[k].in_round = 0;
-    seated = me != NULL;
-    after_fork();
-    shfl_control_forked();
+    ends = true;
+    if (me->holding == 0) return give_seat_back(me);
+    __atomic_fetch_or(&me->unusual, SHFL_IS_ENDING, __ATOMIC_SEQ_CST);
+    shfl_refuse(0, me->held ? me->held[0] : NULL, "a thread ends that has a lock");
+    pthread_setspecific(at_end, me);
 }
 
 /* Gives each thread and class the seat of its number, and keeps the last one for loading policies. */
@@ -106,7 +102,7 @@ static void deal(struct shfl_seat *seats) {
 
 #define OWN(it) shfl_races_own(&(it), sizeof(it))
 static void own_statics(void) {
-    OWN(shfl_process), OWN(lists), OWN(is_open), OWN(seated), OWN(free_threads), OWN(fresh_locks), OWN(free_locks), OWN(at_end);
+    OWN(shfl_process), OWN(shfl_lists), OWN(is_open), OWN(shfl_seated), OWN(free_threads), OWN(shfl_fresh_locks), OWN(free_locks), OWN(at_end);
 }
 
 static int open_arena(void) {
@@ -135,24 +131,26 @@ SHFL_COLD int shfl_begin_process(void) {
     int error = 0;
     own_statics();
     OWN(has_key);
-    shfl_guard_lock(&lists);
+    shfl_find_register();
+    shfl_hear_of_forks();
+    shfl_guard_lock(&shfl_lists);
     if (!has_key) {
         error = pthread_key_create(&at_end, end_thread);
-        if (!error) pthread_atfork(before_fork, after_fork, in_child);
         has_key = !error;
     }
-    shfl_guard_unlock(&lists);
+    shfl_guard_unlock(&shfl_lists);
     return error;
 }
 
 SHFL_COLD int shfl_open_process(void) {
+    if (__atomic_load_n(&is_open, __ATOMIC_ACQUIRE)) return 0;
     int error = shfl_begin_process();
-    shfl_guard_lock(&lists);
+    shfl_guard_lock(&shfl_lists);
     if (!error && !is_open) {
         error = open_arena();
-        is_open = !error;
+        __atomic_store_n(&is_open, !error, __ATOMIC_RELEASE);
     }
-    shfl_guard_unlock(&lists);
+    shfl_guard_unlock(&shfl_lists);
     return error;
 }
 
@@ -169,13 +167,15 @@ bool shfl_set_attr(struct shfl_thread *me, uint16_t prio, uint16_t class_of, uin
 }
 
 static struct shfl_thread *take_free(int *error) {
+    if (!free_threads) free_seats_of_gone();
     struct shfl_thread *me = free_threads;
     bool is_new = me && me->number >= shfl_process.threads_seen;
     *error = me ? 0 : EAGAIN;
     if (is_new && !shfl_open_counts(&shfl_process, me->number + 1)) *error = ENOMEM;
     if (*error) return NULL;
     free_threads = me->next_free;
-    seated++;
+    me->tid = (uint32_t)syscall(SYS_gettid);
+    shfl_seated++;
     if (is_new) shfl_store(&shfl_process.threads_seen, me->number + 1);
     return me;
 }
@@ -183,15 +183,16 @@ static struct shfl_thread *take_free(int *error) {
 SHFL_COLD struct shfl_thread *shfl_take_seat(int *error) {
     *error = shfl_open_process();
     if (*error) return NULL;
-    shfl_guard_lock(&lists);
+    shfl_guard_lock(&shfl_lists);
     struct shfl_thread *me = take_free(error);
-    shfl_guard_unlock(&lists);
+    shfl_guard_unlock(&shfl_lists);
     if (!me) return NULL;
     *error = pthread_setspecific(at_end, me);
     if (*error) {
-        end_thread(me);
+        give_seat_back(me);
         return NULL;
     }
+    if (ends) __atomic_fetch_or(&me->unusual, SHFL_IS_ENDING, __ATOMIC_SEQ_CST);
     shfl_me = me;
     shfl_set_attr(me, 0, 0, 0);
     shfl_control();
@@ -206,50 +207,33 @@ uint32_t shfl_number_at(uint32_t k) {
 
 static int take_number(uint32_t *lock) {
     int error = 0;
-    shfl_guard_lock(&lists);
+    shfl_guard_lock(&shfl_lists);
     if (free_locks > 0) {
         *lock = free_locks - 1;
-        free_locks = shfl_parking_of(*lock)->next_free;
+        free_locks = shfl_process.totals[*lock].next_free;
     } else {
-        if (fresh_locks == shfl_process.lock_count) error = shfl_grow();
-        if (!error) *lock = shfl_number_at(fresh_locks++);
+        if (shfl_fresh_locks == shfl_process.lock_count) error = shfl_grow();
+        if (!error) *lock = shfl_number_at(shfl_fresh_locks++);
     }
-    shfl_guard_unlock(&lists);
+    shfl_guard_unlock(&shfl_lists);
     return error;
 }
 
 uint32_t shfl_numbers_given(void) {
-    shfl_guard_lock(&lists);
-    uint32_t given = fresh_locks;
-    shfl_guard_unlock(&lists);
+    shfl_guard_lock(&shfl_lists);
+    uint32_t given = shfl_fresh_locks;
+    shfl_guard_unlock(&shfl_lists);
     return given;
 }
 
 /* Puts the lock at this address, if it has this number still, into a class. Those that wait for it already stay as they are. */
 int shfl_put_into(uint32_t lock, const void *address, uint32_t class_of) {
     if (class_of >= SHFL_CLASSES || !address || lock >= shfl_load(&shfl_process.lock_count)) return EINVAL;
-    shfl_guard_lock(&lists);
+    shfl_guard_lock(&shfl_lists);
     bool there = shfl_process.totals[lock].address == address;
     if (there) shfl_store(&shfl_parking_of(lock)->class_of, class_of);
-    shfl_guard_unlock(&lists);
+    shfl_guard_unlock(&shfl_lists);
     return there ? 0 : ENOENT;
-}
-
-/* What is counted at the number from now on is another lock's. In the child of a fork a number may never be used again. */
-void shfl_leave_number(uint32_t lock) {
-    shfl_count_end(lock);
-    shfl_guard_lock(&lists);
-    __atomic_store_n(&shfl_process.totals[lock].address, NULL, __ATOMIC_SEQ_CST);
-    shfl_guard_unlock(&lists);
-    shfl_record_end(lock);
-}
-
-void shfl_take_number_back(uint32_t lock) {
-    shfl_leave_number(lock);
-    shfl_guard_lock(&lists);
-    shfl_parking_of(lock)->next_free = free_locks;
-    free_locks = lock + 1;
-    shfl_guard_unlock(&lists);
 }
 
 /* Of several threads that use a lock first, one gives it its number. */

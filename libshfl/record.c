@@ -70,7 +70,6 @@ SHFL_COLD void shfl_record(struct shfl_thread *me, uint32_t lock, enum shfl_even
     if ((uint32_t)now != lock + 1 || (event == SHFL_FREES && shfl_hold(me, lock) == 0)) return;
     uint64_t clock = shfl_clock();
     if (clock > __atomic_load_n(&until, __ATOMIC_RELAXED)) return;
-    if (me->tid == 0) me->tid = (uint32_t)syscall(SYS_gettid);
     struct event it = {0, clock, about, (uint32_t)(now >> 32), shfl_mark_of(me), me->tid, event};
     uint64_t k = __atomic_fetch_add(&next, 1, __ATOMIC_SEQ_CST);
     struct event *at = &ring[k % EVENTS];
@@ -182,6 +181,5 @@ int shfl_record_left(uint64_t now) {
 
 /* The child of a fork has no reader. */
 void shfl_record_forked(void) {
-    if (shfl_me) shfl_me->tid = 0;
     if (open_id) drop();
 }

@@ -1,21 +1,22 @@
 /* What the environment asks of the process's arenas, and the memory of C beside them. Proved is that an arena opens for numbers in their range alone
  * (shfl_seats_open judges them again); that the memory beside it is large enough is this file's. */
+#define _GNU_SOURCE
 #include <stdlib.h>
 #include <string.h>
 #include <sys/mman.h>
 #include "inside.h"
 #include "races.h"
 
-/* A number from the environment; what isn't one counts as not said. */
+/* A number from the environment; what isn't one counts as not said, and so does all where the program runs with another user's rights. */
 static uint32_t told(const char *name, uint32_t usual) {
-    const char *text = getenv(name);
+    const char *text = secure_getenv(name);
     if (!text || !*text || strspn(text, "0123456789") != strlen(text) || strlen(text) > 9) return usual;
     return (uint32_t)strtoul(text, NULL, 10);
 }
 
 /* The form of the locks: one that has readers, since any of them may be a lock for readers and writers. */
 static bool is_form_asked(uint8_t *form) {
-    const char *text = getenv("SHFL_FORM");
+    const char *text = secure_getenv("SHFL_FORM");
     bool parks = text && strcmp(text, "rw-park") == 0;
     *form = parks ? SHFL_RW_PARK : SHFL_RW;
     return parks || !text || !*text || strcmp(text, "rw") == 0;

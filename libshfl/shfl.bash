@@ -4,8 +4,9 @@
 _shfl_processes() {
     local room="${SHFL_CONTROL:-}" it
     case "$room" in '' | 0 | 1) room="${XDG_RUNTIME_DIR:+$XDG_RUNTIME_DIR/shfl}" ;; esac
+    # (a word that isn't a number isn't a process, and `compgen -W` would run what stands in it)
     for it in "${room:-/tmp/shfl-$EUID}"/shfl-*; do
-        [ -S "$it" ] && printf '%s\n' "${it##*/shfl-}"
+        [ -S "$it" ] && [[ "${it##*/shfl-}" =~ ^[0-9]+$ ]] && printf '%s\n' "${it##*/shfl-}"
     done
 }
 

@@ -62,7 +62,7 @@ static bool spin_trying(struct waiter *waiter, uint64_t most) {
     uint32_t hints = 20;
     do {
         shfl_hints(hints);
-        if (hints < 160) hints *= 2;
+        if (hints < 640) hints *= 2;
         if (try_once(waiter)) return true;
     } while (waiter->tries > 0 && shfl_clock() < until);
     return false;
@@ -260,11 +260,11 @@ SHFL_COLD int shfl_wait(struct shfl_thread *me, uint32_t lock, bool shared) {
 
 SHFL_COLD int shfl_wait_until(struct shfl_thread *me, uint32_t lock, bool shared, clockid_t clock, const struct timespec *deadline) {
     struct waiter waiter = waiter_of(me, lock, shared, shfl_class_at(0));
-    uint64_t at = (uint64_t)deadline->tv_sec * 1000000000u + (uint64_t)deadline->tv_nsec;
+    uint64_t at = shfl_time_of(deadline);
     for (;;) {
         waiter.tries = TRIES;
         uint64_t now = shfl_clock_of(clock);
-        bool over = deadline->tv_sec < 0 || now >= at;
+        bool over = now >= at;
         bool won = over ? try_once(&waiter) : spin_trying(&waiter, at - now < TRYING_NS ? at - now : TRYING_NS);
         if (!won && !over) {
             now = shfl_clock_of(clock);

@@ -8,14 +8,20 @@
 /* Who was woken, and has not come after this long, has no processor. */
 #define WAKING_NS 200000
 
-/* Wakes the one that has slept longest outside. It counts as inside from now on: until it runs nobody wakes another in its place. */
-bool shfl_wake_outside(struct shfl_parking *parking) {
-    __atomic_store_n(&parking->woken_at, shfl_clock(), __ATOMIC_RELAXED);
+/* It counts as inside from now on: until it runs nobody wakes another in its place. */
+static bool wake_one(struct shfl_parking *parking) {
+    __atomic_store_n(&shfl_total_of(parking)->woken_at, shfl_clock(), __ATOMIC_RELAXED);
     __atomic_fetch_add(&parking->inside, 1, __ATOMIC_SEQ_CST);
     __atomic_fetch_add(&parking->wakeups, 1, __ATOMIC_SEQ_CST);
     if (shfl_wake_one(&parking->wakeups)) return true;
     __atomic_fetch_sub(&parking->inside, 1, __ATOMIC_SEQ_CST);
     return false;
+}
+
+/* Wakes the one that has slept longest outside. Where nobody slept yet, another holder that left meanwhile may have found the count of the one that wasn't woken, and woken
+ * nobody; so who has announced itself by now is woken, or looks again. */
+bool shfl_wake_outside(struct shfl_parking *parking) {
+    return wake_one(parking) || (shfl_load(&parking->outside) > 0 && shfl_load(&parking->inside) == 0 && wake_one(parking));
 }
 
 enum wakes { WAKES_NOBODY, WAKES_ONE, WAKES_TO_QUEUE };
@@ -28,11 +34,11 @@ static enum wakes whom_to_wake(struct shfl_parking *parking) {
     bool alone = shfl_load(&parking->inside) == 0;
     if (holds % PASSED != 0) return alone ? WAKES_ONE : WAKES_NOBODY;
     uint64_t now = shfl_clock();
-    if (now - __atomic_load_n(&parking->promoted_at, __ATOMIC_RELAXED) >= PASSED_NS) {
-        __atomic_store_n(&parking->promoted_at, now, __ATOMIC_RELAXED);
+    if (now - __atomic_load_n(&shfl_total_of(parking)->promoted_at, __ATOMIC_RELAXED) >= PASSED_NS) {
+        __atomic_store_n(&shfl_total_of(parking)->promoted_at, now, __ATOMIC_RELAXED);
         return WAKES_TO_QUEUE;
     }
-    uint64_t since = now - __atomic_load_n(&parking->woken_at, __ATOMIC_RELAXED);
+    uint64_t since = now - __atomic_load_n(&shfl_total_of(parking)->woken_at, __ATOMIC_RELAXED);
     return alone || since >= WAKING_NS ? WAKES_ONE : WAKES_NOBODY;
 }
 

@@ -1,10 +1,10 @@
 #!/usr/bin/env bash
 # libshfl as its document says: installed into an empty prefix by its words, docs/LIBSHFL.md's programs built by its words alone, against the shared
-# library and the static one; what is visible and has a manual page is what the header has. In both forms each call and each error (tests/libshfl/posix.c), each
-# argument that can't be (arguments.c), deadlines (times.c), that who waits sleeps (sleeps.c), threads' ends, cancellation and forks (lives.c), what shfl_stat counts (counts.c), policies of classes
-# (policies.c), what a record has of a lock in each arena (records.c), the C++ classes (locks.cpp); exact counts under 16 and 64 threads (storm.c), more locks than an
+# library and the static one, and one that opens it (opened.c); what is visible and has a manual page is what the header has. In both forms each call and each error (tests/libshfl/posix.c), each
+# argument that can't be (arguments.c), deadlines (times.c), that who waits sleeps (sleeps.c), threads' ends and cancellation (lives.c), forks (forks.c, children.c), a library that is unloaded (unloads.c), a holder that is late (late.c), a process's first lock (first.c), what shfl_stat counts (counts.c), policies of classes
+# (policies.c), what a record has of a lock in each arena (records.c), that a lock may end while its last holder but one still gives it back (steps.c), that a thread of a higher priority takes no signal of another (stolen.c), that nobody sleeps beside a free lock (between.c, tries.c), that no file of the program's is taken for a client of the control socket (closes.c), the C++ classes (locks.cpp); exact counts under 16 and 64 threads (storm.c), more locks than an
 # arena has (growth.c), each message of the checked build (misuse.c). The preload library, which has each of glibc's names, under programs that know pthread alone
-# (pthreads.c, libcs.c, errors.c, conditions.c, standard.cpp), which are first run with libc's own locks, in an arena that is too small, in one that can't be, and with a malloc
+# (pthreads.c, ends.c, libcs.c, errors.c, conditions.c, handlers.c, standard.cpp), which are first run with libc's own locks, in an arena that is too small, in one that can't be, and with a malloc
 # that takes a mutex (heap.c). Under valgrind's memcheck where it is there, and with gcc's address and undefined-behaviour checks, which end a program; programs with a
 # race and without one under ThreadSanitizer, helgrind and drd, as far as they are there (races.c). First how long the library's functions are (functions.py). An argument
 # is how many rounds each thread of a storm makes. Where there is no C compiler it says so, and passes.
@@ -59,20 +59,38 @@ block 2 >"$room/policy.c"
 (cd "$room" && eval "${build/#cc/$cc}") && [ "$("$room/program")" = 400000 ] || complain "the document's program"
 "$cc" -I "$room/prefix/include" "$room/program.c" "$room/prefix/lib/libshfl.a" -lpthread -o "$room/static" || exit 1
 [ "$("$room/static")" = 400000 ] || complain "the document's program, static"
+"$cc" -Wall -Wextra -Werror -I "$room/prefix/include" "$top/tests/libshfl/opened.c" -pthread -ldl -o "$room/opened" || exit 1
+run "opened" "$room/opened"
 
-tests=(posix arguments times lives counts policies)
-for name in "${tests[@]}" sleeps storm records; do
+tests=(posix arguments times lives forks children counts policies)
+for name in "${tests[@]}" sleeps storm records steps tries stolen between closes; do
     "$cc" -std=gnu11 -O2 -g -Wall -Wextra -Werror "$top/tests/libshfl/$name.c" "${words[@]}" -o "$room/$name" || exit 1
 done
 if command -v c++ >/dev/null; then
     c++ -std=c++17 -O2 -g -Wall -Wextra -Werror "$top/tests/libshfl/locks.cpp" "${words[@]}" -o "$room/locks" || exit 1
     tests+=(locks)
 fi
-# with three seats, where threads end
-seats() { [ "$1" != lives ] || echo SHFL_THREADS=3; }
+# with three seats, where threads end and fork
+seats() { case "$1" in lives | children) echo SHFL_THREADS=3 ;; esac; }
 for form in rw rw-park; do
-    for name in "${tests[@]}" sleeps records; do run "$name, $form" env SHFL_FORM="$form" $(seats "$name") "$room/$name"; done
+    for name in "${tests[@]}" sleeps records steps tries stolen between; do run "$name, $form" env SHFL_FORM="$form" $(seats "$name") "$room/$name"; done
 done
+run "closes" env SHFL_CONTROL="$room/control" "$room/closes" "$top/libshfl/install"
+"$cc" -std=gnu11 -O2 -Wall -Wextra -Werror "$top/tests/libshfl/first.c" "${words[@]}" -o "$room/first" || exit 1
+"$cc" -std=gnu11 -O2 -Wall -Wextra -Werror -DPTHREAD "$top/tests/libshfl/first.c" -pthread -o "$room/firstpthread" || exit 1
+for place in sockets none/none; do
+    for which in "$room/first" "env LD_PRELOAD=$room/prefix/lib/libshfl_preload.so $room/firstpthread" \
+        "env SHFL_THREADS=1 LD_PRELOAD=$room/prefix/lib/libshfl_preload.so $room/firstpthread waits"; do
+        # shellcheck disable=SC2086
+        SHFL_CONTROL="$room/$place" timeout 200 $which >/dev/null 2>"$room/got" || complain "a first lock, $place, $which: $(cat "$room/got")"
+    done
+done
+# from the library's files, so that a holder's steps can be made one by one
+"$cc" -std=gnu11 -O2 -Wall -Wextra -Werror -I "$room/prefix/include" "$top/tests/libshfl/late.c" "$top"/libshfl/*.c "$top/include/shfl_heap.c" \
+    "${SHFL_ARCHIVE:-$top/crates/shfl_seats_c/out/libshfl_seats_c.a}" -pthread -o "$room/late" || exit 1
+run "late" "$room/late"
+"$cc" -std=gnu11 -O2 -Wall -Wextra -Werror "$top/tests/libshfl/unloads.c" -ldl -pthread -o "$room/unloads" || exit 1
+run "unloaded" "$room/unloads" "$room/prefix/lib/libshfl.so.1"
 run "storm" "$room/storm" 16 "$rounds" 120
 run "storm" "$room/storm" 64 "$((rounds / 4))" 120
 run "storm in a small arena" env SHFL_LOCKS=8 SHFL_THREADS=66 "$room/storm" 64 100 120
@@ -83,6 +101,9 @@ run "storm in another form" env SHFL_FORM=rw-park SHFL_LIMIT=2 "$room/storm" 16 
 run "room" env SHFL_LOCKS=3 SHFL_THREADS=2 SHFL_ARENAS=1 "$room/room" full
 run "room" env SHFL_LOCKS=0 "$room/room" refused
 for asked in SHFL_ARENAS=0 SHFL_ARENAS=257 SHFL_THREADS=65535 SHFL_FORM=spin SHFL_FORM=park SHFL_LIMIT=0 SHFL_LIMIT=1025; do run "room, $asked" env "$asked" "$room/room" refused; done
+"$cc" -std=gnu11 -O2 -I "$room/prefix/include" "$top/tests/libshfl/room.c" "$room/prefix/lib/libshfl.a" -lpthread -o "$room/secure" || exit 1
+{ chown 65534 "$room/secure" && chmod 4755 "$room/secure"; } 2>/dev/null
+run "room, with another user's rights" env SHFL_LOCKS=0 "$room/secure" secure
 run "room, another form" env SHFL_FORM=rw-park SHFL_LIMIT=1 SHFL_LOCKS=3 SHFL_THREADS=2 SHFL_ARENAS=1 "$room/room" full
 
 # more locks than the first arena has: the same calls, counts and storms where every lock, or every eighth, has an arena of its own
@@ -100,21 +121,28 @@ run "growth, storm" env SHFL_LOCKS=1 SHFL_THREADS=70 "$room/storm" 64 "$((rounds
 preload="$room/prefix/lib/libshfl_preload.so"
 # what glibc has of them, but for the making of a lock and for what only mutexes have that are libc's
 names_of() { nm -D --defined-only "$1" | sed -n 's/^[^ ]* [A-Z] \([^@]*\).*/\1/p' | sort -u; }
-names_of "$(ldd "$preload" | awk '$1 ~ /^libc\.so/ { print $3 }')" | grep -E '^(__)?pthread_(mutex|rwlock|cond)_' | grep -vE '_(init|consistent|consistent_np|getprioceiling|setprioceiling)$' >"$room/names"
+names_of "$(ldd "$preload" | awk '$1 ~ /^libc\.so/ { print $3 }')" | grep -E '^(__)?pthread_(mutex|rwlock|cond)_|^__register_atfork$' | grep -vE '_(init|consistent|consistent_np|getprioceiling|setprioceiling)$' >"$room/names"
 names_of "$preload" | diff "$room/names" - >&2 || complain "libshfl_preload.so has other names than glibc"
 nm -D --undefined-only "$preload" | grep -E 'pthread_(mutex|rwlock|cond)_|alloc' && complain "libshfl_preload.so calls libc's locks or heap"
-for name in pthreads libcs conditions errors; do "$cc" -std=gnu11 -O2 -g -Wall -Wextra -Werror "$top/tests/libshfl/$name.c" -pthread -o "$room/$name" || exit 1; done
+for name in pthreads ends libcs conditions errors; do "$cc" -std=gnu11 -O2 -g -Wall -Wextra -Werror "$top/tests/libshfl/$name.c" -pthread -o "$room/$name" || exit 1; done
 "$cc" -std=gnu11 -O2 -fno-builtin -Wall -Wextra -Werror -shared -fPIC "$top/tests/libshfl/heap.c" -pthread -o "$room/heap.so" || exit 1
+"$cc" -std=gnu11 -O2 -Wall -Wextra -Werror -shared -fPIC -DHELPER "$top/tests/libshfl/handlers.c" -pthread -o "$room/libhelper.so" || exit 1
+"$cc" -std=gnu11 -O2 -Wall -Wextra -Werror "$top/tests/libshfl/handlers.c" "$room/libhelper.so" -Wl,-rpath,"$room" -pthread -o "$room/handlers" || exit 1
+run "libc's forks" "$room/handlers"
+for form in rw rw-park; do run "preloaded forks, $form" env SHFL_FORM="$form" LD_PRELOAD="$preload" "$room/handlers"; done
 run "libc's locks" "$room/pthreads"
+run "libc's threads' ends" "$room/ends"
 run "libc's errors" "$room/errors"
 run "libc's own" "$room/libcs"
 run "libc's condition variables" "$room/conditions" "$((rounds / 8))"
 run "preloaded locks" env LD_PRELOAD="$preload" "$room/pthreads" preloaded
+run "preloaded threads' ends" env LD_PRELOAD="$preload" "$room/ends"
 run "preloaded errors" env LD_PRELOAD="$preload" "$room/errors" preloaded
 run "libc's own, preloaded" env LD_PRELOAD="$preload" "$room/libcs" preloaded
 run "preloaded condition variables" env LD_PRELOAD="$preload" "$room/conditions" "$((rounds / 8))" preloaded
 for name in pthreads libcs errors "conditions $((rounds / 8))"; do run "preloaded, rw-park" env SHFL_FORM=rw-park LD_PRELOAD="$preload" "$room/"$name preloaded; done
 run "preloaded with a malloc that takes a mutex" env LD_PRELOAD="$room/heap.so:$preload" "$room/pthreads" preloaded
+run "preloaded with such a malloc and four seats" env SHFL_THREADS=4 LD_PRELOAD="$room/heap.so:$preload" "$room/ends"
 if command -v c++ >/dev/null; then
     c++ -std=c++17 -O2 -Wall -Wextra -Werror "$top/tests/libshfl/standard.cpp" -pthread -o "$room/standard" && run "libc's locks in C++" "$room/standard" &&
         run "preloaded C++" env LD_PRELOAD="$preload" "$room/standard" || failed=1
@@ -123,6 +151,7 @@ for locks in 8 0; do run "preloaded with $locks locks" env SHFL_LOCKS="$locks" S
 run "preloaded with an arena for each lock" env SHFL_LOCKS=1 SHFL_THREADS=128 SHFL_ARENAS=256 LD_PRELOAD="$preload" "$room/pthreads" preloaded
 run "preloaded with an arena for each lock" env SHFL_LOCKS=1 SHFL_THREADS=128 SHFL_ARENAS=256 LD_PRELOAD="$preload" "$room/conditions" "$((rounds / 8))" preloaded
 run "preloaded with four seats" env SHFL_THREADS=4 LD_PRELOAD="$preload" "$room/pthreads" preloaded
+run "preloaded with four seats" env SHFL_THREADS=4 LD_PRELOAD="$preload" "$room/ends"
 
 # misuse ends a program of the checked build with its message and the lock's address, and a right one runs there as anywhere
 "$cc" -std=gnu11 -O2 -Wall -Wextra -Werror "$top/tests/libshfl/misuse.c" "${words[@]}" -o "$room/misuse" || exit 1
@@ -132,7 +161,8 @@ for what in $("$room/misuse"); do
     "$room/misuse" "$what" >/dev/null 2>"$room/got" && [ ! -s "$room/got" ] || complain "misuse outside the checked build, $what: $(cat "$room/got")"
 done
 echo "tests/libshfl.sh: misuse: $("$room/misuse" | wc -l) calls are answered, and end a program of the checked build"
-for name in times policies "storm 16 $((rounds / 4)) 120"; do run "checked build" env LD_LIBRARY_PATH="$room/prefixchecked/lib" "$room/"$name; done
+"$cc" -std=gnu11 -O2 -Wall -Wextra -Werror "$top/tests/libshfl/noted.c" "${words[@]}" -o "$room/noted" || exit 1
+for name in noted times policies "storm 16 $((rounds / 4)) 120"; do run "checked build" env LD_LIBRARY_PATH="$room/prefixchecked/lib" "$room/"$name; done
 
 if command -v valgrind >/dev/null; then
     memcheck=(valgrind -q --error-exitcode=9 --fair-sched=yes --leak-check=full --show-leak-kinds=definite --errors-for-leak-kinds=definite)
@@ -181,5 +211,5 @@ checked storm "16 $((rounds / 4)) 120"
 checked growth further SHFL_LOCKS=1 SHFL_THREADS=16
 checked growth bounded SHFL_LOCKS=3 SHFL_ARENAS=2 SHFL_THREADS=8
 CFLAGS="-O1 -g -fsanitize=undefined -fno-sanitize-recover=all" "$top/libshfl/install" "$room/prefixub" >"$room/got" 2>&1 || complain "install with checks: $(tail -n 5 "$room/got")"
-for name in pthreads libcs errors "conditions $((rounds / 8))"; do run "checked by gcc, preloaded" env LD_PRELOAD="$room/prefixub/lib/libshfl_preload.so" "$room/"$name preloaded; done
+for name in pthreads ends libcs errors "conditions $((rounds / 8))"; do run "checked by gcc, preloaded" env LD_PRELOAD="$room/prefixub/lib/libshfl_preload.so" "$room/"$name preloaded; done
 exit "$failed"

@@ -1,6 +1,6 @@
 #!/usr/bin/env bash
 # bin/shfl and the control socket at a program with a hot lock (tests/tool/hot.c): what the tool shows, and each fault of a policy in its words
-# (uses.py, faults.py); at another program (order.c) waits, records and comparisons (words.py); random bytes, half requests, another version and another user, 1,000 clients at once, clients that hang, flood or are
+# (uses.py, faults.py); at one that uses pthread's locks, too, and is preloaded (both.py); at another program (order.c) waits, records and comparisons (words.py); random bytes, half requests, another version and another user, 1,000 clients at once, clients that hang, flood or are
 # stopped (attack.py); a program that forks, becomes another one or is killed (forks.py); policies that are replaced while 16 threads wait, each
 # round of one version (replace.py, rounds.c). Counts are exact at the end, and nothing leaks. With the word `long` there are 100,000 requests
 # and 10,000 policies, which takes many minutes. No part of the gate. Where there is no C compiler it says so, and passes.
@@ -19,6 +19,7 @@ trap 'rm -rf "$room"' EXIT
 flags=(-std=gnu11 -O2 -Wall -Wextra -Werror -I "$room/prefix/include" "$top/tests/tool/hot.c")
 "$cc" "${flags[@]}" -L "$room/prefix/lib" -lshfl -pthread -o "$room/busy" || exit 1
 "$cc" -std=gnu11 -O2 -Wall -Wextra -Werror "$top/tests/tool/order.c" -I "$room/prefix/include" -L "$room/prefix/lib" -lshfl -pthread -o "$room/order" || exit 1
+"$cc" -std=gnu11 -O2 -Wall -Wextra -Werror "$top/tests/tool/both.c" -I "$room/prefix/include" -L "$room/prefix/lib" -lshfl -pthread -o "$room/both" || exit 1
 # from the library's files, so that its calls of the proved part can be looked at
 archive="${SHFL_ARCHIVE:-$top/crates/shfl_seats_c/out/libshfl_seats_c.a}"
 "$cc" "${flags[@]}" "$top/tests/tool/rounds.c" "$top"/libshfl/*.c "$top/include/shfl_heap.c" "$archive" -Wl,--wrap=shfl_seat_step -pthread \
@@ -30,6 +31,7 @@ run() {
 }
 run words "$room/order"
 run uses "$room/busy"
+run both "$room/both" "$room/prefix/lib/libshfl_preload.so"
 run faults "$room/busy"
 run attack "$room/busy" "$requests"
 run forks "$room/busy" "$children"

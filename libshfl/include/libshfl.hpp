@@ -37,10 +37,17 @@ template <class Duration> timespec after(Duration wait) {
     return spec_of(now + std::chrono::ceil<std::chrono::nanoseconds>(wait));
 }
 
+// How long it is until then: no time where that has passed, since the earliest times lie further back than can be told.
+template <class Clock, class Duration> auto left_until(const std::chrono::time_point<Clock, Duration> &deadline) {
+    auto now = Clock::now();
+    using Left = decltype(deadline - now);
+    return deadline > now ? deadline - now : Left::zero();
+}
+
 // Tries until a clock of any kind says so.
 template <class Clock, class Duration, class Try> bool until(const std::chrono::time_point<Clock, Duration> &deadline, Try once) {
     for (;;) {
-        if (once(after(deadline - Clock::now()))) return true;
+        if (once(after(left_until(deadline)))) return true;
         if (Clock::now() >= deadline) return false;
     }
 }
@@ -111,7 +118,7 @@ class condition_variable {
     }
     template <class Mutex, class Clock, class Duration>
     std::cv_status wait_until(std::unique_lock<Mutex> &held, const std::chrono::time_point<Clock, Duration> &deadline) {
-        timespec at = detail::after(deadline - Clock::now());
+        timespec at = detail::after(detail::left_until(deadline));
         if (detail::got(shfl_cond_timedwait(&cond_, held.mutex()->native_handle(), &at))) return std::cv_status::no_timeout;
         return Clock::now() < deadline ? std::cv_status::no_timeout : std::cv_status::timeout;
     }
@@ -128,7 +135,10 @@ class condition_variable {
     }
     template <class Mutex, class Rep, class Period, class Predicate>
     bool wait_for(std::unique_lock<Mutex> &held, const std::chrono::duration<Rep, Period> &wait, Predicate ready) {
-        return wait_until(held, std::chrono::steady_clock::now() + std::chrono::ceil<std::chrono::nanoseconds>(wait), ready);
+        timespec at = detail::after(wait);
+        while (!ready())
+            if (!detail::got(shfl_cond_timedwait(&cond_, held.mutex()->native_handle(), &at))) return ready();
+        return true;
     }
 
   private:

@@ -15,6 +15,9 @@ int shfl_heap_aligned(void **at, size_t align, size_t size);
 void shfl_heap_stop(void);
 void shfl_heap_go_on(void);
 
+/* Before the process has a guard: libc's call that registers handlers of forks is found (libc.c). */
+void shfl_find_register(void);
+
 #define calloc(count, size) shfl_heap_zero(count, size)
 #define realloc(at, size) shfl_heap_resize(at, size)
 #define free(at) shfl_heap_give(at)

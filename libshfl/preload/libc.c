@@ -29,9 +29,20 @@ const struct shfl_libc *shfl_libc(void) {
     return &calls;
 }
 
-/* Early, so that the threads' key is among those for which libc takes no memory, and the handlers of a program's forks come before the
- * library's. Who locks before this finds both as well. */
-__attribute__((constructor)) static void begin(void) {
-    shfl_libc();
-    shfl_begin_process();
+/* Early: who locks before this finds them as well. */
+__attribute__((constructor)) static void begin(void) { shfl_libc(); }
+
+static int (*registers)(void (*)(void), void (*)(void), void (*)(void), void *);
+
+/* It is there, so this takes no memory, as `find` does: the program's malloc may use a lock. */
+void shfl_find_register(void) {
+    if (!__atomic_load_n(&registers, __ATOMIC_ACQUIRE)) __atomic_store_n(&registers, (__typeof__(registers))dlsym(RTLD_NEXT, "__register_atfork"), __ATOMIC_RELEASE);
+}
+
+/* What pthread_atfork calls, which each object has in itself. An object that the program needs begins before this library does; its handlers of forks come
+ * before the library's all the same: they may wait for a thread, which needs a guard at its end. */
+int __register_atfork(void (*prepare)(void), void (*parent)(void), void (*child)(void), void *object) {
+    extern void *__dso_handle __attribute__((visibility("hidden")));
+    if (object != __dso_handle) shfl_begin_process();
+    return registers(prepare, parent, child, object);
 }

@@ -9,11 +9,12 @@ static void nap(void) {
     shfl_sleep(&never, 0, NAP_NS);
 }
 
+/* By a system call, since no lock is a point of cancellation. */
 static SHFL_COLD void say_once(void) {
     static const char words[] = "libshfl_preload: more threads than SHFL_THREADS use locks; one waits until another has ended\n";
     static uint32_t said;
     int before = errno;
-    if (!__atomic_exchange_n(&said, 1, __ATOMIC_SEQ_CST) && write(2, words, sizeof words - 1) < 0) errno = before;
+    if (!__atomic_exchange_n(&said, 1, __ATOMIC_SEQ_CST)) syscall(SYS_write, 2, words, sizeof words - 1);
     errno = before;
 }
 

@@ -27,7 +27,11 @@ void *malloc(size_t size) {
     return at + 16;
 }
 
-void free(void *at) { (void)at; }
+void free(void *at) {
+    if (!at) return;
+    pthread_mutex_lock(&mutex);
+    pthread_mutex_unlock(&mutex);
+}
 
 void *calloc(size_t count, size_t size) { return malloc(count * size); } /* fresh memory is zero */
 

@@ -1,10 +1,9 @@
-/* What the end of a thread or of a condition variable, cancellation and a fork mean to the library's locks: lives, with SHFL_THREADS=3. */
+/* What the end of a thread or of a condition variable, and cancellation mean to the library's locks: lives, with SHFL_THREADS=3. */
 #include <errno.h>
 #include <libshfl.h>
 #include <pthread.h>
 #include <stdbool.h>
 #include <stdint.h>
-#include <sys/wait.h>
 #include <unistd.h>
 #include "answers.h"
 
@@ -76,7 +75,7 @@ static void cancellation(void) {
     IS(shfl_mutex_destroy(&m) || shfl_mutex_destroy(&other) || shfl_rwlock_destroy(&l) || shfl_cond_destroy(&c), 0);
 }
 
-static pthread_key_t earlier, later;
+static pthread_key_t earlier, later, always;
 
 /* As a thread ends it uses locks, before its seat goes back and after that. */
 static void uses_locks(void *at) {
@@ -87,6 +86,21 @@ static void uses_locks(void *at) {
 static void *ends(void *at) {
     IS(pthread_setspecific(earlier, at) || pthread_setspecific(later, at), 0);
     return (void *)(intptr_t)shfl_thread_attr(1, 2, 3);
+}
+
+/* It is set anew each time: so it is the last one that libc calls. */
+static void uses_locks_always(void *at) {
+    struct timespec over = {1, 0};
+    uses_locks(at);
+    IS(shfl_mutex_lock(&m), 0);
+    IS(shfl_cond_timedwait(&c, &m, &over), ETIMEDOUT);
+    IS(shfl_mutex_unlock(&m), 0);
+    IS(pthread_setspecific(always, at), 0);
+}
+
+static void *ends_last(void *at) {
+    IS(pthread_setspecific(always, at), 0);
+    return (void *)(intptr_t)(shfl_mutex_lock(&m) || shfl_mutex_unlock(&m));
 }
 
 static void gives_back(void *lock) { IS(shfl_mutex_unlock(lock), 0); }
@@ -107,53 +121,8 @@ static void ends_of_threads(void) {
     IS(result_of(ends_with, &other), 0);
     IS(shfl_mutex_trylock(&other) || shfl_mutex_unlock(&other), 0);
     for (int k = 0; k < 50; k++) IS(result_of(ends, &count), 0);
-}
-
-static shfl_mutex_t was_free;
-
-static void *has_locks(void *at) {
-    pthread_barrier_t *both = at;
-    IS(shfl_mutex_lock(&m) || shfl_rwlock_rdlock(&l), 0);
-    pthread_barrier_wait(both);
-    pthread_barrier_wait(both);
-    IS(shfl_mutex_unlock(&m) || shfl_rwlock_unlock(&l), 0);
-    return NULL;
-}
-
-static void *uses_other(void *at) { return (void *)(intptr_t)(shfl_mutex_lock(at) || shfl_mutex_unlock(at) || shfl_rwlock_rdlock(&l) || shfl_rwlock_unlock(&l)); }
-
-/* In the child what another thread had stays held; what the forking thread had is its own; and new threads come. */
-static int in_child(void) {
-    struct timespec soon = in_ms(CLOCK_MONOTONIC, 20);
-    shfl_mutex_t fresh = SHFL_MUTEX_INIT;
-    alarm(100);
-    IS(shfl_mutex_trylock(&m), EBUSY);
-    IS(shfl_mutex_timedlock(&m, &soon), ETIMEDOUT);
-    IS(shfl_mutex_unlock(&m), EPERM);
-    IS(shfl_mutex_destroy(&m), EBUSY);
-    IS(shfl_rwlock_trywrlock(&l), EBUSY);
-    IS(shfl_rwlock_rdlock(&l) || shfl_rwlock_unlock(&l) || shfl_mutex_lock(&was_free) || shfl_mutex_unlock(&was_free), 0);
-    IS(shfl_mutex_lock(&other), EDEADLK);
-    IS(shfl_mutex_unlock(&other), 0);
-    for (int k = 0; k < 10; k++) IS(result_of(uses_other, &other) || result_of(uses_other, &fresh), 0);
-    return shfl_mutex_lock(&other) || shfl_mutex_unlock(&other) || shfl_mutex_destroy(&fresh);
-}
-
-static void forks(void) {
-    pthread_barrier_t both;
-    pthread_t thread;
-    int status;
-    IS(pthread_barrier_init(&both, NULL, 2), 0);
-    IS(pthread_create(&thread, NULL, has_locks, &both), 0);
-    pthread_barrier_wait(&both);
-    IS(shfl_mutex_lock(&was_free) || shfl_mutex_unlock(&was_free) || shfl_mutex_lock(&other), 0);
-    pid_t child = fork();
-    if (child == 0) _exit(in_child());
-    IS(waitpid(child, &status, 0) == child && status == 0, 1);
-    pthread_barrier_wait(&both);
-    IS(pthread_join(thread, NULL), 0);
-    IS(shfl_mutex_unlock(&other), 0);
-    IS(shfl_mutex_trylock(&m) || shfl_mutex_unlock(&m) || shfl_rwlock_trywrlock(&l) || shfl_rwlock_unlock(&l), 0);
+    IS(pthread_key_create(&always, uses_locks_always), 0);
+    for (int k = 0; k < 50; k++) IS(result_of(ends_last, &count), 0);
 }
 
 static int waiting;
@@ -200,11 +169,10 @@ static void ends_of_conditions(void) {
 
 int main(void) {
     alarm(280);
-    IS(pthread_key_create(&earlier, uses_locks), 0); /* before the library has a key */
+    IS(pthread_key_create(&earlier, uses_locks), 0);
     cancellation();
     ends_of_threads();
     ends_of_conditions();
-    forks();
-    puts("threads end, are cancelled and fork as they may");
+    puts("threads end and are cancelled as they may");
     return 0;
 }

@@ -75,6 +75,29 @@ static void conditions() {
     other.join();
 }
 
+// Deadlines that no clock reaches, and those that each clock has passed.
+static void far_deadlines() {
+    shfl::timed_mutex m;
+    shfl::condition_variable changed;
+    bool ready = false;
+    std::unique_lock held(m);
+    MUST(changed.wait_until(held, std::chrono::steady_clock::time_point::min()) == std::cv_status::timeout);
+    MUST(!changed.wait_until(held, std::chrono::system_clock::time_point::min(), [] { return false; }));
+    std::thread([&] { MUST(!m.try_lock_until(std::chrono::steady_clock::time_point::min())); }).join();
+    std::thread other([&] {
+        std::unique_lock its(m);
+        MUST(changed.wait_for(its, std::chrono::hours::max(), [&] { return ready; }));
+        MUST(changed.wait_until(its, std::chrono::steady_clock::time_point::max(), [&] { return ready; }));
+    });
+    held.unlock();
+    std::this_thread::sleep_for(30ms);
+    held.lock();
+    ready = true;
+    changed.notify_all();
+    held.unlock();
+    other.join();
+}
+
 template <class Lock> constexpr bool is_a_lock = sizeof(Lock) == 16 && !std::is_copy_constructible_v<Lock> && !std::is_copy_assignable_v<Lock>;
 static_assert(is_a_lock<shfl::mutex> && is_a_lock<shfl::timed_mutex> && is_a_lock<shfl::shared_mutex> && is_a_lock<shfl::condition_variable>);
 
@@ -160,6 +183,7 @@ int main() {
     counts();
     times();
     conditions();
+    far_deadlines();
     tries();
     is_notified<shfl::condition_variable>();
     is_notified<std::condition_variable_any>();

@@ -227,33 +227,12 @@ static void forks(void) {
     IS(pthread_mutex_unlock(&was_held), 0);
 }
 
-static pthread_key_t key;
-static void unlocks(void *m) { IS(pthread_mutex_unlock(m), 0); }
-
-static void *ends_with(void *m) {
-    IS(pthread_mutex_lock(m), 0);
-    IS(pthread_setspecific(key, m), 0);
-    return NULL;
-}
-
-/* What a thread has at its end stays taken, unless a destructor of its own gives it back. */
-static void ends(void) {
-    static pthread_mutex_t stays, goes;
-    IS(pthread_key_create(&key, unlocks), 0);
-    IS(beside(other_lock, &stays), 0);
-    IS(pthread_mutex_trylock(&stays), EBUSY);
-    IS(beside(ends_with, &goes), 0);
-    IS(pthread_mutex_trylock(&goes), 0);
-    for (int k = 0; k < 20; k++) IS(beside(other_try, &goes), EBUSY);
-}
-
 int main(int count, char **words) {
     preloaded = count > 1 && strcmp(words[1], "preloaded") == 0;
     alarm(280);
     mutexes();
     rwlocks();
     forks();
-    ends();
-    puts("mutexes, locks for readers and writers, forks and threads' ends are as POSIX words them");
+    puts("mutexes, locks for readers and writers, and forks are as POSIX words them");
     return 0;
 }

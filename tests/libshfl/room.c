@@ -1,10 +1,12 @@
-/* What a process is answered whose arena has three locks and two seats (full), or can't be opened as the environment asks for (refused). */
+/* What a process is answered whose arena has three locks and two seats (full), or can't be opened as the environment asks for (refused); which isn't asked where the
+ * program has another user's rights (secure). */
 #include <errno.h>
 #include <libshfl.h>
 #include <pthread.h>
 #include <stdbool.h>
 #include <stdio.h>
 #include <string.h>
+#include <sys/auxv.h>
 
 static shfl_mutex_t locks[4];
 static pthread_barrier_t both;
@@ -72,6 +74,9 @@ int main(int count, char **words) {
     int told;
     if (count > 1 && strcmp(words[1], "full") == 0) {
         told = full();
+    } else if (count > 1 && strcmp(words[1], "secure") == 0) {
+        if (!getauxval(AT_SECURE)) puts("no program has another user's rights here: ");
+        told = getauxval(AT_SECURE) && all_answer(EINVAL);
     } else {
         told = shfl_mutex_lock(&locks[0]) != EINVAL || shfl_class_policy(0, 1, NULL, 0, NULL, 0, NULL) != EINVAL || shfl_thread_attr(0, 0, 0) != EINVAL ||
                !all_answer(EINVAL);

@@ -51,12 +51,15 @@ static const struct form forms[] = {
 };
 enum { FORMS = sizeof forms / sizeof *forms };
 
+/* One that 64 bits of nanoseconds can't tell: half a second more than 2^64 of them. */
+static const struct timespec far = {18446744074, 209551616};
+
 /* What is given back after the call; of a condition variable its mutex. */
 static int give(enum what what) { return what == MUTEX ? shfl_mutex_unlock(&m) : what == SHARED ? shfl_rwlock_unlock(&l) : shfl_mutex_unlock(&gate); }
 
 /* Has both locks; each time that somebody waits for it, gives them back after a while, and signals. */
 static void *holds(void *none) {
-    for (int k = 0; k < FORMS; k++) {
+    for (int k = 0; k < 2 * FORMS; k++) {
         IS(shfl_mutex_lock(&m) || shfl_rwlock_wrlock(&l), 0);
         pthread_barrier_wait(&both);
         pthread_barrier_wait(&both); /* its deadline has passed */
@@ -72,7 +75,7 @@ static void *holds(void *none) {
 }
 
 static double took(const struct form *form, long ms, int wanted) {
-    struct timespec at = ms > 0 ? in_ms(form->clock, ms) : (struct timespec){1, 0};
+    struct timespec at = ms > 0 ? in_ms(form->clock, ms) : ms < 0 ? far : (struct timespec){1, 0};
     double began = now(CLOCK_MONOTONIC);
     int told = form->call(form->clock, &at);
     if (told != wanted) fprintf(stderr, "%s, %ld ms: ", form->name, ms);
@@ -85,17 +88,17 @@ static void must_be(const struct form *form, double took, double least, double m
     IS(took >= least && took < most, 1);
 }
 
-/* In vain, then long before its deadline. */
-static void waits_as_told(const struct form *form) {
+/* In vain, then long before its deadline; or before one that never comes. */
+static void waits_as_told(const struct form *form, bool in_vain) {
     pthread_barrier_wait(&both);
     is_signalled = false;
     if (form->what == COND) IS(shfl_mutex_lock(&gate), 0);
-    if (form->has_deadline) {
+    if (form->has_deadline && in_vain) {
         must_be(form, took(form, SOON_MS, ETIMEDOUT), SOON_MS * 0.00099, 8);
         must_be(form, took(form, 0, ETIMEDOUT), 0, 4);
     }
     pthread_barrier_wait(&both);
-    must_be(form, took(form, 60000, 0), 0, 8);
+    must_be(form, took(form, in_vain ? 60000 : -1, 0), 0, 8);
     IS(give(form->what), 0);
     pthread_barrier_wait(&both);
 }
@@ -118,7 +121,7 @@ int main(void) {
     IS(pthread_barrier_init(&both, NULL, 2), 0);
     IS(pthread_create(&holder, NULL, holds, NULL), 0);
     IS(pthread_create(&disturber, NULL, disturbs, &self), 0);
-    for (int k = 0; k < FORMS; k++) waits_as_told(&forms[k]);
+    for (int k = 0; k < 2 * FORMS; k++) waits_as_told(&forms[k % FORMS], k < FORMS);
     IS(pthread_join(holder, NULL), 0);
     __atomic_store_n(&ended, true, __ATOMIC_RELAXED);
     IS(pthread_join(disturber, NULL), 0);

@@ -95,7 +95,11 @@ def leaves_a_socket(target, pid):
     until(lambda: refuses(target, pid), "somebody listens still")
     sweep()
     must(os.path.exists(target.place_of(pid)), "a socket is taken away that may be new")
-    sweep(0)
+    file = f"{target.room}/shfl-1"
+    with open(file, "w", encoding="ascii"):
+        sweep(0)
+    must(os.path.exists(file), "a file is taken away that is no socket")
+    os.unlink(file)
     must(os.listdir(target.room) == [f"shfl-{target.pid}"], f"the sockets: {os.listdir(target.room)}")
 
 

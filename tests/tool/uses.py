@@ -1,6 +1,8 @@
 """What bin/shfl shows of a program, how it starts one and what it does to it, and how bash completes its words: uses.py PROGRAM."""
-import json, os, re, shutil, subprocess, sys, tempfile
+import json, os, re, shutil, signal, socket, subprocess, sys, tempfile, time, unittest.mock
 from target import TOP, must, shfl, until, with_target
+import shfl_locks
+from shfl_places import Places
 
 
 def told(pid):
@@ -14,6 +16,9 @@ def the_tool(target):
     pid = str(target.pid)
     must(sorted(it["where"] for it in told(pid)["locks"]) == ["hot", "other"], "the symbols of the locks")
     must(shfl("class", pid, "hot", "5") == (0, "1 lock in class 5\n"), "a class of locks")
+    there, gone = shfl_locks.meant(target.pid, "hot"), {"number": 0, "address": 4096}
+    with unittest.mock.patch.object(shfl_locks, "meant", lambda *_: [gone, *there]):
+        must(shfl_locks.put(target.pid, "hot", "5") == 1, "a lock that has gone meanwhile")
     must(shfl("class", pid, "nobody", "5") == (1, "shfl: no lock in use is nobody\n"), "a lock that isn't there")
     must([(it["class"], it["locks"]) for it in told(pid)["classes"]] == [(0, 1), (5, 1)], "the classes")
     must(shfl("attach", pid, "5", f"{TOP}/examples/policies/socket.hex")[1].startswith("class 5: version 1; the one before is "), "the version")
@@ -69,7 +74,60 @@ def runs(target):
         status, text = shfl("run", *words, sys.argv[1], "3")
         must(status == 2 and text.startswith("shfl: ") and text.count("\n") == 1, f"run {words}: {status} {text}")
         must(words[0] != "--class" or "--class CLASS=SELECTOR" in text, f"run {words} doesn't tell the form: {text}")
+    has_descriptors()
+    has_signals()
     must(shfl("run", "--form", "rw")[0] == 2 and shfl("run", "--form")[0] == 2 and os.listdir(target.room) == [f"shfl-{target.pid}"], "run without a program")
+
+
+def lies_behind_files(_):
+    """What lies behind a file that is no program has its address for a name, whatever the file's bytes are, and though a look at it would wait."""
+    with tempfile.TemporaryDirectory() as room:
+        os.mkfifo(f"{room}/pipe")
+        for name, data in (("data", b"\xff" * 4096), ("cut", b"\x7fELF\x02\x01" + b"\xff" * 100), ("pipe", None)):
+            if data:
+                with open(f"{room}/{name}", "wb") as file:
+                    file.write(data)
+            places = Places(0)
+            places.maps = [(0x10000, 0x11000, 0, f"{room}/{name}"), (0x11000, 0x12000, 0, "")]
+            must(places.of(0x11008) == ("", "0x11008") and places.of(0x10008) == (name, f"{name}+0x8"), f"what lies behind {name}: {places.of(0x11008)}")
+
+
+def no_terminals_words(_):
+    """What a file is called doesn't come to the terminal as it is."""
+    places = Places(0)
+    places.maps = [(0x10000, 0x11000, 0, "/tmp/\x1b]0;title\x07")]
+    must(places.of(0x10008) == ("?]0;title?", "?]0;title?+0x8"), f"{places.of(0x10008)}")
+
+
+def has_signals():
+    """What is sent to the tool comes to the program that it runs."""
+    script = 'trap "echo came; exit 7" HUP USR1 TERM; echo ready; while :; do sleep 0.1; done'
+    for it in (signal.SIGHUP, signal.SIGUSR1, signal.SIGTERM):
+        words = [sys.executable, "-B", f"{TOP}/bin/shfl", "run", "sh", "-c", script]
+        ran = subprocess.Popen(words, stdout=subprocess.PIPE, text=True)
+        ran.stdout.readline()
+        # (the program may be ready before the tool is)
+        time.sleep(0.5)
+        ran.send_signal(it)
+        said = ran.communicate()[0]
+        must(said == "came\n" and ran.returncode == 7, f"{it} sent to the tool: {said} {ran.returncode}")
+
+
+def has_descriptors():
+    """A program that is run has the descriptors that it would have without that; it finds the directory from another one, and its status is told though that has gone."""
+    with tempfile.TemporaryDirectory() as room:
+        library = f"{room}/a library.so"
+        with open(library, "wb"), unittest.mock.patch.dict(os.environ, {"SHFL_PRELOAD": library}):
+            must(shfl("run", "true")[0] == 3, "a library that can't be preloaded")
+        words = [sys.executable, "-B", f"{TOP}/bin/shfl", "run", "sh", "-c", 'cd / && rm -r "$SHFL_CONTROL" && exit 9']
+        for place in (f"{room}/sockets", "sockets"):
+            status = subprocess.run(words, cwd=room, env={**os.environ, "SHFL_CONTROL": place}, check=False).returncode
+            must(status == 9, f"the status of a program that is run: {status}")
+    ours, its = os.pipe()
+    ran = subprocess.run([sys.executable, "-B", f"{TOP}/bin/shfl", "run", "sh", "-c", f"echo there >&{its}"], pass_fds=[its], check=False)
+    os.close(its)
+    with open(ours, "rb") as at:
+        must(ran.returncode == 0 and at.read() == b"there\n", "a program that is run lacks a descriptor")
 
 
 def completed(*words):
@@ -82,6 +140,11 @@ def completed(*words):
 def completion(target):
     must(completed("att") == ["attach"], "the word attach isn't completed")
     must(completed("stat", "") == [str(target.pid)], "the processes")
+    with socket.socket(socket.AF_UNIX) as at:
+        place = f"{target.room}/shfl-$(echo 77)"
+        at.bind(place)
+        must(completed("stat", "") == [str(target.pid)], "bash runs what stands in a socket's name")
+        os.unlink(place)
     must(completed("attach", "1", "6") == ["6", "60", "61", "62", "63"], "the classes")
     files = [f"examples/policies/socket.{it}" for it in ("asm", "c", "hex")]
     must(completed("attach", "1", "5", "examples/policies/so") == files, "the files of policies")
@@ -114,4 +177,4 @@ def manual(_):
             must(re.search(rf"(?<![a-z-]){it}(?![a-z])", usage), f"docs/shfl.1 lacks {it} of {word}")
 
 
-with_target(sys.argv[1], 3, [the_tool, files, runs, completion, manual])
+with_target(sys.argv[1], 3, [the_tool, files, lies_behind_files, no_terminals_words, runs, completion, manual])

@@ -98,6 +98,22 @@ def records():
     return pieces(lines)
 
 
+def is_interrupted():
+    """What has come by then is the record."""
+    client = subprocess.Popen([sys.executable, "-B", f"{TOP}/bin/shfl", "record", pid, "by worker", "60", "-o", f"{room}/brief"], stdout=subprocess.DEVNULL)
+    until = time.monotonic() + 60
+    # (no lock is there; but first it is said that there is a record)
+    while " 16 " not in refused("record", "0", "1", "1000"):
+        must(time.monotonic() < until, "no record begins")
+        time.sleep(0.01)
+    time.sleep(1)
+    client.send_signal(signal.SIGINT)
+    must(client.wait(60) == 0 and os.path.exists(f"{room}/brief"), "an interrupted record")
+    with open(f"{room}/brief", encoding="ascii") as file:
+        *_, end = file.read().splitlines()
+    must(re.fullmatch(r"end events [1-9]\d* lost \d+", end), f"an interrupted record ends so: {end}")
+
+
 def ends_by_itself():
     """A client that asks no more; another record meanwhile; words that are none."""
     it = next(it for it in tool["locks_of"](pid) if it["class"] == 4)
@@ -145,7 +161,7 @@ def compares():
 
 def is_put_back():
     """Who is ended in the middle leaves no policy behind; somebody else's stays."""
-    for word, other in ((signal.SIGINT, None), (signal.SIGTERM, None), (None, "7")):
+    for word, other in ((signal.SIGINT, None), (signal.SIGTERM, None), (signal.SIGHUP, None), (None, "7")):
         client = subprocess.Popen([sys.executable, "-B", f"{TOP}/bin/shfl", "compare", pid, "9", f"{room}/no.hex", "--seconds", "1"],
                                   stdout=subprocess.DEVNULL, stderr=subprocess.DEVNULL)
         until = time.monotonic() + 60
@@ -176,7 +192,7 @@ def helps():
 starts()
 waits()
 found = records()
-for step in (ends_by_itself, compares, is_put_back, helps):
+for step in (is_interrupted, ends_by_itself, compares, is_put_back, helps):
     step()
 target.stdin.write("\n")
 target.stdin.flush()
