@@ -1,6 +1,6 @@
 /* What threads count at locks. How often a lock was taken alone, and handed over so, stands at the lock, on the line that whoever has it writes
  * anyway. For the rest each thread has a small table of its own, by the lock's number; where two locks meet in a place, what stands there is
- * added to the first one's totals. So a thread has 24 KB and a lock 112 bytes (and what waits.c has), however long they count, and the sum of
+ * added to the first one's totals. So a thread has 24 KB and a lock 120 bytes (and what waits.c has), however long they count, and the sum of
  * what stands at a lock, of its totals and of its entries in all tables is exact. Nothing of this is proved, and who holds a lock doesn't depend on it. */
 #include <string.h>
 #include "inside.h"

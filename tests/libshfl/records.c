@@ -95,6 +95,19 @@ static void wait_until_contended(shfl_mutex_t *m) {
     IS(it.contended == 1, 1);
 }
 
+/* It is counted that the lock was found taken before it is recorded that somebody waits. */
+static void wait_until_recorded(unsigned record, const char *event) {
+    char request[64];
+    bool there = false;
+    snprintf(request, sizeof request, "shfl 1 events %u 0\n", record);
+    for (int k = 0; k < 30000 && !there; k++) {
+        ask(request);
+        there = strstr(reply, event) != NULL;
+        if (!there) nanosleep(&(struct timespec){0, 1000000}, NULL);
+    }
+    IS(there, 1);
+}
+
 static void use_mutex(shfl_mutex_t *m, unsigned least, unsigned most) {
     pthread_t thread;
     struct shfl_stat it;
@@ -109,6 +122,7 @@ static void use_mutex(shfl_mutex_t *m, unsigned least, unsigned most) {
     IS(shfl_mutex_lock(m), EDEADLK);
     IS(pthread_create(&thread, NULL, take_and_give, m), 0);
     wait_until_contended(m);
+    wait_until_recorded(record, " w ");
     IS(shfl_mutex_unlock(m), 0);
     IS(pthread_join(thread, NULL), 0);
     end(record, "WfWfWfWwfWf", "mmmmmmmomoo");
