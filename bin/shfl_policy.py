@@ -19,9 +19,13 @@ def made_by(command, **more):
     return ran.stdout
 
 
+# where the examples lie in C, with what a policy sees: in the sources, or where libshfl/install puts them
+CONTEXT = [f"-I{it}" for it in (f"{TOP}/examples/policies", f"{TOP}/../../share/shfl/policies") if os.path.isdir(it)]
+
+
 def object_of(file, room):
     """The object of a C file, with the lines that its instructions come from, which change none of them."""
-    made_by(["clang", "-target", "bpf", "-O2", "-g", "-c", file, "-o", f"{room}/policy.o"])
+    made_by(["clang", "-target", "bpf", "-O2", "-g", *CONTEXT, "-c", file, "-o", f"{room}/policy.o"])
     return f"{room}/policy.o"
 
 
@@ -78,7 +82,7 @@ def digits_of(file, profile):
     if file.endswith(".asm"):
         built = f"{TOP}/crates/syncord/out/syncord"
         if not os.access(built, os.X_OK):
-            raise Failed(70, "syncord isn't built, which assembles: bin/build-program syncord")
+            raise Failed(70, "assembly is read by bin/shfl of the sources, where bin/build-program syncord has been run; or give what bin/syncord asm makes of it")
         # (a line for each slot)
         return "".join(made_by([built, "asm"] + (["2"] if profile == "2" else []), input=text).decode().split())
     digits = re.sub(rb"\s", b"", text).decode("ascii", "replace").lower()

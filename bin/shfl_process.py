@@ -108,7 +108,7 @@ def ask(pid, *words):
     try:
         text = answer(place, " ".join(("shfl", "1") + words).encode() + b"\n")
     except OSError as error:
-        raise Failed(3, f"process {pid} can't be asked: {error.strerror or error} ({place})") from None
+        raise Failed(3, f"process {pid} can't be asked: {error.strerror or error} ({place}); one can that `shfl run` began, or that has SHFL_CONTROL") from None
     lines = text.decode("ascii", "replace").splitlines()
     if lines[0].startswith("refused"):
         words = lines[0].split()
