@@ -40,6 +40,7 @@ static __attribute__((noinline)) int tries_in_steps(void) {
 }
 
 static void *tries(void *step) {
+    IS(shfl_thread_attr(0, 0, 0), 0); /* it has a seat from now on */
     left = *(int *)step;
     if (tries_in_steps() == 0) IS(shfl_rwlock_unlock(&l), 0);
     tell(&has_tried);
