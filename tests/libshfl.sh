@@ -1,7 +1,7 @@
 #!/usr/bin/env bash
 # libshfl as its document says: installed into an empty prefix by its words, docs/LIBSHFL.md's programs built by its words alone, against the shared
 # library and the static one, and one that opens it (opened.c); what is visible and has a manual page is what the header has. In both forms each call and each error (tests/libshfl/posix.c), each
-# argument that can't be (arguments.c), deadlines (times.c), that who waits sleeps (sleeps.c), threads' ends and cancellation (lives.c), forks (forks.c, children.c), a library that is unloaded (unloads.c), a holder that is late (late.c), a process's first lock (first.c), what shfl_stat counts (counts.c), policies of classes
+# argument that can't be (arguments.c), deadlines (times.c), that who waits sleeps (sleeps.c), threads' ends and cancellation (lives.c), forks (forks.c, children.c), a library that is unloaded (unloads.c), a holder that is late (late.c), a reader that takes its lock again and again (again.c), a process's first lock (first.c), what shfl_stat counts (counts.c), policies of classes
 # (policies.c), what a record has of a lock in each arena (records.c), that a lock may end while its last holder but one still gives it back (steps.c), that a thread of a higher priority takes no signal of another (stolen.c), that nobody sleeps beside a free lock (between.c, tries.c), that no file of the program's is taken for a client of the control socket (closes.c), the C++ classes (locks.cpp); exact counts under 16 and 64 threads (storm.c), more locks than an
 # arena has (growth.c), each message of the checked build (misuse.c). The preload library, which has each of glibc's names, under programs that know pthread alone
 # (pthreads.c, ends.c, libcs.c, errors.c, conditions.c, handlers.c, standard.cpp), which are first run with libc's own locks, in an arena that is too small, in one that can't be, and with a malloc
@@ -85,10 +85,12 @@ for place in sockets none/none; do
         SHFL_CONTROL="$room/$place" timeout 200 $which >/dev/null 2>"$room/got" || complain "a first lock, $place, $which: $(cat "$room/got")"
     done
 done
-# from the library's files, so that a holder's steps can be made one by one
-"$cc" -std=gnu11 -O2 -Wall -Wextra -Werror -I "$room/prefix/include" "$top/tests/libshfl/late.c" "$top"/libshfl/*.c "$top/include/shfl_heap.c" \
-    "${SHFL_ARCHIVE:-$top/crates/shfl_seats_c/out/libshfl_seats_c.a}" -pthread -o "$room/late" || exit 1
-run "late" "$room/late"
+# from the library's files, so that a holder's steps can be made one by one, and a count begins near its end
+for name in late again; do
+    "$cc" -std=gnu11 -O2 -Wall -Wextra -Werror -I "$room/prefix/include" "$top/tests/libshfl/$name.c" "$top"/libshfl/*.c "$top/include/shfl_heap.c" \
+        "${SHFL_ARCHIVE:-$top/crates/shfl_seats_c/out/libshfl_seats_c.a}" -pthread -o "$room/$name" || exit 1
+    run "$name" "$room/$name"
+done
 "$cc" -std=gnu11 -O2 -Wall -Wextra -Werror "$top/tests/libshfl/unloads.c" -ldl -pthread -o "$room/unloads" || exit 1
 run "unloaded" "$room/unloads" "$room/prefix/lib/libshfl.so.1"
 run "storm" "$room/storm" 16 "$rounds" 120
