@@ -100,13 +100,14 @@ def records():
 
 def is_interrupted():
     """What has come by then is the record."""
-    client = subprocess.Popen([sys.executable, "-B", f"{TOP}/bin/shfl", "record", pid, "by worker", "60", "-o", f"{room}/brief"], stdout=subprocess.DEVNULL)
+    client = subprocess.Popen([sys.executable, "-B", f"{TOP}/bin/shfl", "record", pid, "by worker", "60", "--most", "5000000", "-o", f"{room}/brief"], stdout=subprocess.DEVNULL)
     until = time.monotonic() + 60
     # (no lock is there; but first it is said that there is a record)
     while " 16 " not in refused("record", "0", "1", "1000"):
         must(time.monotonic() < until, "no record begins")
         time.sleep(0.01)
-    time.sleep(1)
+    # (before so many events have come)
+    time.sleep(0.2)
     client.send_signal(signal.SIGINT)
     must(client.wait(60) == 0 and os.path.exists(f"{room}/brief"), "an interrupted record")
     with open(f"{room}/brief", encoding="ascii") as file:
