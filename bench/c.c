@@ -8,6 +8,7 @@
 #include <stdio.h>
 #include <stdlib.h>
 #include <time.h>
+#include "timing.h"
 
 enum { PAIRS = 20000, REPEATS = 300, THREADS = 4, RUNS = 9 };
 
@@ -15,17 +16,6 @@ static const char *const forms[] = {"spin", "rw", "park", "rw park"};
 static struct shfl_pass passes[64];
 static pthread_mutex_t mutex = PTHREAD_MUTEX_INITIALIZER;
 static volatile long counter;
-
-static double seconds(void) {
-    struct timespec t;
-    clock_gettime(CLOCK_MONOTONIC, &t);
-    return (double)t.tv_sec + (double)t.tv_nsec * 1e-9;
-}
-
-static int by_size(const void *a, const void *b) {
-    double x = *(const double *)a, y = *(const double *)b;
-    return (x > y) - (x < y);
-}
 
 /* Nanoseconds a pair of calls, of each repeat. */
 #define EACH_OF(times, lock, unlock)                                                                                                       \

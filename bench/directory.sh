@@ -3,10 +3,6 @@
 # calls: processor milliseconds, the median and the worst of up to 100 in turn, and by how much the best and the median grow. Not a part of
 # the gate. It builds the peer in a folder that it removes.
 set -eu
-top="$(cd "$(dirname "$(readlink -f "${BASH_SOURCE[0]}")")/.." && pwd)"
-program="${SYNCORD:-$top/crates/syncord/out/syncord}"
-room="$(mktemp -d)"
-trap 'rm -rf "$room"' EXIT
-[ -x "$program" ] || "$top/bin/syncord" verify </dev/null >/dev/null 2>&1 || true
+. "$(dirname "$(readlink -f "${BASH_SOURCE[0]}")")/begin.sh"
 rustc -O -o "$room/peer" "$top/bench/directory.rs"
 PYTHONDONTWRITEBYTECODE=1 python3 "$top/bench/directory.py" "$room" "$program" "$room/peer"

@@ -6,6 +6,7 @@
  *                                              holds of 100 ms asleep; it prints the processor time of all threads, in milliseconds
  * LOCK is as in waits.c, and ours queues at once. */
 #include "waits.h"
+#include "timing.h"
 
 enum { MOST = 200000 };
 static double lasted[MOST];
@@ -27,11 +28,6 @@ static void *wait_each_round(void *arg) {
         pthread_barrier_wait(&barrier);
     }
     return NULL;
-}
-
-static int by_size(const void *a, const void *b) {
-    double x = *(const double *)a, y = *(const double *)b;
-    return x < y ? -1 : x > y;
 }
 
 static void hand_over(uint64_t hold) {

@@ -16,6 +16,7 @@
 #include <stdlib.h>
 #include <string.h>
 #include <sys/resource.h>
+#include "timing.h"
 
 enum { LINE = 128, MOST_THREADS = 256, RUNS = 300, ROUNDS = 10000 };
 static _Alignas(LINE) shfl_mutex_t ours;
@@ -54,11 +55,6 @@ static double per_pair(enum kind kind) {
     uint64_t began = now();
     for (int k = 0; k < ROUNDS; k++) take(kind), give(kind);
     return (double)(now() - began) / ROUNDS;
-}
-
-static int by_size(const void *a, const void *b) {
-    double x = *(const double *)a, y = *(const double *)b;
-    return (x > y) - (x < y);
 }
 
 static void *sleeps(void *until) {

@@ -6,10 +6,6 @@
 # which is its way to write nothing where memory runs out. Not a part of the gate. It builds the peer in a folder that it removes. SYNCORD
 # names another program to time.
 set -eu
-top="$(cd "$(dirname "$(readlink -f "${BASH_SOURCE[0]}")")/.." && pwd)"
-program="${SYNCORD:-$top/crates/syncord/out/syncord}"
-room="$(mktemp -d)"
-trap 'rm -rf "$room"' EXIT
-[ -x "$program" ] || "$top/bin/syncord" verify </dev/null >/dev/null 2>&1 || true
+. "$(dirname "$(readlink -f "${BASH_SOURCE[0]}")")/begin.sh"
 cc -O2 -o "$room/peer" "$top"/bench/line.c "$top"/bench/line_*.c
 PYTHONDONTWRITEBYTECODE=1 python3 "$top/bench/line.py" "$room" "$program" "$top/examples"

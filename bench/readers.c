@@ -6,6 +6,7 @@
 #include <stdio.h>
 #include <stdlib.h>
 #include <time.h>
+#include "timing.h"
 
 enum { MOST = 64, RUNS = 9, HOLDS = 60000, KINDS = 3 };
 
@@ -15,17 +16,6 @@ static pthread_rwlock_t usual = PTHREAD_RWLOCK_INITIALIZER, writers_first = PTHR
 static double waited[MOST];
 static int kind, threads, reads_percent;
 static _Atomic int going;
-
-static double seconds(void) {
-    struct timespec t;
-    clock_gettime(CLOCK_MONOTONIC, &t);
-    return (double)t.tv_sec + (double)t.tv_nsec * 1e-9;
-}
-
-static int by_size(const void *a, const void *b) {
-    double x = *(const double *)a, y = *(const double *)b;
-    return (x > y) - (x < y);
-}
 
 static void take(struct shfl_pass *pass, bool reads) {
     pthread_rwlock_t *theirs = kind == 1 ? &usual : &writers_first;

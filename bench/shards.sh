@@ -4,10 +4,6 @@
 # milliseconds, the median and the worst of fifteen in turn, and the most memory. Not a part of the gate. It builds the peer in a folder that it removes.
 # SYNCORD names another program to time.
 set -eu
-top="$(cd "$(dirname "$(readlink -f "${BASH_SOURCE[0]}")")/.." && pwd)"
-program="${SYNCORD:-$top/crates/syncord/out/syncord}"
-room="$(mktemp -d)"
-trap 'rm -rf "$room"' EXIT
-[ -x "$program" ] || "$top/bin/syncord" verify </dev/null >/dev/null 2>&1 || true
+. "$(dirname "$(readlink -f "${BASH_SOURCE[0]}")")/begin.sh"
 rustc -O -o "$room/rust" "$top/bench/shards.rs"
 PYTHONDONTWRITEBYTECODE=1 python3 "$top/bench/shards.py" "$room" "$program"
