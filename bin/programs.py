@@ -67,7 +67,7 @@ def run(words, folder):
 
 
 def build(name, room):
-    """Proves and compiles the program over the crates that it stands on, which rt ci proves first, or takes from what this machine has proved."""
+    """Proves and compiles the program over the crates that it stands on, which rt ci proves first, or takes where the kit has kept them."""
     with tempfile.TemporaryDirectory() as first:
         uses = lay(name, first)
     crates = crates_below([it for it in uses if it not in OF_KIT])

@@ -1,6 +1,6 @@
 #!/usr/bin/env bash
 # tests/edits.sh [NAME..]: tries every wrong body of these crates (of all, without a name), those that the gate tries (must-fail/) and
-# those that it leaves out (more-edits/). Each must be refused. What was refused before on this machine isn't tried again while nothing
+# those that it leaves out (more-edits/). Each must be refused. Where the kit keeps what it refused, that isn't tried again while nothing
 # that it stands on changes. Not of the gate: run it for the crates that a change touches (docs/CHANGING.md says when).
 set -u
 top="$(cd "$(dirname "$(readlink -f "${BASH_SOURCE[0]}")")/.." && pwd)"
