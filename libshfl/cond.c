@@ -5,8 +5,9 @@
  * one that was waiting, if its priority is higher; then it wakes all.
  *
  * Of the word `waiting` the low half counts who waits, and the high half who of them was woken and is about to leave: fewer than 65,536, since each has a
- * seat. Whoever destroys the condition variable waits for these, as POSIX allows a program to destroy one as soon as nobody sleeps there. */
-#include "inside.h"
+ * seat. Whoever destroys the condition variable waits for these, as POSIX allows a program to destroy one as soon as nobody sleeps there. The preload library
+ * counts by the same functions, in a condition variable of glibc's. */
+#include "conds.h"
 
 #define WOKEN 0x10000u
 
@@ -15,8 +16,15 @@ static bool change(shfl_cond_t *cond, uint32_t *before, uint32_t waiting, uint32
     return __atomic_compare_exchange_n(&cond->waiting, before, after, false, __ATOMIC_SEQ_CST, __ATOMIC_SEQ_CST);
 }
 
-/* After this the condition variable's memory isn't touched. */
-static void leave(shfl_cond_t *cond, bool was_woken) {
+bool shfl_comes_to_wait(shfl_cond_t *cond) {
+    uint32_t both = shfl_load(&cond->waiting);
+    do {
+        if (both % WOKEN == WOKEN - 1) return false;
+    } while (!change(cond, &both, both % WOKEN + 1, both / WOKEN));
+    return true;
+}
+
+void shfl_ends_to_wait(shfl_cond_t *cond, bool was_woken) {
     uint32_t both = shfl_load(&cond->waiting), waiting, woken;
     do {
         waiting = both % WOKEN - 1;
@@ -44,22 +52,21 @@ int shfl_cond_init(shfl_cond_t *cond) {
     return 0;
 }
 
-static void wake(shfl_cond_t *cond, bool all) {
+void shfl_signal(shfl_cond_t *cond, bool all) {
     if (!is_to_wake(cond, all)) return;
     if (all) shfl_wake_all(&cond->signals);
     else shfl_wake_one(&cond->signals);
 }
 
-/* It was woken. Where no signal has come since its look, while one that was woken before hasn't left, the wakeup may have been that one's. */
-static void pass_on(shfl_cond_t *cond, uint32_t seen) {
-    if (shfl_load(&cond->signals) == seen && shfl_load(&cond->waiting) / WOKEN > 0) wake(cond, true);
+void shfl_pass_on(shfl_cond_t *cond, uint32_t seen) {
+    if (shfl_load(&cond->signals) == seen && shfl_load(&cond->waiting) / WOKEN > 0) shfl_signal(cond, true);
 }
 
 /* Sleeps until a signal or the deadline. */
 static int sleep_on(shfl_cond_t *cond, uint32_t seen, clockid_t clock, const struct timespec *deadline) {
     uint32_t *signals = &cond->signals;
     if (!deadline) {
-        if (shfl_futex(signals, FUTEX_WAIT, seen, NULL) == 0) pass_on(cond, seen);
+        if (shfl_futex(signals, FUTEX_WAIT, seen, NULL) == 0) shfl_pass_on(cond, seen);
         return 0;
     }
     uint64_t at = shfl_time_of(deadline);
@@ -70,7 +77,7 @@ static int sleep_on(shfl_cond_t *cond, uint32_t seen, clockid_t clock, const str
         uint64_t most = at - now;
         if (clock == CLOCK_REALTIME && most > 1000000000u) most = 1000000000u;
         if (!shfl_sleep(signals, seen, most)) continue;
-        pass_on(cond, seen);
+        shfl_pass_on(cond, seen);
         break;
     }
     return 0;
@@ -87,10 +94,10 @@ static bool keeps_seat(void) {
 static int wait_on(shfl_cond_t *cond, shfl_mutex_t *mutex, clockid_t clock, const struct timespec *deadline) {
     bool ends = keeps_seat();
     uint32_t seen = shfl_load(&cond->signals);
-    __atomic_fetch_add(&cond->waiting, 1, __ATOMIC_SEQ_CST);
+    shfl_comes_to_wait(cond); /* each that waits has a seat, so there is room */
     int error = shfl_mutex_unlock(mutex);
     int told = error ? error : sleep_on(cond, seen, clock, deadline);
-    leave(cond, told == 0 && shfl_load(&cond->signals) != seen);
+    shfl_ends_to_wait(cond, told == 0 && shfl_load(&cond->signals) != seen);
     if (!error) error = shfl_mutex_lock(mutex);
     if (ends) __atomic_fetch_or(&shfl_me->unusual, SHFL_IS_ENDING, __ATOMIC_SEQ_CST);
     return error ? error : told;
@@ -110,13 +117,13 @@ int shfl_cond_timedwait(shfl_cond_t *cond, shfl_mutex_t *mutex, const struct tim
 
 int shfl_cond_signal(shfl_cond_t *cond) {
     if (!cond) return EINVAL;
-    wake(cond, false);
+    shfl_signal(cond, false);
     return 0;
 }
 
 int shfl_cond_broadcast(shfl_cond_t *cond) {
     if (!cond) return EINVAL;
-    wake(cond, true);
+    shfl_signal(cond, true);
     return 0;
 }
 

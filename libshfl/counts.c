@@ -3,7 +3,7 @@
  * added to the first one's totals. So a thread has 24 KB and a lock 120 bytes (and what waits.c has), however long they count, and the sum of
  * what stands at a lock, of its totals and of its entries in all tables is exact. Nothing of this is proved, and who holds a lock doesn't depend on it. */
 #include <string.h>
-#include "inside.h"
+#include "waits.h"
 
 static uint64_t read_of(const uint64_t *count) { return __atomic_load_n(count, __ATOMIC_RELAXED); }
 

@@ -53,7 +53,8 @@ static void in_child(void) {
     for (uint32_t k = 0, given = shfl_fresh_locks; k < given && shfl_seated > 1; k++) {
         uint32_t lock = shfl_number_at(k);
         struct shfl_parking *parking = shfl_parking_of(lock);
-        if (parking->sleepers | parking->inside | parking->queued | parking->promoted) parking->sleepers = parking->inside = parking->queued = parking->promoted = 0;
+        if (parking->sleepers | parking->inside | parking->queued | parking->promoted)
+            parking->sleepers = parking->inside = parking->queued = parking->promoted = shfl_process.totals[lock].readers = 0;
         bool stale = me && me->holding > 0 && shfl_hold(me, lock) != 0 && !shfl_renumber(me, lock);
         if (stale) me->unusual |= SHFL_IS_STALE;
         if (stale) shfl_process.totals[lock].stale = 1;

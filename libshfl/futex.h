@@ -40,12 +40,14 @@ static inline void shfl_hints(uint32_t count) {
 }
 
 /* errno stays as it was, since a program doesn't expect that of a lock. */
-static inline long shfl_futex(uint32_t *word, int call, uint32_t value, struct timespec *most) {
+static inline long shfl_futex_as(uint32_t *word, int call, uint32_t value, struct timespec *time, uint32_t kinds) {
     int before = errno;
-    long told = syscall(SYS_futex, word, call | FUTEX_PRIVATE_FLAG, value, most, NULL, 0);
+    long told = syscall(SYS_futex, word, call | FUTEX_PRIVATE_FLAG, value, time, NULL, kinds);
     errno = before;
     return told;
 }
+
+static inline long shfl_futex(uint32_t *word, int call, uint32_t value, struct timespec *most) { return shfl_futex_as(word, call, value, most, 0); }
 
 /* Sleeps while the word has this value, for at most so many nanoseconds. True: it was woken. Whoever sleeps looks again, whatever it
  * is told. */
@@ -54,8 +56,16 @@ static inline bool shfl_sleep(uint32_t *word, uint32_t value, uint64_t most) {
     return shfl_futex(word, FUTEX_WAIT, value, &t) == 0;
 }
 
-/* Wakes the one that has slept longest. True: there was one. */
+/* The same as one of a kind, a bit of its own. */
+static inline bool shfl_sleep_as(uint32_t *word, uint32_t value, uint64_t most, uint32_t kind) {
+    uint64_t until = shfl_clock() + most;
+    struct timespec t = {(time_t)(until / 1000000000u), (long)(until % 1000000000u)};
+    return shfl_futex_as(word, FUTEX_WAIT_BITSET, value, &t, kind) == 0;
+}
+
+/* Wakes the one that has slept longest; of those of these kinds. True: there was one. */
 static inline bool shfl_wake_one(uint32_t *word) { return shfl_futex(word, FUTEX_WAKE, 1, NULL) == 1; }
+static inline bool shfl_wake_one_of(uint32_t *word, uint32_t kinds) { return shfl_futex_as(word, FUTEX_WAKE_BITSET, 1, NULL, kinds) == 1; }
 static inline void shfl_wake_all(uint32_t *word) { shfl_futex(word, FUTEX_WAKE, INT_MAX, NULL); }
 
 /* Wakes who announced at this word that it sleeps. It looks before it writes, so that a word where nobody sleeps stays in the caches of

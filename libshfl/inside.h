@@ -13,16 +13,20 @@
 #define SHFL_ARENAS_MOST 256
 #define SHFL_THREADS_USUAL 4096
 #define SHFL_LIMIT_USUAL 1024
+#define SHFL_LIMIT_MOST 1024
 #define SHFL_MOST_THREADS (65535 - SHFL_CLASSES - 1)
 
 #define SHFL_COLD __attribute__((noinline, cold))
 #define SHFL_LIKELY(x) __builtin_expect(!!(x), 1)
 #define SHFL_IN_LINE static inline __attribute__((always_inline))
 
-/* A heap of the library's own waits while the process forks; malloc does so by itself. */
+/* A heap of the library's own waits while the process forks; malloc does so by itself. What the environment can't ask for is an error of each call, which a program
+ * that knows pthread alone isn't told: there it is said. */
 #ifndef SHFL_HEAP_H
 static inline void shfl_heap_stop(void) {}
 static inline void shfl_heap_go_on(void) {}
+static inline void shfl_out_of_range(const char *name, uint32_t number, uint32_t most) { (void)name, (void)number, (void)most; }
+static inline void shfl_no_such_form(const char *text) { (void)text; }
 #endif
 
 /* A lock for C's own lists, over a futex: 0 free, 1 held, 2 held and somebody sleeps. */
@@ -75,6 +79,7 @@ struct shfl_total {
     uint32_t moves; /* odd while a thread gives over */
     uint32_t stale; /* 1 where the thread that forked has it, in the child */
     uint32_t next_free; /* of a number that is free: the one that came back before it, plus one */
+    uint32_t readers; /* of those that sleep outside */
     uint64_t woken_at, promoted_at; /* when one outside was last woken, and to queue */
 };
 
@@ -211,17 +216,6 @@ bool shfl_open_room(struct shfl_process *all, uint32_t arenas);
 bool shfl_open_counts(struct shfl_process *all, uint32_t threads);
 void shfl_free_room(struct shfl_process *all);
 
-/* waits.c */
-void shfl_waits_add(struct shfl_waits *to, const struct shfl_waits *from);
-void shfl_waits_of(struct shfl_waits *to, const struct shfl_counted *at);
-void shfl_waits_clear(const struct shfl_counted *at);
-void shfl_waits_count(const struct shfl_counted *at, uint64_t waited);
-void shfl_waits_end(uint32_t lock);
-const void *shfl_caller_at(uint32_t lock);
-
-/* A thread found a lock taken, which it waits for now. The first one's call is noted. */
-void shfl_begins_to_wait(struct shfl_thread *me, uint32_t lock, bool shared, const void *caller);
-
 /* Where the program called from. In the preload library its own calls stand between: `shfl_take` answers EBUSY where it would have to wait
  * and doesn't know that, and is called again by who says so (preload/numbers.c). A lock that is free costs nothing for that. */
 #ifdef SHFL_HEAP_H
@@ -263,9 +257,11 @@ static inline void shfl_count_contended(struct shfl_thread *me, uint32_t lock) {
 int shfl_wait(struct shfl_thread *me, uint32_t lock, bool shared);
 int shfl_wait_until(struct shfl_thread *me, uint32_t lock, bool shared, clockid_t clock, const struct timespec *deadline);
 
-/* waking.c: what a thread does that gives a lock back; and the wakeup of one outside the queue, false where nobody slept there. */
+/* waking.c: what a thread does that gives a lock back; and the wakeup of one outside the queue, or of a reader there, false where nobody slept. */
+enum shfl_sleeper { SHFL_WRITER = 1, SHFL_READER = 2 };
 void shfl_wake_next(struct shfl_thread *me, struct shfl_parking *parking);
 bool shfl_wake_outside(struct shfl_parking *parking);
+bool shfl_wake_reader(struct shfl_parking *parking);
 
 /* class.c: what the class's policy answers to what the next step asks. */
 bool shfl_answer(struct shfl_thread *me, struct shfl_seat *seat, uint32_t lock, struct shfl_class *its);

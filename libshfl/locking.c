@@ -6,6 +6,7 @@
 #include "arenas.h"
 #include "locking.h"
 #include "races.h"
+#include "waits.h"
 
 /* A place for one more lock that this thread takes again. */
 static struct shfl_again *room_for_again(struct shfl_thread *me) {

@@ -7,6 +7,7 @@
 #include <string.h>
 #include "control.h"
 #include "record.h"
+#include "waits.h"
 
 /* An answer has as many locks, and as many events, as there is room for; who wants more asks on. */
 #define LOCK_MOST 1300

@@ -7,11 +7,14 @@
 #include "inside.h"
 #include "races.h"
 
-/* A number from the environment; what isn't one counts as not said, and so does all where the program runs with another user's rights. */
-static uint32_t told(const char *name, uint32_t usual) {
+/* A number from the environment, 1 to the most; what isn't a number counts as not said, and so does all where the program runs with another user's rights. */
+static bool is_asked(const char *name, uint32_t usual, uint32_t most, uint32_t *number) {
     const char *text = secure_getenv(name);
-    if (!text || !*text || strspn(text, "0123456789") != strlen(text) || strlen(text) > 9) return usual;
-    return (uint32_t)strtoul(text, NULL, 10);
+    bool is_said = text && *text && strspn(text, "0123456789") == strlen(text) && strlen(text) <= 9;
+    *number = is_said ? (uint32_t)strtoul(text, NULL, 10) : usual;
+    if (*number >= 1 && *number <= most) return true;
+    shfl_out_of_range(name, *number, most);
+    return false;
 }
 
 /* The form of the locks: one that has readers, since any of them may be a lock for readers and writers. */
@@ -19,25 +22,22 @@ static bool is_form_asked(uint8_t *form) {
     const char *text = secure_getenv("SHFL_FORM");
     bool parks = text && strcmp(text, "rw-park") == 0;
     *form = parks ? SHFL_RW_PARK : SHFL_RW;
-    return parks || !text || !*text || strcmp(text, "rw") == 0;
+    if (parks || !text || !*text || strcmp(text, "rw") == 0) return true;
+    shfl_no_such_form(text);
+    return false;
 }
 
 /* As many arenas as have no more than so many locks together; at least one. */
-static bool are_arenas_asked(struct shfl_process *all) {
-    uint32_t most = told("SHFL_ARENAS", SHFL_ARENAS_USUAL);
-    all->arena_locks = told("SHFL_LOCKS", SHFL_LOCKS_USUAL);
-    if (most < 1 || most > SHFL_ARENAS_MOST || all->arena_locks < 1 || all->arena_locks > SHFL_LOCKS_MOST) return false;
+bool shfl_asked_for(struct shfl_process *all) {
+    uint32_t limit, most;
+    bool all_are = is_asked("SHFL_LIMIT", SHFL_LIMIT_USUAL, SHFL_LIMIT_MOST, &limit) && is_asked("SHFL_THREADS", SHFL_THREADS_USUAL, SHFL_MOST_THREADS, &all->thread_count) &&
+                   is_asked("SHFL_ARENAS", SHFL_ARENAS_USUAL, SHFL_ARENAS_MOST, &most) && is_asked("SHFL_LOCKS", SHFL_LOCKS_USUAL, SHFL_LOCKS_MOST, &all->arena_locks) &&
+                   is_form_asked(&all->form);
+    if (!all_are) return false;
     uint32_t fit = SHFL_LOCKS_MOST / all->arena_locks;
     all->arena_most = most < fit ? most : fit;
-    return true;
-}
-
-bool shfl_asked_for(struct shfl_process *all) {
-    uint32_t limit = told("SHFL_LIMIT", SHFL_LIMIT_USUAL);
-    all->thread_count = told("SHFL_THREADS", SHFL_THREADS_USUAL);
     all->limit = (uint16_t)limit;
-    bool is_in_range = limit >= 1 && limit <= 1024 && all->thread_count >= 1 && all->thread_count <= SHFL_MOST_THREADS;
-    return is_form_asked(&all->form) && is_in_range && are_arenas_asked(all);
+    return true;
 }
 
 /* Addresses, for what comes to be there (open_map). */

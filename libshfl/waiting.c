@@ -77,14 +77,17 @@ static bool is_promoted(struct shfl_parking *parking) {
  * have come before; and what a reader's attempt counted may be what the queue's head found in its way. */
 static bool sleep_outside(struct waiter *waiter, uint64_t most) {
     struct shfl_parking *parking = waiter->parking;
+    uint32_t *readers = &shfl_total_of(parking)->readers;
     __atomic_fetch_add(&parking->outside, 1, __ATOMIC_SEQ_CST);
+    if (waiter->shared) __atomic_fetch_add(readers, 1, __ATOMIC_SEQ_CST);
     uint32_t seen = shfl_load(&parking->wakeups);
     leave_inside(waiter);
     bool won = try_once(waiter);
     if (!won) {
         if (waiter->shared) shfl_ring(&parking->head_asleep);
-        waiter->inside = shfl_sleep(&parking->wakeups, seen, most);
+        waiter->inside = shfl_sleep_as(&parking->wakeups, seen, most, waiter->shared ? SHFL_READER : SHFL_WRITER);
     }
+    if (waiter->shared) __atomic_fetch_sub(readers, 1, __ATOMIC_SEQ_CST);
     __atomic_fetch_sub(&parking->outside, 1, __ATOMIC_SEQ_CST);
     return won;
 }
@@ -239,12 +242,14 @@ static int wait_in_queue(struct waiter *waiter) {
     return answer == SHFL_DONE ? 0 : ENOMEM;
 }
 
-/* The waiter holds the lock, or gives up. A reader wakes the next one outside, which may be a reader too; and so does who was woken in
- * vain, in its place. */
+/* The waiter holds the lock, or gives up. A reader that has it wakes the next reader outside, though writers have slept there for longer; where there is none the
+ * next one, since a holder that left meanwhile may have taken the count of one that wasn't woken for one that is awake; and so does who was woken in vain,
+ * in its place. */
 static void leave(struct waiter *waiter, bool in_vain) {
     struct shfl_parking *parking = waiter->parking;
     bool woken = waiter->inside;
     leave_inside(waiter);
+    if (waiter->shared && !in_vain && shfl_wake_reader(parking)) return;
     bool passes_on = waiter->shared || (in_vain && woken);
     if (passes_on && shfl_load(&parking->outside) > 0 && shfl_load(&parking->inside) == 0) shfl_wake_outside(parking);
 }

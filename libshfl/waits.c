@@ -1,7 +1,7 @@
 /* How long calls waited at a lock, by powers of two, and who waited for it first. Only who has waited comes here: each thread writes at a
  * place of its own, beside its counts (counts.c), and what it gives over is added to the lock's. The memory is mapped and never written
  * where nobody waits. Nothing of this is proved, and who holds a lock doesn't depend on it. */
-#include "inside.h"
+#include "waits.h"
 
 /* The waits that belong to what a thread counted. */
 static struct shfl_waits *waits_at(const struct shfl_counted *at) { return &shfl_process.waits[at - shfl_process.counts]; }

@@ -9,11 +9,11 @@
 #define WAKING_NS 200000
 
 /* It counts as inside from now on: until it runs nobody wakes another in its place. */
-static bool wake_one(struct shfl_parking *parking) {
+static bool wake_one(struct shfl_parking *parking, uint32_t kinds) {
     __atomic_store_n(&shfl_total_of(parking)->woken_at, shfl_clock(), __ATOMIC_RELAXED);
     __atomic_fetch_add(&parking->inside, 1, __ATOMIC_SEQ_CST);
     __atomic_fetch_add(&parking->wakeups, 1, __ATOMIC_SEQ_CST);
-    if (shfl_wake_one(&parking->wakeups)) return true;
+    if (shfl_wake_one_of(&parking->wakeups, kinds)) return true;
     __atomic_fetch_sub(&parking->inside, 1, __ATOMIC_SEQ_CST);
     return false;
 }
@@ -21,7 +21,13 @@ static bool wake_one(struct shfl_parking *parking) {
 /* Wakes the one that has slept longest outside. Where nobody slept yet, another holder that left meanwhile may have found the count of the one that wasn't woken, and woken
  * nobody; so who has announced itself by now is woken, or looks again. */
 bool shfl_wake_outside(struct shfl_parking *parking) {
-    return wake_one(parking) || (shfl_load(&parking->outside) > 0 && shfl_load(&parking->inside) == 0 && wake_one(parking));
+    uint32_t any = SHFL_WRITER | SHFL_READER;
+    return wake_one(parking, any) || (shfl_load(&parking->outside) > 0 && shfl_load(&parking->inside) == 0 && wake_one(parking, any));
+}
+
+/* While somebody queues, a reader that comes from outside waits behind. */
+bool shfl_wake_reader(struct shfl_parking *parking) {
+    return shfl_load(&shfl_total_of(parking)->readers) > 0 && shfl_load(&parking->queued) == 0 && wake_one(parking, SHFL_READER);
 }
 
 enum wakes { WAKES_NOBODY, WAKES_ONE, WAKES_TO_QUEUE };

@@ -1,11 +1,11 @@
 #!/usr/bin/env bash
 # libshfl as its document says: installed into an empty prefix by its words, docs/LIBSHFL.md's programs built by its words alone, against the shared
-# library and the static one, and one that opens it (opened.c); what is visible and has a manual page is what the header has. In both forms each call and each error (tests/libshfl/posix.c), each
-# argument that can't be (arguments.c), deadlines (times.c), that who waits sleeps (sleeps.c), threads' ends and cancellation (lives.c), forks (forks.c, children.c), a library that is unloaded (unloads.c), a holder that is late (late.c), a reader that takes its lock again and again (again.c), a process's first lock (first.c), what shfl_stat counts (counts.c), policies of classes
-# (policies.c), what a record has of a lock in each arena (records.c), that a lock may end while its last holder but one still gives it back (steps.c), that a thread of a higher priority takes no signal of another (stolen.c), that nobody sleeps beside a free lock (between.c, tries.c), that no file of the program's is taken for a client of the control socket (closes.c), the C++ classes (locks.cpp); exact counts under 16 and 64 threads (storm.c), more locks than an
+# library and the static one, and one that opens and closes it (opened.c); what is visible and has a manual page is what the header has. In both forms each call and each error (tests/libshfl/posix.c), each
+# argument that can't be (arguments.c), deadlines (times.c), that who waits sleeps (sleeps.c), threads' ends and cancellation (lives.c), forks (forks.c), a holder that is late (late.c), a reader that takes its lock again and again (again.c), a process's first lock (first.c), what shfl_stat counts (counts.c), policies of classes
+# (policies.c), what a record has of a lock in each arena (records.c), that a lock may end while its last holder but one still gives it back (steps.c), that a thread of a higher priority takes no signal of another (stolen.c), that nobody sleeps beside a free lock (between.c, tries.c), nor a reader beside others that read (shares.c), that no file of the program's is taken for a client of the control socket (closes.c), the C++ classes (locks.cpp); exact counts under 16 and 64 threads (storm.c), more locks than an
 # arena has (growth.c), each message of the checked build (misuse.c). The preload library, which has each of glibc's names, under programs that know pthread alone
-# (pthreads.c, ends.c, libcs.c, errors.c, conditions.c, handlers.c, standard.cpp), which are first run with libc's own locks, in an arena that is too small, in one that can't be, and with a malloc
-# that takes a mutex (heap.c). Under valgrind's memcheck where it is there, and with gcc's address and undefined-behaviour checks, which end a program; programs with a
+# (pthreads.c, ends.c, libcs.c, errors.c, conditions.c, handlers.c, standard.cpp), which are first run with libc's own locks, in an arena that is too small, in one that can't be, which is said, and with a malloc
+# that takes a mutex (heap.c); and that it passes a signal on, too (stolen.c). Under valgrind's memcheck where it is there, and with gcc's address and undefined-behaviour checks, which end a program; programs with a
 # race and without one under ThreadSanitizer, helgrind and drd, as far as they are there (races.c). First how long the library's functions are (functions.py). An argument
 # is how many rounds each thread of a storm makes. Where there is no C compiler it says so, and passes.
 set -u
@@ -61,19 +61,20 @@ block 2 >"$room/policy.c"
 [ "$("$room/static")" = 400000 ] || complain "the document's program, static"
 "$cc" -Wall -Wextra -Werror -I "$room/prefix/include" "$top/tests/libshfl/opened.c" -pthread -ldl -o "$room/opened" || exit 1
 run "opened" "$room/opened"
+run "opened by its path" "$room/opened" "$room/prefix/lib/libshfl.so.1"
 
-tests=(posix arguments times lives forks children counts policies)
-for name in "${tests[@]}" sleeps storm records steps tries stolen between closes; do
+tests=(posix arguments times lives forks counts policies)
+for name in "${tests[@]}" sleeps storm records steps tries stolen between shares closes; do
     "$cc" -std=gnu11 -O2 -g -Wall -Wextra -Werror "$top/tests/libshfl/$name.c" "${words[@]}" -o "$room/$name" || exit 1
 done
 if command -v c++ >/dev/null; then
     c++ -std=c++17 -O2 -g -Wall -Wextra -Werror "$top/tests/libshfl/locks.cpp" "${words[@]}" -o "$room/locks" || exit 1
     tests+=(locks)
 fi
-# with three seats, where threads end and fork
-seats() { case "$1" in lives | children) echo SHFL_THREADS=3 ;; esac; }
+# with few seats, where threads end and fork
+seats() { case "$1" in lives) echo SHFL_THREADS=3 ;; forks) echo SHFL_THREADS=4 ;; esac; }
 for form in rw rw-park; do
-    for name in "${tests[@]}" sleeps records steps tries stolen between; do run "$name, $form" env SHFL_FORM="$form" $(seats "$name") "$room/$name"; done
+    for name in "${tests[@]}" sleeps records steps tries stolen between shares; do run "$name, $form" env SHFL_FORM="$form" $(seats "$name") "$room/$name"; done
 done
 run "closes" env SHFL_CONTROL="$room/control" "$room/closes" "$top/libshfl/install"
 "$cc" -std=gnu11 -O2 -Wall -Wextra -Werror "$top/tests/libshfl/first.c" "${words[@]}" -o "$room/first" || exit 1
@@ -91,8 +92,6 @@ for name in late again; do
         "${SHFL_ARCHIVE:-$top/crates/shfl_seats_c/out/libshfl_seats_c.a}" -pthread -o "$room/$name" || exit 1
     run "$name" "$room/$name"
 done
-"$cc" -std=gnu11 -O2 -Wall -Wextra -Werror "$top/tests/libshfl/unloads.c" -ldl -pthread -o "$room/unloads" || exit 1
-run "unloaded" "$room/unloads" "$room/prefix/lib/libshfl.so.1"
 run "storm" "$room/storm" 16 "$rounds" 120
 run "storm" "$room/storm" 64 "$((rounds / 4))" 120
 run "storm in a small arena" env SHFL_LOCKS=8 SHFL_THREADS=66 "$room/storm" 64 100 120
@@ -140,6 +139,19 @@ run "libc's condition variables" "$room/conditions" "$((rounds / 8))"
 run "preloaded locks" env LD_PRELOAD="$preload" "$room/pthreads" preloaded
 run "preloaded threads' ends" env LD_PRELOAD="$preload" "$room/ends"
 run "preloaded errors" env LD_PRELOAD="$preload" "$room/errors" preloaded
+"$cc" -std=gnu11 -O2 -Wall -Wextra -Werror -DPTHREAD -rdynamic "$top/tests/libshfl/stolen.c" -pthread -o "$room/stolenpthread" || exit 1
+run "preloaded signals" env LD_PRELOAD="$preload" "$room/stolenpthread"
+# what can't be asked for is said in one line, and then the locks are libc's
+while read -r asked said; do
+    env "$asked" LD_PRELOAD="$preload" timeout 100 "$room/errors" >/dev/null 2>"$room/got" && [ "$(cat "$room/got")" = "libshfl_preload: $asked is $said; the program has libc's locks" ] || complain "preloaded, $asked: $(cat "$room/got")"
+done <<'ASKED'
+SHFL_LOCKS=0 out of its range, 1 to 16777216
+SHFL_LOCKS=16777217 out of its range, 1 to 16777216
+SHFL_ARENAS=257 out of its range, 1 to 256
+SHFL_THREADS=65471 out of its range, 1 to 65470
+SHFL_LIMIT=1025 out of its range, 1 to 1024
+SHFL_FORM=spin neither rw nor rw-park
+ASKED
 run "libc's own, preloaded" env LD_PRELOAD="$preload" "$room/libcs" preloaded
 run "preloaded condition variables" env LD_PRELOAD="$preload" "$room/conditions" "$((rounds / 8))" preloaded
 for name in pthreads libcs errors "conditions $((rounds / 8))"; do run "preloaded, rw-park" env SHFL_FORM=rw-park LD_PRELOAD="$preload" "$room/"$name preloaded; done

@@ -3,6 +3,7 @@
 #ifndef SHFL_HEAP_H
 #define SHFL_HEAP_H
 #define _GNU_SOURCE
+#include <stdint.h>
 #include <stdlib.h>
 
 void *shfl_heap_take(size_t size);
@@ -14,6 +15,10 @@ int shfl_heap_aligned(void **at, size_t align, size_t size);
 /* While a process forks. */
 void shfl_heap_stop(void);
 void shfl_heap_go_on(void);
+
+/* What the environment asks for can't be: said once (numbers.c), and then the program's locks are libc's. */
+void shfl_out_of_range(const char *name, uint32_t number, uint32_t most);
+void shfl_no_such_form(const char *text);
 
 /* Before the process has a guard: libc's call that registers handlers of forks is found (libc.c). */
 void shfl_find_register(void);

@@ -1,5 +1,7 @@
 /* What an unmodified program can't be told: that there is no number for a lock, which then is libc's, or no seat for a thread, which then
  * waits for one. Nothing of this is proved: a lock that went to libc is libc's alone. */
+#include <stdio.h>
+#include <string.h>
 #include "inside.h"
 
 #define NAP_NS 1000000
@@ -10,19 +12,32 @@ static void nap(void) {
 }
 
 /* By a system call, since no lock is a point of cancellation. */
-static SHFL_COLD void say_once(void) {
-    static const char words[] = "libshfl_preload: more threads than SHFL_THREADS use locks; one waits until another has ended\n";
-    static uint32_t said;
+static SHFL_COLD void say_once(uint32_t *said, const char *words) {
     int before = errno;
-    if (!__atomic_exchange_n(&said, 1, __ATOMIC_SEQ_CST)) syscall(SYS_write, 2, words, sizeof words - 1);
+    if (!__atomic_exchange_n(said, 1, __ATOMIC_SEQ_CST)) syscall(SYS_write, 2, words, strlen(words));
     errno = before;
+}
+
+static uint32_t said_what_cannot_be;
+
+SHFL_COLD void shfl_out_of_range(const char *name, uint32_t number, uint32_t most) {
+    char words[160];
+    snprintf(words, sizeof words, "libshfl_preload: %s=%u is out of its range, 1 to %u; the program has libc's locks\n", name, number, most);
+    say_once(&said_what_cannot_be, words);
+}
+
+SHFL_COLD void shfl_no_such_form(const char *text) {
+    char words[160];
+    snprintf(words, sizeof words, "libshfl_preload: SHFL_FORM=%.60s is neither rw nor rw-park; the program has libc's locks\n", text);
+    say_once(&said_what_cannot_be, words);
 }
 
 /* Takes a seat for this thread, if it has to wait for one. */
 static void sit(void) {
+    static uint32_t said;
     int error = 0;
     while (!shfl_self(&error)) {
-        say_once();
+        say_once(&said, "libshfl_preload: more threads than SHFL_THREADS use locks; one waits until another has ended\n");
         nap();
     }
 }

@@ -1,11 +1,13 @@
-/* What the tests share: a call's answer, in another thread too, and times. */
+/* What the tests share: a call's answer, in another thread too, whether a thread sleeps, and times. */
 #ifndef ANSWERS_H
 #define ANSWERS_H
 #include <pthread.h>
+#include <stdbool.h>
 #include <stdint.h>
 #include <stdio.h>
 #include <stdlib.h>
 #include <string.h>
+#include <sys/types.h>
 #include <time.h>
 
 #define IS(call, wanted) is(#call, __FILE__, __LINE__, (call), (wanted))
@@ -22,6 +24,16 @@ static inline int beside(void *(*run)(void *), void *with) {
     IS(pthread_create(&thread, NULL, run, with), 0);
     IS(pthread_join(thread, &told), 0);
     return (int)(intptr_t)told;
+}
+
+static inline bool is_asleep(pid_t tid) {
+    char name[64], text[128] = "";
+    snprintf(name, sizeof name, "/proc/self/task/%d/stat", (int)tid);
+    FILE *file = fopen(name, "r");
+    bool told = file && fgets(text, sizeof text, file);
+    if (file) fclose(file);
+    char *end = told ? strrchr(text, ')') : NULL;
+    return end && end[2] == 'S';
 }
 
 static inline double now(clockid_t clock) {

@@ -2,15 +2,10 @@
  * count, and wakes nobody; but another one may be about to sleep by then. It must not sleep for long. The library's calls of the system come through this file, so each
  * thread stands still where it has to. */
 #define _GNU_SOURCE
-#include <dlfcn.h>
 #include <libshfl.h>
-#include <linux/futex.h>
 #include <pthread.h>
-#include <stdarg.h>
-#include <stdbool.h>
-#include <sys/syscall.h>
-#include <unistd.h>
 #include "answers.h"
+#include "system.h"
 
 enum role { NONE, GIVES, TAKES, SLEEPS };
 static __thread enum role role;
@@ -26,25 +21,14 @@ static void until(enum told what) {
 }
 
 /* Each thread stands still once, where it sleeps or wakes. */
-static void at_the_system(int call) {
+static void at_the_system(uint32_t *word, bool sleeps) {
     enum role mine = role;
-    if (call != (mine == GIVES ? FUTEX_WAKE : FUTEX_WAIT)) return;
+    (void)word;
+    if (mine == NONE || sleeps == (mine == GIVES)) return;
     role = NONE;
     if (mine == GIVES) tell(GIVER_WAKES), until(SLEEPER_WAITS), until(TAKER_GAVE);
     if (mine == TAKES) tell(TAKER_WAITS), until(GIVER_WAKES);
     if (mine == SLEEPS) tell(SLEEPER_WAITS), until(GIVER_GAVE);
-}
-
-long syscall(long number, ...) {
-    static long (*real)(long, ...);
-    va_list more;
-    long a[6];
-    va_start(more, number);
-    for (int k = 0; k < 6; k++) a[k] = va_arg(more, long);
-    va_end(more);
-    if (!real) *(void **)&real = dlsym(RTLD_NEXT, "syscall");
-    if (number == SYS_futex && role != NONE) at_the_system((int)a[1] & FUTEX_CMD_MASK);
-    return real(number, a[0], a[1], a[2], a[3], a[4], a[5]);
 }
 
 static void *passes(void *none) {

@@ -273,6 +273,15 @@ static void forks(void) {
     for (int k = 0; k < 4; k++) IS(pthread_join(threads[k], NULL), 0);
 }
 
+/* As many wait as the library can count: one more wakes without a signal. */
+static void too_many(void) {
+    static pthread_cond_t c = PTHREAD_COND_INITIALIZER;
+    uint32_t *waits_there = (uint32_t *)(void *)&c + 1;
+    *waits_there = 65535;
+    IS(pthread_mutex_lock(&gate) || pthread_cond_wait(&c, &gate) || pthread_mutex_unlock(&gate) || *waits_there != 65535, 0);
+    *waits_there = 0;
+}
+
 int main(int count, char **words) {
     rounds = count > 1 ? atoi(words[1]) : 1000;
     preloaded = count > 2 && strcmp(words[2], "preloaded") == 0;
@@ -282,6 +291,7 @@ int main(int count, char **words) {
     cancellations();
     cancelled_with_signal();
     destroyed_at_once();
+    if (preloaded) too_many();
     forks();
     puts("condition variables, cancellation and forks are as POSIX words them");
     return 0;

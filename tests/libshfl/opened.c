@@ -1,8 +1,10 @@
-/* A program that opens the library with dlopen may close it while a thread that has used a lock is there still. */
+/* A program that opens the library with dlopen may close it while a thread that has used a lock is there still, and fork afterwards: opened, by the library's name, or opened LIBRARY. */
 #include <dlfcn.h>
+#include <libshfl.h>
 #include <pthread.h>
 #include <stddef.h>
-#include <libshfl.h>
+#include <sys/wait.h>
+#include <unistd.h>
 #include "answers.h"
 
 static int (*lock)(shfl_mutex_t *), (*unlock)(shfl_mutex_t *);
@@ -15,10 +17,11 @@ static void *uses_it(void *both) {
     return NULL;
 }
 
-int main(void) {
+int main(int count, char **words) {
     pthread_barrier_t both;
     pthread_t thread;
-    void *library = dlopen("libshfl.so.1", RTLD_NOW);
+    int status;
+    void *library = dlopen(count > 1 ? words[1] : "libshfl.so.1", RTLD_NOW);
     IS(library != NULL, 1);
     *(void **)&lock = dlsym(library, "shfl_mutex_lock");
     *(void **)&unlock = dlsym(library, "shfl_mutex_unlock");
@@ -28,6 +31,9 @@ int main(void) {
     IS(dlclose(library), 0);
     pthread_barrier_wait(&both);
     IS(pthread_join(thread, NULL), 0);
+    pid_t child = fork();
+    if (child == 0) _exit(0);
+    IS(waitpid(child, &status, 0) == child && status == 0, 1);
     puts("the library may be opened and closed");
     return 0;
 }

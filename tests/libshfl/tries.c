@@ -56,16 +56,6 @@ static void *writes(void *none) {
     return none;
 }
 
-static bool is_asleep(pid_t tid) {
-    char name[64], text[128] = "";
-    snprintf(name, sizeof name, "/proc/self/task/%d/stat", (int)tid);
-    FILE *file = fopen(name, "r");
-    bool told = file && fgets(text, sizeof text, file);
-    if (file) fclose(file);
-    char *end = told ? strrchr(text, ')') : NULL;
-    return end && end[2] == 'S';
-}
-
 /* Until the writer sleeps, or has had the lock. */
 static void until_it_is_so_far(void) {
     for (int times = 0; times < 4 && !is_so(&has_written); usleep(100)) {
