@@ -242,9 +242,9 @@ static int wait_in_queue(struct waiter *waiter) {
     return answer == SHFL_DONE ? 0 : ENOMEM;
 }
 
-/* The waiter holds the lock, or gives up. A reader that has it wakes the next reader outside, though writers have slept there for longer; where there is none the
- * next one, since a holder that left meanwhile may have taken the count of one that wasn't woken for one that is awake; and so does who was woken in vain,
- * in its place. */
+/* The waiter holds the lock, or gives up. A reader that has it, while nobody else waits awake, wakes the next reader outside, though writers have slept there for longer;
+ * where none sleeps the next one, since a holder that left meanwhile may have taken the count of one that wasn't woken for one that is awake; and so does who was
+ * woken in vain, in its place. */
 static void leave(struct waiter *waiter, bool in_vain) {
     struct shfl_parking *parking = waiter->parking;
     bool woken = waiter->inside;
