@@ -1,24 +1,25 @@
 //! A seat that keeps which locks it holds, and how.
-ghost use Rattle.std.specs.Prelude.{◌≡◌, ◌≢◌, ◌≤◌, ◌<◌, ℕ, ◌+◌, true, false, [], IfOk, OnErr, None, Some, vec_len, vec_capacity};
+ghost use Rattle.std.specs.Prelude.{◌≡◌, ◌≢◌, ◌<◌, ℕ, true, false, [], IfOk, OnErr, None, Some};
 ghost use Rattle.shfl_core.specs.Plan as plan;
 ghost use Rattle.shfl_core.specs.Waiting as waiting;
 ghost use Rattle.shfl_core.specs.Waiting.{MayUse};
 ghost use Rattle.shfl_arena.specs.SeatModels.{entering};
 ghost use Rattle.shfl_arena.specs.SeatSteps.{TakesStep, WinsAttempt, LosesAttempt};
-ghost use Rattle.shfl_arena.specs.Threads.{mode_held, without_lock};
+ghost use Rattle.shfl_arena.specs.Threads.{mode_held};
 ghost use Rattle.shfl_arena.specs.Waits.{Frees};
-ghost use Rattle.shfl_seats.specs.Tickets.{noted};
 
+use crate::held::{add, forget, make_room, mode_of, note};
 use shfl_arena::{Arena, ArenaSeat};
 use shfl_core::{Ask, Nap, Phase, Watch};
 use shfl_line::{Attr, Form, Mode, NoMemory};
 use std::alloc::Global;
 use std::marker::Model;
 
-/// A seat with the list of the locks that it holds.
+/// A seat with the locks that it holds: one by itself, and a list of the others.
 #[derive(Drop)]
 pub(crate) struct KeptSeat {
-    pub(crate) held: Vec<(u32, Mode)>,
+    pub(crate) first: Option<(u32, Mode)>,
+    pub(crate) others: Vec<(u32, Mode)>,
     pub(crate) seat: ArenaSeat<()>,
 }
 
@@ -27,13 +28,15 @@ impl Model for KeptSeat {
     ghost use Rattle.shfl_core.specs.Plan.{moving};
     ghost use Rattle.shfl_arena.specs.SeatModels.{SeatModel};
     ghost use Rattle.shfl_seats.specs.Tickets.{Agree};
+    ghost use Rattle.shfl_seats.specs.Listed.{StandsAlone, listed};
 
     ghost Value = { SeatModel (Unit {0}) };
 
     ghost view = { λ k. k.seat };
 
-    ghost invariant = { λ k. Agree k.held.items k.seat.holds
-        × (moving k.seat.own ≡ true → vec_len k.held < vec_capacity k.held) };
+    ghost invariant = { λ k. Agree (listed k.first k.others.items) k.seat.holds
+        × StandsAlone k.first k.others.items
+        × (moving k.seat.own ≡ true → vec_len k.others < vec_capacity k.others) };
 }
 
 /// What came of an attempt.
@@ -44,43 +47,6 @@ pub(crate) enum Tried {
     NoMemory,
 }
 
-// How this list says that the lock is held.
-fn mode_in(held: &[(u32, Mode)], lock: u32) -> Option<Mode>
-    ensures { result ≡ mode_held lock held.now }
-{
-    for entry in held {
-        if entry.0 == lock {
-            return Some(entry.1);
-        }
-    }
-    None
-}
-
-// The lock leaves the list.
-fn forget(held: &mut Vec<(u32, Mode)>, lock: u32)
-    ensures items { held.new.items ≡ without_lock lock held.old.items }
-    ensures len { vec_len held.new ≤ vec_len held.old }
-    ensures capacity { vec_capacity held.new ≡ vec_capacity held.old }
-{
-    // Whoever holds one lock alone walks over no list.
-    if held.len() == 1 && held[0].0 == lock {
-        held.clear();
-        return;
-    }
-    held.retain(|x| x.0 != lock);
-}
-
-// Notes how a lock is held, if it is.
-fn note(held: &mut Vec<(u32, Mode)>, lock: u32, hold: Option<Mode>)
-    requires room { vec_len held.old < vec_capacity held.old }
-    ensures { held.new.items ≡ noted lock hold held.old.items }
-{
-    forget(held, lock);
-    if let Some(mode) = hold {
-        held.push_reserved((lock, mode));
-    }
-}
-
 impl KeptSeat {
     /// A seat that holds nothing.
     pub(crate) fn new(alloc: Global, seat: ArenaSeat<()>) -> KeptSeat
@@ -88,7 +54,8 @@ impl KeptSeat {
         ensures { result ≡ seat }
     {
         KeptSeat {
-            held: Vec::new(alloc),
+            first: None,
+            others: Vec::new(alloc),
             seat,
         }
     }
@@ -142,7 +109,7 @@ impl KeptSeat {
     pub(crate) fn hold(&self, lock: u32) -> Option<Mode>
         ensures { result ≡ mode_held lock self.now.holds }
     {
-        mode_in(self.held.as_slice(), lock)
+        mode_of(self.first, self.others.as_slice(), lock)
     }
 
     /// Takes a lock by one operation, or finds a word that refuses it, or finds no memory to note the hold.
@@ -157,13 +124,13 @@ impl KeptSeat {
             → (word : ℕ) × LosesAttempt lock mode word self.old self.new }
         ensures no_memory { result ≡ Tried.NoMemory → self.new ≡ self.old }
     {
-        if self.held.reserve(1).is_err() {
+        if !make_room(self.first, &mut self.others) {
             return Tried::NoMemory;
         }
         if self.seat.attempt(arena, lock, mode).is_err() {
             return Tried::Lost;
         }
-        self.held.push_reserved((lock, mode));
+        add(&mut self.first, &mut self.others, lock, mode);
         Tried::Won
     }
 
@@ -179,7 +146,7 @@ impl KeptSeat {
         }) }
         ensures err { OnErr result (self.new ≡ self.old) }
     {
-        if self.held.reserve(1).is_err() {
+        if self.others.reserve(1).is_err() {
             return Err(NoMemory);
         }
         let _ = self.seat.acquire(lock, mode);
@@ -199,7 +166,7 @@ impl KeptSeat {
         if !self.seat.moving() {
             let lock = self.seat.lock();
             let hold = self.seat.hold();
-            note(&mut self.held, lock, hold);
+            note(&mut self.first, &mut self.others, lock, hold);
         }
         true
     }
@@ -214,7 +181,7 @@ impl KeptSeat {
         ensures { Frees lock mode self.old self.new }
     {
         self.seat.leave(arena, lock, mode);
-        forget(&mut self.held, lock);
+        forget(&mut self.first, &mut self.others, lock);
     }
 
     /// Disables stealing at a lock, beside the steps.
