@@ -1,5 +1,5 @@
 //! The locks that a seat holds, each with its mode: one by itself, and a list of the others. Whoever holds one lock alone follows no pointer for it.
-ghost use Rattle.std.specs.Prelude.{◌≡◌, ◌≢◌, ◌≤◌, ◌<◌, ℕ, true, IsSome, None, Some, vec_len, vec_capacity};
+ghost use Rattle.std.specs.Prelude.{◌≡◌, ◌≢◌, ◌≤◌, ◌<◌, ℕ, true, [], IsSome, None, Some, vec_len, vec_capacity};
 ghost use Rattle.shfl_arena.specs.Threads.{mode_held, without_lock};
 ghost use Rattle.shfl_seats.specs.Listed.{StandsAlone, listed};
 
@@ -28,6 +28,14 @@ pub(crate) fn mode_of(first: Option<(u32, Mode)>, others: &[(u32, Mode)], lock: 
         }
     }
     mode_in(others, lock)
+}
+
+/// Whether no lock is held.
+#[inline(always)]
+pub(crate) fn holds_none(first: Option<(u32, Mode)>, others: &[(u32, Mode)]) -> bool
+    ensures { result ≡ true → (first ≡ None) × (others.now ≡ []) }
+{
+    first.is_none() && others.is_empty()
 }
 
 /// Makes room to note one more lock. False: there is no memory.

@@ -1,5 +1,6 @@
 //! A seat that keeps which locks it holds, and how.
-ghost use Rattle.std.specs.Prelude.{◌≡◌, ◌≢◌, ◌<◌, ℕ, true, false, [], IfOk, OnErr, None, Some};
+ghost use Rattle.std.specs.Prelude.{◌≡◌, ◌≢◌, ◌<◌, ℕ, true, false, [], IfOk, IsSome, OnErr, None, Some};
+ghost use Rattle.shfl_line.specs.declared.events.Mode.{Mode as HeldMode};
 ghost use Rattle.shfl_core.specs.Plan as plan;
 ghost use Rattle.shfl_core.specs.Waiting as waiting;
 ghost use Rattle.shfl_core.specs.Waiting.{MayUse};
@@ -8,7 +9,7 @@ ghost use Rattle.shfl_arena.specs.SeatSteps.{TakesStep, WinsAttempt, LosesAttemp
 ghost use Rattle.shfl_arena.specs.Threads.{mode_held};
 ghost use Rattle.shfl_arena.specs.Waits.{Frees};
 
-use crate::held::{add, forget, make_room, mode_of, note};
+use crate::held::{add, forget, holds_none, make_room, mode_of, note};
 use shfl_arena::{Arena, ArenaSeat};
 use shfl_core::{Ask, Nap, Phase, Watch};
 use shfl_line::{Attr, Form, Mode, NoMemory};
@@ -44,6 +45,7 @@ impl Model for KeptSeat {
 pub(crate) enum Tried {
     Won,
     Lost,
+    Held,
     NoMemory,
 }
 
@@ -112,18 +114,23 @@ impl KeptSeat {
         mode_of(self.first, self.others.as_slice(), lock)
     }
 
-    /// Takes a lock by one operation, or finds a word that refuses it, or finds no memory to note the hold.
-    pub(crate) fn attempt(&mut self, arena: &Arena<()>, lock: u32, mode: Mode) -> Tried
+    // The same beside other locks that it holds.
+    #[cold]
+    #[inline(never)]
+    fn attempt_beside(&mut self, arena: &Arena<()>, lock: u32, mode: Mode) -> Tried
         requires arena { self.old.arena ≡ arena.now.id }
         requires rests { plan.moving self.old.own ≡ false }
         requires lock { lock < self.old.arena.shape.locks }
         requires mode { MayUse self.old.arena.rules.form mode }
-        requires free { mode_held lock self.old.holds ≡ None }
+        ensures held { result ≡ Tried.Held → IsSome (mode_held lock self.old.holds) }
         ensures won { result ≡ Tried.Won → WinsAttempt lock mode self.old self.new }
         ensures lost { result ≡ Tried.Lost
             → (word : ℕ) × LosesAttempt lock mode word self.old self.new }
-        ensures no_memory { result ≡ Tried.NoMemory → self.new ≡ self.old }
+        ensures same { result ≢ Tried.Won → result ≢ Tried.Lost → self.new ≡ self.old }
     {
+        if self.hold(lock).is_some() {
+            return Tried::Held;
+        }
         if !make_room(self.first, &mut self.others) {
             return Tried::NoMemory;
         }
@@ -131,6 +138,30 @@ impl KeptSeat {
             return Tried::Lost;
         }
         add(&mut self.first, &mut self.others, lock, mode);
+        Tried::Won
+    }
+
+    /// Takes a lock by one operation, or finds a word that refuses it, or holds it already, or finds no memory to note the hold. Who holds none
+    /// goes the shorter way.
+    #[inline(always)]
+    pub(crate) fn attempt(&mut self, arena: &Arena<()>, lock: u32, mode: Mode) -> Tried
+        requires arena { self.old.arena ≡ arena.now.id }
+        requires rests { plan.moving self.old.own ≡ false }
+        requires lock { lock < self.old.arena.shape.locks }
+        requires mode { MayUse self.old.arena.rules.form mode }
+        ensures held { result ≡ Tried.Held → IsSome (mode_held lock self.old.holds) }
+        ensures won { result ≡ Tried.Won → WinsAttempt lock mode self.old self.new }
+        ensures lost { result ≡ Tried.Lost
+            → (word : ℕ) × LosesAttempt lock mode word self.old self.new }
+        ensures same { result ≢ Tried.Won → result ≢ Tried.Lost → self.new ≡ self.old }
+    {
+        if !holds_none(self.first, self.others.as_slice()) {
+            return self.attempt_beside(arena, lock, mode);
+        }
+        if self.seat.attempt(arena, lock, mode).is_err() {
+            return Tried::Lost;
+        }
+        self.first = Some((lock, mode));
         Tried::Won
     }
 
@@ -171,17 +202,48 @@ impl KeptSeat {
         true
     }
 
-    /// Gives back a lock that it holds in this mode.
-    pub(crate) fn release(&mut self, arena: &Arena<()>, lock: u32, mode: Mode)
+    // The same of a lock that doesn't stand by itself.
+    #[cold]
+    #[inline(never)]
+    fn release_other(&mut self, arena: &Arena<()>, lock: u32) -> bool
         requires arena { self.old.arena ≡ arena.now.id }
         requires no_values { self.old.arena.table.slots ≡ 0 }
         requires rests { plan.moving self.old.own ≡ false }
         requires lock { lock < self.old.arena.shape.locks }
-        requires holds { mode_held lock self.old.holds ≡ Some mode }
-        ensures { Frees lock mode self.old self.new }
+        ensures not_held { result ≡ false
+            → (mode_held lock self.old.holds ≡ None) × (self.new ≡ self.old) }
+        ensures held { result ≡ true → (mode : HeldMode)
+            × (mode_held lock self.old.holds ≡ Some mode) × Frees lock mode self.old self.new }
     {
+        let Some(mode) = self.hold(lock) else {
+            return false;
+        };
         self.seat.leave(arena, lock, mode);
         forget(&mut self.first, &mut self.others, lock);
+        true
+    }
+
+    /// Gives back a lock in the mode in which it holds it. False, and nothing changes, where it doesn't.
+    #[inline(always)]
+    pub(crate) fn release(&mut self, arena: &Arena<()>, lock: u32) -> bool
+        requires arena { self.old.arena ≡ arena.now.id }
+        requires no_values { self.old.arena.table.slots ≡ 0 }
+        requires rests { plan.moving self.old.own ≡ false }
+        requires lock { lock < self.old.arena.shape.locks }
+        ensures not_held { result ≡ false
+            → (mode_held lock self.old.holds ≡ None) × (self.new ≡ self.old) }
+        ensures held { result ≡ true → (mode : HeldMode)
+            × (mode_held lock self.old.holds ≡ Some mode) × Frees lock mode self.old self.new }
+    {
+        let Some(kept) = self.first else {
+            return self.release_other(arena, lock);
+        };
+        if kept.0 != lock {
+            return self.release_other(arena, lock);
+        }
+        self.seat.leave(arena, lock, kept.1);
+        self.first = None;
+        true
     }
 
     /// Disables stealing at a lock, beside the steps.

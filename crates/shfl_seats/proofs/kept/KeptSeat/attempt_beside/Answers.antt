@@ -6,7 +6,7 @@ use Rattle.shfl_arena.specs.SeatModels.{SeatModel}
 use Rattle.shfl_arena.specs.Threads.{mode_held}
 use Rattle.shfl_seats.specs.Listed.{listed}
 use Rattle.shfl_seats.proofs.HoldsAgree.{won-agree, from-ok}
-use Rattle.shfl_seats.proofs.kept.KeptSeat.attempt.Goals as goal
+use Rattle.shfl_seats.proofs.kept.KeptSeat.attempt_beside.Goals as goal
 
 pub invariant_of-self-2 : goal.invariant_of-self-2
 invariant_of-self-2 c = let i = c.self.inside in
