@@ -20,6 +20,7 @@ pub mod SeatViews
 pub mod ValueMoves
 pub mod Permits
 pub mod SeatPermits
+pub mod GivesBack
 pub mod Numbers
 pub mod LastSteps
 pub mod SeatKept

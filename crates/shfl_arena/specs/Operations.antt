@@ -3,8 +3,11 @@ use Rattle.std.specs.Prelude.{◌≡◌, ℕ, ◌<◌, Bool, true, false, List, 
 use mathlib.Core.Option.{none}
 use Rattle.atomic_table.specs.Table.{State as TableState, Me, Step, step, Allows}
 use Rattle.shfl_line.specs.declared.events.Mode.{Mode}
+use Rattle.shfl_line.specs.declared.events.Mode.TheVariants.{Write, Read}
+use Rattle.shfl_line.specs.declared.words.TheConstants.{HELD, READER}
 use Rattle.shfl_core.specs.declared.phase.PassState.{PassState}
 use Rattle.shfl_core.specs.declared.phase.Rules.{Rules}
+use Rattle.shfl_core.specs.declared.words.Word.TheVariants.{Lock}
 use Rattle.shfl_core.specs.declared.words.Access.{Access}
 use Rattle.shfl_core.specs.declared.words.Access.TheVariants.{Load, Store, Swap, CompareSwap, Or, And, Xor, Add, Sub}
 use Rattle.shfl_core.specs.Words.{site, put, told, is_store}
@@ -37,6 +40,11 @@ second_of _ = 0
 
 abbrev pub step_of : {S : Type 0} → ℕ → Shape → ℕ → Access → Step S
 step_of slots shape l a = step slots (place shape l (site a)) (first_of a) (second_of a) none
+
+-- by this a holder gives its lock back: what it had put into the lock word is taken away
+abbrev pub gives_back : Mode → Access
+gives_back Write = Sub Lock HELD
+gives_back Read = Sub Lock READER
 
 -- the seat may make the operation at the lock l, and the play holds of it
 abbrev pub Permits : {S V : Type 0} → (TableState S V → Type 0) → ℕ → ℕ → Me S V → (Step S → Me S V → ℕ → Me S V → Type 0) → Shape → ℕ → Access → Type 0

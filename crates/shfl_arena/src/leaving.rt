@@ -1,14 +1,13 @@
 //! The one operation by which a seat gives a lock back.
 ghost use Rattle.std.specs.Prelude.{◌≡◌, ◌<◌, ℕ, false, None, Some};
 ghost use Rattle.shfl_arena.specs.ArenaWords as words;
-ghost use Rattle.shfl_arena.specs.Operations.{LockTerms, Operates};
+ghost use Rattle.shfl_arena.specs.Operations.{LockTerms, Operates, gives_back};
 ghost use Rattle.shfl_arena.specs.SeatModels.{leaving};
 ghost use Rattle.shfl_arena.specs.SeatViews.{step_decisions};
 ghost use Rattle.shfl_arena.specs.Threads.{mode_held};
 ghost use Rattle.shfl_arena.specs.ValueMoves.{HasInFront};
 ghost use Rattle.shfl_core.specs.Plan.{plan};
 ghost use Rattle.shfl_core.specs.Take.{take};
-ghost use Rattle.shfl_core.specs.declared.phase.Rules.{Rules as RulesModel};
 ghost use Rattle.shfl_line.specs.declared.events.Mode.TheVariants.{Write};
 
 use crate::performing::perform;
@@ -20,21 +19,17 @@ use shfl_core::Rules;
 use shfl_core::words::{Access, Word};
 use shfl_line::{HELD, Mode, READER};
 
-// What the last step of a way out does.
+// What the last step of a way out does. What the holder had put into the lock's word is in it still, so it's taken away: a processor does that in one
+// instruction, and makes a loop of a bit that is cleared.
 #[inline(always)]
 fn leave_access(mode: Mode) -> Access
-    ensures { (rules : RulesModel) (k : ℕ) → result ≡ plan rules k (leaving k mode) }
+    ensures { result ≡ gives_back mode }
 {
-    match mode {
-        Mode::Write => Access::And {
-            w: Word::Lock,
-            v: u64::MAX - HELD,
-        },
-        Mode::Read => Access::Sub {
-            w: Word::Lock,
-            v: READER,
-        },
-    }
+    let v = match mode {
+        Mode::Write => HELD,
+        Mode::Read => READER,
+    };
+    Access::Sub { w: Word::Lock, v }
 }
 
 /// The step of a seat that holds a lock at rest in this mode, and leaves. `rules` serves the proof alone.

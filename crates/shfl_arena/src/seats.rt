@@ -188,8 +188,6 @@ impl<V: Drop> ArenaSeat<V> {
         requires free { mode_held lock self.old.holds ≡ None }
         ensures { TriesOnce lock mode result self.old self.new }
     {
-        self.own = idle_pass(self.own.reg.me);
-        self.lock = lock;
         let shared = &arena.table.shared;
         let found = attempt_once::<V, Brand>(
             shared,
@@ -199,6 +197,9 @@ impl<V: Drop> ArenaSeat<V> {
             lock,
             mode,
         );
+        // (not before, since the operation would wait for what is written first)
+        self.own = idle_pass(self.own.reg.me);
+        self.lock = lock;
         attempt_row_in_place(mode, &mut self.own, found);
         found
     }

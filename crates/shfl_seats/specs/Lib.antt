@@ -1,3 +1,4 @@
+pub mod Listed
 pub mod Tickets
 pub mod Policies
 pub mod Told

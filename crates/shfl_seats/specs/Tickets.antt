@@ -1,5 +1,5 @@
 -- A seat as callers outside the language see it, and what its calls do with it.
-use Rattle.std.specs.Prelude.{◌≡◌, ◌≢◌, ℕ, ◌<◌, ◌≤◌, Bool, true, false, List, [], ◌∷◌, ◌++◌, length, slice_get, Option, Some, None}
+use Rattle.std.specs.Prelude.{◌≡◌, ◌≢◌, ℕ, ◌<◌, ◌≤◌, Bool, true, false, List, length, slice_get, Option, Some, None}
 use Rattle.shfl_line.specs.declared.events.Mode.{Mode}
 use Rattle.shfl_line.specs.declared.words.Attr.{Attr}
 use Rattle.shfl_core.specs.declared.phase.Rules.{Rules}
@@ -9,16 +9,11 @@ use Rattle.shfl_core.specs.Words.{most_passes}
 use Rattle.shfl_policy.specs.Policies.{PolicyModel, no_waiter}
 use Rattle.shfl_arena.specs.declared.shape.Shape.{Shape}
 use Rattle.shfl_arena.specs.SeatModels.{ArenaId, SeatModel, fresh_seat}
-use Rattle.shfl_arena.specs.Threads.{mode_held, without_lock}
+use Rattle.shfl_arena.specs.Threads.{mode_held}
 
 -- two lists say the same of how each lock is held
 abbrev pub Agree : List (ℕ × Mode) → List (ℕ × Mode) → Type 0
 Agree kept holds = (l : ℕ) → mode_held l kept ≡ mode_held l holds
-
--- the list once a lock is held so, or not
-abbrev pub noted : ℕ → Option Mode → List (ℕ × Mode) → List (ℕ × Mode)
-noted lock None held = without_lock lock held
-noted lock (Some mode) held = without_lock lock held ++ (lock, mode) ∷ []
 
 -- a seat, the attributes of its thread, and the policy that goes with it
 pub record TicketModel : Type 0 where

@@ -42,12 +42,10 @@ impl SeatTicket {
         if !self.may_use(lock, mode) {
             return Answer::Bad;
         }
-        if self.hold(lock).is_some() {
-            return Answer::Held;
-        }
         match self.seat.attempt(&self.share.arena, lock, mode) {
             Tried::Won => Answer::Done,
             Tried::Lost => Answer::Busy,
+            Tried::Held => Answer::Held,
             Tried::NoMemory => Answer::NoMemory,
         }
     }
@@ -112,11 +110,11 @@ impl SeatTicket {
         if !self.may_use(lock, Mode::Write) {
             return Answer::Bad;
         }
-        let Some(mode) = self.hold(lock) else {
-            return Answer::NotHeld;
-        };
-        self.seat.release(&self.share.arena, lock, mode);
-        Answer::Done
+        if self.seat.release(&self.share.arena, lock) {
+            Answer::Done
+        } else {
+            Answer::NotHeld
+        }
     }
 
     /// Disables stealing at a lock, beside the steps: for the queue's head, which looked in vain. False where there is no such lock.

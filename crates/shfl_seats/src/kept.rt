@@ -1,24 +1,26 @@
 //! A seat that keeps which locks it holds, and how.
-ghost use Rattle.std.specs.Prelude.{◌≡◌, ◌≢◌, ◌≤◌, ◌<◌, ℕ, ◌+◌, true, false, [], IfOk, OnErr, None, Some, vec_len, vec_capacity};
+ghost use Rattle.std.specs.Prelude.{◌≡◌, ◌≢◌, ◌<◌, ℕ, true, false, [], IfOk, IsSome, OnErr, None, Some};
+ghost use Rattle.shfl_line.specs.declared.events.Mode.{Mode as HeldMode};
 ghost use Rattle.shfl_core.specs.Plan as plan;
 ghost use Rattle.shfl_core.specs.Waiting as waiting;
 ghost use Rattle.shfl_core.specs.Waiting.{MayUse};
 ghost use Rattle.shfl_arena.specs.SeatModels.{entering};
 ghost use Rattle.shfl_arena.specs.SeatSteps.{TakesStep, WinsAttempt, LosesAttempt};
-ghost use Rattle.shfl_arena.specs.Threads.{mode_held, without_lock};
+ghost use Rattle.shfl_arena.specs.Threads.{mode_held};
 ghost use Rattle.shfl_arena.specs.Waits.{Frees};
-ghost use Rattle.shfl_seats.specs.Tickets.{noted};
 
+use crate::held::{add, forget, holds_none, make_room, mode_of, note};
 use shfl_arena::{Arena, ArenaSeat};
 use shfl_core::{Ask, Nap, Phase, Watch};
 use shfl_line::{Attr, Form, Mode, NoMemory};
 use std::alloc::Global;
 use std::marker::Model;
 
-/// A seat with the list of the locks that it holds.
+/// A seat with the locks that it holds: one by itself, and a list of the others.
 #[derive(Drop)]
 pub(crate) struct KeptSeat {
-    pub(crate) held: Vec<(u32, Mode)>,
+    pub(crate) first: Option<(u32, Mode)>,
+    pub(crate) others: Vec<(u32, Mode)>,
     pub(crate) seat: ArenaSeat<()>,
 }
 
@@ -27,13 +29,15 @@ impl Model for KeptSeat {
     ghost use Rattle.shfl_core.specs.Plan.{moving};
     ghost use Rattle.shfl_arena.specs.SeatModels.{SeatModel};
     ghost use Rattle.shfl_seats.specs.Tickets.{Agree};
+    ghost use Rattle.shfl_seats.specs.Listed.{StandsAlone, listed};
 
     ghost Value = { SeatModel (Unit {0}) };
 
     ghost view = { λ k. k.seat };
 
-    ghost invariant = { λ k. Agree k.held.items k.seat.holds
-        × (moving k.seat.own ≡ true → vec_len k.held < vec_capacity k.held) };
+    ghost invariant = { λ k. Agree (listed k.first k.others.items) k.seat.holds
+        × StandsAlone k.first k.others.items
+        × (moving k.seat.own ≡ true → vec_len k.others < vec_capacity k.others) };
 }
 
 /// What came of an attempt.
@@ -41,44 +45,8 @@ impl Model for KeptSeat {
 pub(crate) enum Tried {
     Won,
     Lost,
+    Held,
     NoMemory,
-}
-
-// How this list says that the lock is held.
-fn mode_in(held: &[(u32, Mode)], lock: u32) -> Option<Mode>
-    ensures { result ≡ mode_held lock held.now }
-{
-    for entry in held {
-        if entry.0 == lock {
-            return Some(entry.1);
-        }
-    }
-    None
-}
-
-// The lock leaves the list.
-fn forget(held: &mut Vec<(u32, Mode)>, lock: u32)
-    ensures items { held.new.items ≡ without_lock lock held.old.items }
-    ensures len { vec_len held.new ≤ vec_len held.old }
-    ensures capacity { vec_capacity held.new ≡ vec_capacity held.old }
-{
-    // Whoever holds one lock alone walks over no list.
-    if held.len() == 1 && held[0].0 == lock {
-        held.clear();
-        return;
-    }
-    held.retain(|x| x.0 != lock);
-}
-
-// Notes how a lock is held, if it is.
-fn note(held: &mut Vec<(u32, Mode)>, lock: u32, hold: Option<Mode>)
-    requires room { vec_len held.old < vec_capacity held.old }
-    ensures { held.new.items ≡ noted lock hold held.old.items }
-{
-    forget(held, lock);
-    if let Some(mode) = hold {
-        held.push_reserved((lock, mode));
-    }
 }
 
 impl KeptSeat {
@@ -88,7 +56,8 @@ impl KeptSeat {
         ensures { result ≡ seat }
     {
         KeptSeat {
-            held: Vec::new(alloc),
+            first: None,
+            others: Vec::new(alloc),
             seat,
         }
     }
@@ -142,28 +111,57 @@ impl KeptSeat {
     pub(crate) fn hold(&self, lock: u32) -> Option<Mode>
         ensures { result ≡ mode_held lock self.now.holds }
     {
-        mode_in(self.held.as_slice(), lock)
+        mode_of(self.first, self.others.as_slice(), lock)
     }
 
-    /// Takes a lock by one operation, or finds a word that refuses it, or finds no memory to note the hold.
-    pub(crate) fn attempt(&mut self, arena: &Arena<()>, lock: u32, mode: Mode) -> Tried
+    // The same beside other locks that it holds.
+    #[cold]
+    #[inline(never)]
+    fn attempt_beside(&mut self, arena: &Arena<()>, lock: u32, mode: Mode) -> Tried
         requires arena { self.old.arena ≡ arena.now.id }
         requires rests { plan.moving self.old.own ≡ false }
         requires lock { lock < self.old.arena.shape.locks }
         requires mode { MayUse self.old.arena.rules.form mode }
-        requires free { mode_held lock self.old.holds ≡ None }
+        ensures held { result ≡ Tried.Held → IsSome (mode_held lock self.old.holds) }
         ensures won { result ≡ Tried.Won → WinsAttempt lock mode self.old self.new }
         ensures lost { result ≡ Tried.Lost
             → (word : ℕ) × LosesAttempt lock mode word self.old self.new }
-        ensures no_memory { result ≡ Tried.NoMemory → self.new ≡ self.old }
+        ensures same { result ≢ Tried.Won → result ≢ Tried.Lost → self.new ≡ self.old }
     {
-        if self.held.reserve(1).is_err() {
+        if self.hold(lock).is_some() {
+            return Tried::Held;
+        }
+        if !make_room(self.first, &mut self.others) {
             return Tried::NoMemory;
         }
         if self.seat.attempt(arena, lock, mode).is_err() {
             return Tried::Lost;
         }
-        self.held.push_reserved((lock, mode));
+        add(&mut self.first, &mut self.others, lock, mode);
+        Tried::Won
+    }
+
+    /// Takes a lock by one operation, or finds a word that refuses it, or holds it already, or finds no memory to note the hold. Who holds none
+    /// goes the shorter way.
+    #[inline(always)]
+    pub(crate) fn attempt(&mut self, arena: &Arena<()>, lock: u32, mode: Mode) -> Tried
+        requires arena { self.old.arena ≡ arena.now.id }
+        requires rests { plan.moving self.old.own ≡ false }
+        requires lock { lock < self.old.arena.shape.locks }
+        requires mode { MayUse self.old.arena.rules.form mode }
+        ensures held { result ≡ Tried.Held → IsSome (mode_held lock self.old.holds) }
+        ensures won { result ≡ Tried.Won → WinsAttempt lock mode self.old self.new }
+        ensures lost { result ≡ Tried.Lost
+            → (word : ℕ) × LosesAttempt lock mode word self.old self.new }
+        ensures same { result ≢ Tried.Won → result ≢ Tried.Lost → self.new ≡ self.old }
+    {
+        if !holds_none(self.first, self.others.as_slice()) {
+            return self.attempt_beside(arena, lock, mode);
+        }
+        if self.seat.attempt(arena, lock, mode).is_err() {
+            return Tried::Lost;
+        }
+        self.first = Some((lock, mode));
         Tried::Won
     }
 
@@ -179,7 +177,7 @@ impl KeptSeat {
         }) }
         ensures err { OnErr result (self.new ≡ self.old) }
     {
-        if self.held.reserve(1).is_err() {
+        if self.others.reserve(1).is_err() {
             return Err(NoMemory);
         }
         let _ = self.seat.acquire(lock, mode);
@@ -199,22 +197,53 @@ impl KeptSeat {
         if !self.seat.moving() {
             let lock = self.seat.lock();
             let hold = self.seat.hold();
-            note(&mut self.held, lock, hold);
+            note(&mut self.first, &mut self.others, lock, hold);
         }
         true
     }
 
-    /// Gives back a lock that it holds in this mode.
-    pub(crate) fn release(&mut self, arena: &Arena<()>, lock: u32, mode: Mode)
+    // The same of a lock that doesn't stand by itself.
+    #[cold]
+    #[inline(never)]
+    fn release_other(&mut self, arena: &Arena<()>, lock: u32) -> bool
         requires arena { self.old.arena ≡ arena.now.id }
         requires no_values { self.old.arena.table.slots ≡ 0 }
         requires rests { plan.moving self.old.own ≡ false }
         requires lock { lock < self.old.arena.shape.locks }
-        requires holds { mode_held lock self.old.holds ≡ Some mode }
-        ensures { Frees lock mode self.old self.new }
+        ensures not_held { result ≡ false
+            → (mode_held lock self.old.holds ≡ None) × (self.new ≡ self.old) }
+        ensures held { result ≡ true → (mode : HeldMode)
+            × (mode_held lock self.old.holds ≡ Some mode) × Frees lock mode self.old self.new }
     {
+        let Some(mode) = self.hold(lock) else {
+            return false;
+        };
         self.seat.leave(arena, lock, mode);
-        forget(&mut self.held, lock);
+        forget(&mut self.first, &mut self.others, lock);
+        true
+    }
+
+    /// Gives back a lock in the mode in which it holds it. False, and nothing changes, where it doesn't.
+    #[inline(always)]
+    pub(crate) fn release(&mut self, arena: &Arena<()>, lock: u32) -> bool
+        requires arena { self.old.arena ≡ arena.now.id }
+        requires no_values { self.old.arena.table.slots ≡ 0 }
+        requires rests { plan.moving self.old.own ≡ false }
+        requires lock { lock < self.old.arena.shape.locks }
+        ensures not_held { result ≡ false
+            → (mode_held lock self.old.holds ≡ None) × (self.new ≡ self.old) }
+        ensures held { result ≡ true → (mode : HeldMode)
+            × (mode_held lock self.old.holds ≡ Some mode) × Frees lock mode self.old self.new }
+    {
+        let Some(kept) = self.first else {
+            return self.release_other(arena, lock);
+        };
+        if kept.0 != lock {
+            return self.release_other(arena, lock);
+        }
+        self.seat.leave(arena, lock, kept.1);
+        self.first = None;
+        true
     }
 
     /// Disables stealing at a lock, beside the steps.

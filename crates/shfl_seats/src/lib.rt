@@ -3,6 +3,7 @@
 
 mod answers;
 mod calls;
+mod held;
 mod judged;
 mod kept;
 mod opening;

@@ -1,4 +1,5 @@
 pub mod Handles
+pub mod Lent
 pub mod Opened
 pub mod Calls
 pub mod Verdicts

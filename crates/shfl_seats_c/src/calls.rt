@@ -8,11 +8,11 @@ ghost use Rattle.shfl_ticket.specs.Told.{ask_told, watch_told};
 ghost use Rattle.shfl_seats.specs.Tickets.{TicketModel};
 ghost use Rattle.shfl_seats_c.specs.Calls.{TellsAttempt, TellsAcquire, TellsStep, TellsRelease, mode_of, hold_told};
 
-use crate::handle::{ShflSeat, taken};
+use crate::handle::ShflSeat;
+use crate::lent::ticket_of;
 use shfl_line::{Attr, Mode};
 use shfl_seats::{answer_told, progress_told};
 use shfl_ticket::{ShflAsk, ShflWatch, ask_told, watch_told};
-use std::alloc::Global;
 
 #[inline(always)]
 fn mode_of(shared: bool) -> Mode
@@ -36,86 +36,66 @@ fn hold_told(hold: Option<Mode>) -> u8
 /// 4: there is no such lock, its form has no readers, or the seat has a step to make. 5: there is no memory. Unless the answer is 0 the seat
 /// holds what it held.
 #[unsafe(no_mangle)]
-pub extern "C" fn shfl_seat_attempt(
-    alloc: Global,
-    seat: &mut ShflSeat,
-    lock: u32,
-    shared: bool,
-) -> u8
+pub extern "C" fn shfl_seat_attempt(seat: &mut ShflSeat, lock: u32, shared: bool) -> u8
     ghost x: { TicketModel }
     requires open { seat.old.tickets ≡ x ∷ [] }
     ensures { (y : TicketModel) × (seat.new.tickets ≡ y ∷ [])
         × TellsAttempt lock (mode_of shared) x result y }
 {
-    let mut ticket = taken(alloc, seat);
-    let told = answer_told(ticket.attempt(lock, mode_of(shared)));
-    *seat = ShflSeat::new(ticket);
-    told
+    let ticket = ticket_of(seat);
+    answer_told(ticket.attempt(lock, mode_of(shared)))
 }
 
 /// Begins to take a lock. 0: steps follow until it is held. 2, 4 and 5 as `shfl_seat_attempt`, and then nothing changes.
 #[unsafe(no_mangle)]
-pub extern "C" fn shfl_seat_acquire(
-    alloc: Global,
-    seat: &mut ShflSeat,
-    lock: u32,
-    shared: bool,
-) -> u8
+pub extern "C" fn shfl_seat_acquire(seat: &mut ShflSeat, lock: u32, shared: bool) -> u8
     ghost x: { TicketModel }
     requires open { seat.old.tickets ≡ x ∷ [] }
     ensures { (y : TicketModel) × (seat.new.tickets ≡ y ∷ [])
         × TellsAcquire lock (mode_of shared) x result y }
 {
-    let mut ticket = taken(alloc, seat);
-    let told = answer_told(ticket.acquire(lock, mode_of(shared)));
-    *seat = ShflSeat::new(ticket);
-    told
+    let ticket = ticket_of(seat);
+    answer_told(ticket.acquire(lock, mode_of(shared)))
 }
 
 /// Makes one step; `choice` answers what it asks. 0: there was none to make, and nothing changes. 1: the seat went on. 2: it looks at
 /// the same word again. 3: it ended a round of the shuffler.
 #[unsafe(no_mangle)]
-pub extern "C" fn shfl_seat_step(alloc: Global, seat: &mut ShflSeat, choice: bool) -> u8
+pub extern "C" fn shfl_seat_step(seat: &mut ShflSeat, choice: bool) -> u8
     ghost x: { TicketModel }
     requires open { seat.old.tickets ≡ x ∷ [] }
     ensures { (y : TicketModel) × (seat.new.tickets ≡ y ∷ []) × TellsStep choice x result y }
 {
-    let mut ticket = taken(alloc, seat);
-    let told = progress_told(ticket.step(choice));
-    *seat = ShflSeat::new(ticket);
-    told
+    let ticket = ticket_of(seat);
+    progress_told(ticket.step(choice))
 }
 
 /// Gives a lock back, by one operation. 0: it is given back. 3: the seat doesn't hold it. 4: there is no such lock, or the seat has a
 /// step to make. Unless the answer is 0 nothing changes.
 #[unsafe(no_mangle)]
-pub extern "C" fn shfl_seat_release(alloc: Global, seat: &mut ShflSeat, lock: u32) -> u8
+pub extern "C" fn shfl_seat_release(seat: &mut ShflSeat, lock: u32) -> u8
     ghost x: { TicketModel }
     requires open { seat.old.tickets ≡ x ∷ [] }
     ensures { (y : TicketModel) × (seat.new.tickets ≡ y ∷ []) × TellsRelease lock x result y }
 {
-    let mut ticket = taken(alloc, seat);
-    let told = answer_told(ticket.release(lock));
-    *seat = ShflSeat::new(ticket);
-    told
+    let ticket = ticket_of(seat);
+    answer_told(ticket.release(lock))
 }
 
 /// Disables stealing at a lock, beside the steps. False where there is no such lock.
 #[unsafe(no_mangle)]
-pub extern "C" fn shfl_seat_disable_stealing(alloc: Global, seat: &mut ShflSeat, lock: u32) -> bool
+pub extern "C" fn shfl_seat_disable_stealing(seat: &mut ShflSeat, lock: u32) -> bool
     ghost x: { TicketModel }
     requires open { seat.old.tickets ≡ x ∷ [] }
     ensures same { seat.new.tickets ≡ seat.old.tickets }
 {
-    let mut ticket = taken(alloc, seat);
-    let made = ticket.disable_stealing(lock);
-    *seat = ShflSeat::new(ticket);
-    made
+    let ticket = ticket_of(seat);
+    ticket.disable_stealing(lock)
 }
 
 /// Gives the thread the attributes of this word. False, and nothing changes, where the seat has a step to make.
 #[unsafe(no_mangle)]
-pub extern "C" fn shfl_seat_set_attr(alloc: Global, seat: &mut ShflSeat, word: u64) -> bool
+pub extern "C" fn shfl_seat_set_attr(seat: &mut ShflSeat, word: u64) -> bool
     ghost x: { TicketModel }
     requires open { seat.old.tickets ≡ x ∷ [] }
     ensures moving { plan.moving x.seat.own ≡ true
@@ -123,50 +103,42 @@ pub extern "C" fn shfl_seat_set_attr(alloc: Global, seat: &mut ShflSeat, word: u
     ensures rests { plan.moving x.seat.own ≡ false
         → (result ≡ true) × (seat.new.tickets ≡ record x { attr = attr_of word } ∷ []) }
 {
-    let mut ticket = taken(alloc, seat);
-    let set = ticket.set_attr(Attr::unpack(word));
-    *seat = ShflSeat::new(ticket);
-    set
+    let ticket = ticket_of(seat);
+    ticket.set_attr(Attr::unpack(word))
 }
 
 /// How the seat holds a lock: 0 not at all, 1 as a writer, 2 as a reader.
 #[unsafe(no_mangle)]
-pub extern "C" fn shfl_seat_hold(alloc: Global, seat: &mut ShflSeat, lock: u32) -> u8
+pub extern "C" fn shfl_seat_hold(seat: &mut ShflSeat, lock: u32) -> u8
     ghost x: { TicketModel }
     requires open { seat.old.tickets ≡ x ∷ [] }
     ensures answer { result ≡ hold_told (mode_held lock x.seat.holds) }
     ensures same { seat.new.tickets ≡ seat.old.tickets }
 {
-    let ticket = taken(alloc, seat);
-    let told = hold_told(ticket.hold(lock));
-    *seat = ShflSeat::new(ticket);
-    told
+    let ticket = ticket_of(seat);
+    hold_told(ticket.hold(lock))
 }
 
 /// What the next step asks the policy.
 #[unsafe(no_mangle)]
-pub extern "C" fn shfl_seat_ask(alloc: Global, seat: &mut ShflSeat) -> ShflAsk
+pub extern "C" fn shfl_seat_ask(seat: &mut ShflSeat) -> ShflAsk
     ghost x: { TicketModel }
     requires open { seat.old.tickets ≡ x ∷ [] }
     ensures answer { result ≡ ask_told (waiting.ask x.seat.arena.rules x.seat.own) }
     ensures same { seat.new.tickets ≡ seat.old.tickets }
 {
-    let ticket = taken(alloc, seat);
-    let asked = ask_told(ticket.ask());
-    *seat = ShflSeat::new(ticket);
-    asked
+    let ticket = ticket_of(seat);
+    ask_told(ticket.ask())
 }
 
 /// Whom the next step may make ready or group, and so wake.
 #[unsafe(no_mangle)]
-pub extern "C" fn shfl_seat_watch(alloc: Global, seat: &mut ShflSeat) -> ShflWatch
+pub extern "C" fn shfl_seat_watch(seat: &mut ShflSeat) -> ShflWatch
     ghost x: { TicketModel }
     requires open { seat.old.tickets ≡ x ∷ [] }
     ensures answer { result ≡ watch_told (waiting.watch_at x.seat.own.reg x.seat.own.phase) }
     ensures same { seat.new.tickets ≡ seat.old.tickets }
 {
-    let ticket = taken(alloc, seat);
-    let watched = watch_told(ticket.watch());
-    *seat = ShflSeat::new(ticket);
-    watched
+    let ticket = ticket_of(seat);
+    watch_told(ticket.watch())
 }

@@ -13,7 +13,7 @@ use std::mem::replace;
 #[repr(C)]
 #[derive(Drop)]
 pub struct ShflSeat {
-    at: *mut u8,
+    pub(crate) at: *mut u8,
     alloc: Global,
     pub ghost tickets: { List TicketModel } by { tickets_coded },
 }

@@ -3,5 +3,6 @@
 
 mod calls;
 mod handle;
+mod lent;
 mod opening;
 mod policies;

@@ -7,7 +7,8 @@ ghost use Rattle.shfl_ticket.specs.Tickets.{answer_to};
 ghost use Rattle.shfl_ticket.specs.Told.{profile_numbered};
 ghost use Rattle.shfl_seats_c.specs.Verdicts.{IsVerdict, no_such_profile};
 
-use crate::handle::{ShflSeat, taken};
+use crate::handle::ShflSeat;
+use crate::lent::ticket_of;
 use shfl_ticket::{ShflVerdict, profile_numbered, verdict_told};
 use std::alloc::Global;
 
@@ -45,28 +46,24 @@ pub extern "C" fn shfl_seat_attach(
     if profile == 0 || profile > 2 {
         return no_such_profile();
     }
-    let mut ticket = taken(alloc, seat);
-    let verdict = verdict_told(ticket.attach(alloc, profile_numbered(profile), should, skip));
-    *seat = ShflSeat::new(ticket);
-    verdict
+    let ticket = ticket_of(seat);
+    verdict_told(ticket.attach(alloc, profile_numbered(profile), should, skip))
 }
 
 /// No policy goes with the seat from now on.
 #[unsafe(no_mangle)]
-pub extern "C" fn shfl_seat_detach(alloc: Global, seat: &mut ShflSeat)
+pub extern "C" fn shfl_seat_detach(seat: &mut ShflSeat)
     ghost x: { TicketModel }
     requires open { seat.old.tickets ≡ x ∷ [] }
     ensures { seat.new.tickets ≡ record x { policy = None } ∷ [] }
 {
-    let mut ticket = taken(alloc, seat);
-    ticket.detach();
-    *seat = ShflSeat::new(ticket);
+    ticket_of(seat).detach();
 }
 
 /// Goes over to the policy of another seat, which the two share from now on, or to none, if that has none. False, and nothing changes,
 /// where so many share it that they can't be counted.
 #[unsafe(no_mangle)]
-pub extern "C" fn shfl_seat_follow(alloc: Global, seat: &mut ShflSeat, other: &mut ShflSeat) -> bool
+pub extern "C" fn shfl_seat_follow(seat: &mut ShflSeat, other: &mut ShflSeat) -> bool
     ghost x: { TicketModel × TicketModel }
     requires open { seat.old.tickets ≡ x.0 ∷ [] }
     requires other { other.old.tickets ≡ x.1 ∷ [] }
@@ -75,25 +72,18 @@ pub extern "C" fn shfl_seat_follow(alloc: Global, seat: &mut ShflSeat, other: &m
     ensures refused { result ≡ false → seat.new.tickets ≡ x.0 ∷ [] }
     ensures same { other.new.tickets ≡ other.old.tickets }
 {
-    let mut ticket = taken(alloc, seat);
-    let followed = taken(alloc, other);
-    let done = ticket.follow(&followed);
-    *seat = ShflSeat::new(ticket);
-    *other = ShflSeat::new(followed);
-    done
+    let followed = ticket_of(other);
+    ticket_of(seat).follow(followed)
 }
 
 /// What the policy answers to what the next step asks; no, where nothing is asked or there is no policy.
 #[unsafe(no_mangle)]
-pub extern "C" fn shfl_seat_answer(alloc: Global, seat: &mut ShflSeat) -> bool
+pub extern "C" fn shfl_seat_answer(seat: &mut ShflSeat) -> bool
     ghost x: { TicketModel }
     requires open { seat.old.tickets ≡ x ∷ [] }
     ensures answer { result ≡ answer_to x.policy x.attr
         (waiting.ask x.seat.arena.rules x.seat.own) }
     ensures same { seat.new.tickets ≡ seat.old.tickets }
 {
-    let ticket = taken(alloc, seat);
-    let answer = ticket.answer();
-    *seat = ShflSeat::new(ticket);
-    answer
+    ticket_of(seat).answer()
 }
