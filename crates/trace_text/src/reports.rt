@@ -7,7 +7,7 @@ ghost use Rattle.trace_text.specs.Report.{report, done_of, entry_line, row_line,
 ghost use Rattle.trace_text.specs.Reported.{replay_of};
 
 use crate::trace::{NamedSource, Trace};
-use crate::words::{name_at, push_call, push_reply};
+use crate::words::{name_at, push_call, push_pair, push_reply};
 use crate::write::policy_name;
 use bpf_isa::Profile;
 use dir_table::{Dir, DirCall, DirRow, Rows};
@@ -93,10 +93,8 @@ fn push_heading(
 {
     out.extend_from_slice(b"syncord-replay")?;
     push_version(out, version, profile)?;
-    push_word(out, b"workers")?;
-    push_number(out, workers as u64)?;
-    push_word(out, b"entries")?;
-    push_number(out, entries as u64)?;
+    push_pair(out, b"workers", workers as u64)?;
+    push_pair(out, b"entries", entries as u64)?;
     out.push(b'\n')?;
     Ok(())
 }

@@ -3,7 +3,7 @@ ghost use Rattle.trace_text.specs.Lines.{is_attach};
 ghost use Rattle.trace_text.specs.Spelled.{act_said};
 
 /// A call as its line says it, each name a part of the document.
-#[derive(Clone, Copy, Debug, PartialEq, Eq)]
+#[derive(Clone, Copy)]
 pub enum SpelledAct<'a> {
     Make {
         dir: u8,
@@ -35,7 +35,7 @@ pub enum SpelledAct<'a> {
     },
 }
 
-#[derive(Clone, Copy, Debug, PartialEq, Eq)]
+#[derive(Clone, Copy)]
 pub struct SpelledCall<'a> {
     pub worker: u32,
     pub act: SpelledAct<'a>,

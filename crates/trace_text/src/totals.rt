@@ -7,9 +7,10 @@ ghost use Rattle.trace_text.specs.Traces.{is_attachment};
 
 use crate::reports::push_counted;
 use crate::trace::{Trace, TraceAct};
+use crate::words::push_pair;
 use dir_table::{Dir, DirReply};
 use hist_log::Entry;
-use policy_text::{NoMemory, push_number, push_word};
+use policy_text::{NoMemory, push_number};
 use std::alloc::Global;
 
 fn kind_of(reply: &DirReply) -> u8
@@ -53,15 +54,6 @@ fn attachments(trace: &Trace) -> usize
         count = counted(count, matches!(call.act, TraceAct::Attach(_)));
     }
     count
-}
-
-#[tactic(auto, using(policy_text::proofs::Written::joined_rules))]
-fn push_pair(out: &mut Vec<u8>, word: &[u8], n: u64) -> Result<(), NoMemory>
-    ensures { OnOk result (out.new.items
-        ≡ out.old.items ++ ((32 ∷ word.now) ++ (32 ∷ decimal n))) }
-{
-    push_word(out, word)?;
-    push_number(out, n)
 }
 
 #[tactic(auto, using(policy_text::proofs::Written::joined_rules))]

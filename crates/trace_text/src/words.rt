@@ -68,6 +68,16 @@ fn push_numbered(out: &mut Vec<u8>, word: &[u8], n: u64) -> Result<(), NoMemory>
     Ok(())
 }
 
+/// A word and a number, each behind a blank.
+#[tactic(auto, using(policy_text::proofs::Written::joined_rules))]
+pub fn push_pair(out: &mut Vec<u8>, word: &[u8], n: u64) -> Result<(), NoMemory>
+    ensures { OnOk result (out.new.items
+        ≡ out.old.items ++ ((32 ∷ word.now) ++ (32 ∷ decimal n))) }
+{
+    push_word(out, word)?;
+    push_number(out, n)
+}
+
 /// A reply, each word behind a blank.
 #[tactic(auto, using(policy_text::proofs::Written::joined_rules))]
 pub fn push_reply(out: &mut Vec<u8>, names: &[Vec<u8>], reply: &DirReply) -> Result<(), NoMemory>
