@@ -31,7 +31,7 @@ what a schedule and its report are|crates/shfl_sched/specs/Grammar.antt crates/s
 what the command promises|crates/syncord_line/specs/Reports.antt crates/syncord_line/specs/Safety.antt crates/syncord_line/src/run.rt
 how a command ends|crates/syncord_endings/specs/Endings.antt crates/syncord_endings/specs/Traffic.antt
 legal histories, and the histories of a trace|crates/hist_log/specs/History.antt crates/dir_table/specs/Directory.antt crates/trace_text/specs/Histories.antt
-what `replay` promises, and who runs its trace|crates/syncord_replay/specs/Replays.antt crates/syncord_replay/specs/Runnable.antt crates/shfl_workers/specs/LockRuns.antt crates/syncord_replay/src/outcome.rt crates/syncord_replay/src/manner.rt crates/syncord_replay/src/run.rt crates/syncord_app/src/manners.rt crates/syncord_app/src/threads.rt crates/syncord_app/src/top.rt
+what `replay` promises, and who runs its trace|crates/syncord_replay/specs/Replays.antt crates/syncord_replay/specs/Runnable.antt crates/shfl_workers/specs/LockRuns.antt crates/syncord_replay/src/outcome.rt crates/syncord_replay/src/manner.rt crates/syncord_replay/src/run.rt crates/syncord_app/src/manners.rt crates/syncord_app/src/threads.rt crates/syncord_app/src/doing.rt crates/syncord_app/src/top.rt
 FILES
     echo "| in all | | $total |"
 }

@@ -1,3 +1,3 @@
-pub mod Outcomes
 pub mod Takers
 pub mod Commands
+pub mod Outcomes

@@ -6,7 +6,7 @@ use doc_text::is_same;
 use syncord_replay::{BulkWords, bulk_words};
 
 /// What the program can do.
-#[derive(Clone, Copy, Debug, PartialEq, Eq)]
+#[derive(Clone, Copy)]
 pub enum Command {
     /// Runs a schedule.
     Line,

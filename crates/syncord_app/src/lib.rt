@@ -2,6 +2,7 @@
 #![tactic(auto)]
 
 mod commands;
+mod doing;
 mod manners;
 mod takers;
 mod threads;

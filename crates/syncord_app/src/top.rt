@@ -1,5 +1,5 @@
 //! The top call: words and bytes in, a status, a report and an error line out.
-ghost use Rattle.std.specs.Prelude.{◌≡◌, ◌≢◌, ◌+◌, [], map, string_bytes, codes, Some, None, IfOk};
+ghost use Rattle.std.specs.Prelude.{◌≡◌, ◌≢◌, ◌+◌, [], map, string_bytes, codes, Some, None};
 ghost use Rattle.syncord_app.specs.declared.commands.Command.TheVariants.{Line, Verify, Replay, Shards, Pool, Bulk, Assemble, Disassemble};
 ghost use Rattle.bpf_isa.specs.declared.insn.Profile.{Profile as ProfileValue};
 ghost use Rattle.syn_outer.specs.Causes.{CallsAtMost};
@@ -12,28 +12,18 @@ ghost use Rattle.syncord_asm.specs.Listings as listing;
 ghost use Rattle.shfl_workers.specs.LockRuns.{RanByThreads, RanByShards};
 ghost use Rattle.syncord_replay.specs.declared.words.BulkWords.{BulkWords as Numbers};
 ghost use Rattle.syncord_replay.specs.Replays as replay;
-ghost use Rattle.syncord_replay.specs.Runnable.{IsRunnable, IsRunOf};
 ghost use Rattle.syncord_pool.specs.Reports as pool;
-ghost use Rattle.syncord_pool.specs.Runs as pooled;
 ghost use Rattle.syncord_app.specs.Outcomes.{Performs, SumsUp};
 ghost use Rattle.syncord_app.specs.Takers.{RanByTakers};
 ghost use Rattle.syncord_app.specs.Commands.{command_in};
 
 use crate::commands::Command;
-use crate::manners::{ByShards, ByTakers, ByThreads};
-use crate::takers::run_by_takers;
-use crate::threads::{run_by_shards, run_by_threads};
+use crate::doing::do_command;
 use std::alloc::Global;
 use std::sync::Wait;
 use std::thread::Threads;
 use syn_outer::{Gate, Sink, Source};
-use syncord_asm::{run_asm, run_disasm};
 use syncord_endings::tell;
-use syncord_line::run_line;
-use syncord_pool::{PoolRun, run_pool};
-use syncord_replay::{BulkWords, Run, run_bulk, run_replay};
-use syncord_verify::run_verify;
-use trace_text::{NoMemory, Trace};
 
 /// Does what the words behind the program's name say, and answers the status. `replay`, `shards`, `pool` and `bulk` run a thread for
 /// each worker of their trace and wait for them all: what is said of them here is said if the call returns. `gate` is where a test can
@@ -126,34 +116,8 @@ pub fn syncord<Rt: Threads + Wait + Sync, R: Source, W: Sink, E: Sink, G: Gate +
         (through W.held W.faults out.old out.new)
         (through E.held E.faults err.old err.new) result }
 {
-    let runner = |alloc: Global, trace: &Trace| -> Result<Run, NoMemory>
-        requires { IsRunnable trace.now }
-        ensures { IfOk result (IsRunOf RanByThreads trace.now) }
-    { run_by_threads(rt, alloc, trace, gate) };
-    let sharded = |alloc: Global, trace: &Trace| -> Result<Run, NoMemory>
-        requires { IsRunnable trace.now }
-        ensures { IfOk result (IsRunOf RanByShards trace.now) }
-    { run_by_shards(rt, alloc, trace, gate) };
-    let takers = |alloc: Global, trace: &Trace| -> Result<PoolRun, NoMemory>
-        requires { pooled.MayRun trace.now }
-        ensures { IfOk result (pooled.IsRunOf RanByTakers trace.now) }
-    { run_by_takers(rt, alloc, trace, gate) };
     match Command::of(words) {
-        Some(Command::Line) => run_line(alloc, src, out, err),
-        Some(Command::Verify { profile }) => run_verify(alloc, profile, src, out, err),
-        Some(Command::Replay) => run_replay::<ByThreads, _, R, W, E>(&runner, alloc, src, out, err),
-        Some(Command::Shards) => run_replay::<ByShards, _, R, W, E>(&sharded, alloc, src, out, err),
-        Some(Command::Pool) => run_pool::<ByTakers, _, R, W, E>(&takers, alloc, src, out, err),
-        Some(Command::Bulk(numbers)) => {
-            let BulkWords {
-                seed,
-                workers,
-                calls,
-            } = numbers;
-            run_bulk::<ByThreads, _, W, E>(&runner, alloc, seed, workers, calls, out, err)
-        }
-        Some(Command::Assemble { profile }) => run_asm(alloc, profile, src, out, err),
-        Some(Command::Disassemble { profile }) => run_disasm(alloc, profile, src, out, err),
+        Some(command) => do_command(rt, alloc, command, src, out, err, gate),
         None => {
             tell(err, b"syncord: words\n");
             2
