@@ -1,7 +1,6 @@
 //! The attributes of the passes.
 use shfl_line::Attr;
 
-/// Those of a pass where they don't matter.
 // Those of a pass of a socket.
 fn of_socket(socket: u16) -> Attr {
     Attr {

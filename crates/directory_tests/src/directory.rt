@@ -7,14 +7,21 @@ use dir_table::{Dir, DirCall, DirReply, DirRow, NoMemory};
 use hist_log::{Entry, Object, legal, merge};
 use std::alloc::Global;
 use std::process::Abort;
-use std::test::Fail;
 
-// An empty directory.
-fn opened(rt: &impl Abort, alloc: Global, room: u32, calls: u32) -> Dir
+/// An empty directory.
+pub(crate) fn opened(rt: &impl Abort, alloc: Global, room: u32, calls: u32) -> Dir
     requires { calls ≤ 65536 }
-    ensures { result.room ≡ room }
+    ensures room { result.room ≡ room }
+    ensures spare { result.spare ≡ calls }
 {
     Dir::open(alloc, room, calls).ok().expect(rt, "a directory")
+}
+
+// The same directory again.
+fn copied(rt: &impl Abort, alloc: Global, dir: &Dir) -> Dir
+    ensures { result ≡ dir.now }
+{
+    dir.copy(alloc).ok().expect(rt, "memory")
 }
 
 // Does the call, where one is left, and compares the reply.
@@ -174,7 +181,7 @@ fn fill_again(rt: &impl Abort, dir: &mut Dir)
 
 // A copy has the same thousand rows.
 fn is_copied(rt: &impl Abort, alloc: Global, dir: &Dir) {
-    let copied = dir.copy(alloc).ok().expect(rt, "memory");
+    let copied = copied(rt, alloc, dir);
     same(rt, &copied.rows().len(), &1000);
     for (row, other) in dir.rows().zip(copied.rows()) {
         same(rt, row, other);
@@ -193,42 +200,47 @@ fn blocks_are_divided_given_back_and_used_again(rt: HostRuntime) {
     is_copied(&rt, rt.alloc(), &dir);
 }
 
-#[test]
-fn a_write_is_read_back_and_merged(rt: HostRuntime) -> Result<(), Fail> {
-    let alloc = rt.alloc();
-    let mut first = Dir::open(alloc, 1, 2)?;
-    let mut second = first.copy(alloc)?;
-    let mut opening = first.copy(alloc)?;
-    let write = DirCall::Make { dir: 0, name: 0 };
-    let read = DirCall::Find { dir: 0, name: 0 };
-    let made = first.apply(&write);
-    same(&rt, &made, &DirReply::Ino(1));
-    does(&rt, &mut second, write, made);
-    let found = second.look(&read);
-    same(&rt, &found, &DirReply::Ino(1));
+// The write of worker 0 and the read of worker 1, which had these replies, make a legal history, the read last.
+fn is_merged(rt: &impl Abort, alloc: Global, opening: &mut Dir, made: DirReply, found: DirReply)
+    requires room { opening.old.room ≡ 1 }
+    requires spare { opening.old.spare ≡ 2 }
+{
     let writes = [Entry {
         worker: 0,
-        call: write,
+        call: MAKE_FIRST,
         reply: made,
         receipt: 0,
     }];
-    let mut none = Vec::new(alloc);
     let mut own = Vec::new(alloc);
-    own.push(Entry {
+    let read = Entry {
         worker: 1,
-        call: read,
+        call: FIND_FIRST,
         reply: found,
         receipt: 1,
-    })?;
+    };
+    own.push(read).ok().expect(rt, "memory");
     let mut reads = Vec::new(alloc);
-    reads.push(none)?;
-    reads.push(own)?;
-    let merged = merge(alloc, &writes, &reads)?;
+    reads.push(Vec::new(alloc)).ok().expect(rt, "memory");
+    reads.push(own).ok().expect(rt, "memory");
+    let merged = merge(alloc, &writes, &reads).ok().expect(rt, "memory");
     assert_eq!(rt; merged.len(), 2);
-    same(&rt, &merged[0].receipt, &0);
-    same(&rt, &merged[1].receipt, &1);
-    holds(&rt, legal(&mut opening, &merged));
-    Ok(())
+    same(rt, &merged[0].receipt, &0);
+    same(rt, &merged[1].receipt, &1);
+    holds(rt, legal(opening, &merged));
+}
+
+#[test]
+fn a_write_is_read_back_and_merged(rt: HostRuntime) {
+    let alloc = rt.alloc();
+    let mut first = opened(&rt, alloc, 1, 2);
+    let mut second = copied(&rt, alloc, &first);
+    let mut opening = copied(&rt, alloc, &first);
+    let made = DirReply::Ino(1);
+    does(&rt, &mut first, MAKE_FIRST, made);
+    does(&rt, &mut second, MAKE_FIRST, made);
+    let found = second.look(&FIND_FIRST);
+    same(&rt, &found, &DirReply::Ino(1));
+    is_merged(&rt, alloc, &mut opening, made, found);
 }
 
 #[test]

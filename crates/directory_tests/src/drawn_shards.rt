@@ -2,13 +2,16 @@
 ghost use Rattle.std.specs.Prelude.{◌<◌};
 ghost use Rattle.dir_table.specs.Meanings.{IsAdmitted};
 
+use crate::checks::same;
+use crate::directory::opened;
+use crate::shard::shard;
 use dir_table::{Dir, DirCall};
 use hist_log::Object;
-use shard_rows::{Journal, Shard, first_dir, last_dir};
+use shard_rows::{Committed, Journal, Shard, first_dir, last_dir};
+use shared_tests::Draws;
 use std::alloc::Global;
 use std::marker::Model;
 use std::process::Abort;
-use std::test::Fail;
 
 const ROOM: u32 = 6;
 
@@ -37,14 +40,12 @@ impl Model for Pair {
 }
 
 impl Pair {
-    // Does the call on both sides, and compares the replies.
-    fn does(&mut self, rt: &impl Abort, call: &DirCall)
+    // Does the call at its directories.
+    fn commits(&mut self, rt: &impl Abort, call: &DirCall) -> Committed
         requires { IsAdmitted 6 call.now }
     {
         assert!(rt; self.journal.len() < LIMIT);
-        assert!(rt; self.whole.spare() > 0);
-        let place = u64::from(self.journal.len());
-        let made = if first_dir(call) == 0 {
+        if first_dir(call) == 0 {
             if last_dir(call) == 0 {
                 self.journal.commit_in(&mut self.first, 1, call)
             } else {
@@ -59,40 +60,39 @@ impl Pair {
                 self.journal
                     .commit_over(&mut self.second, &mut self.first, 2, call)
             }
-        };
-        assert_eq!(rt; made.reply, self.whole.apply(call));
-        assert_eq!(rt; made.place, place);
+        }
+    }
+
+    // Does the call on both sides, and compares the replies.
+    fn does(&mut self, rt: &impl Abort, call: &DirCall)
+        requires { IsAdmitted 6 call.now }
+    {
+        let place = u64::from(self.journal.len());
+        let made = self.commits(rt, call);
+        assert!(rt; self.whole.spare() > 0);
+        let reply = self.whole.apply(call);
+        same(rt, &made.reply, &reply);
+        same(rt, &made.place, &place);
     }
 }
 
-// A number that looks drawn, below the bound.
-fn drawn(seed: &mut u64, bound: u64) -> u32
-    requires { (0 < bound) × (bound < 64) }
-    ensures { result < bound }
-{
-    *seed = seed
-        .wrapping_mul(6364136223846793005)
-        .wrapping_add(1442695040888963407);
-    ((*seed >> 33) % bound) as u32
-}
-
-fn drawn_dir(seed: &mut u64) -> u8
+fn drawn_dir(draws: &mut Draws) -> u8
     ensures { result < 64 }
 {
-    if drawn(seed, 2) == 0 { 0 } else { 5 }
+    if draws.below(2) == 0 { 0 } else { 5 }
 }
 
-fn drawn_call(seed: &mut u64) -> DirCall
+fn drawn_call(draws: &mut Draws) -> DirCall
     ensures { IsAdmitted 6 result }
 {
-    let dir = drawn_dir(seed);
-    let name = drawn(seed, 6);
-    match drawn(seed, 8) {
+    let dir = drawn_dir(draws);
+    let name = draws.below(6);
+    match draws.below(8) {
         0 | 1 => DirCall::Make { dir, name },
         2 => DirCall::Drop { dir, name },
         3 | 4 => {
-            let to_dir = drawn_dir(seed);
-            let to_name = drawn(seed, 6);
+            let to_dir = drawn_dir(draws);
+            let to_name = draws.below(6);
             DirCall::Rename {
                 dir,
                 name,
@@ -109,22 +109,23 @@ fn drawn_call(seed: &mut u64) -> DirCall
     }
 }
 
-fn open(alloc: Global) -> Result<Pair, Fail> {
-    Ok(Pair {
-        journal: Journal::open(alloc, ROOM, LIMIT)?,
-        first: Shard::open(alloc, 0, ROOM)?,
-        second: Shard::open(alloc, 5, ROOM)?,
-        whole: Dir::open(alloc, ROOM, LIMIT)?,
-    })
+// All empty.
+fn empty_pair(rt: &impl Abort, alloc: Global) -> Pair {
+    let journal = Journal::open(alloc, ROOM, LIMIT).ok();
+    Pair {
+        journal: journal.expect(rt, "a journal"),
+        first: shard(rt, alloc, 0, ROOM),
+        second: shard(rt, alloc, 5, ROOM),
+        whole: opened(rt, alloc, ROOM, LIMIT),
+    }
 }
 
 #[test]
-fn drawn_calls_are_answered_as_by_one_directory(rt: HostRuntime) -> Result<(), Fail> {
-    let mut pair = open(rt.alloc())?;
-    let mut seed = 7;
+fn drawn_calls_are_answered_as_by_one_directory(rt: HostRuntime) {
+    let mut pair = empty_pair(&rt, rt.alloc());
+    let mut draws = Draws::new(7);
     for _ in 0..LIMIT {
-        let call = drawn_call(&mut seed);
+        let call = drawn_call(&mut draws);
         pair.does(&rt, &call);
     }
-    Ok(())
 }

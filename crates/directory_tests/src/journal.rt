@@ -5,7 +5,6 @@ ghost use Rattle.shared_journal.specs.Models.{fresh_pass};
 use crate::checks::{holds, is_told, same};
 use shared_journal::{Closing, Committed, Journal, JournalPass, JournalTable, NoMemory, Step};
 use std::alloc::Global;
-use std::test::Fail;
 
 /// A number with the pass that wrote it.
 #[derive(Clone, Copy, Debug, PartialEq, Eq, Drop)]
@@ -100,9 +99,11 @@ fn closed(table: JournalTable<Lines>, pass: JournalPass<Lines>) -> Lines
 const WRITTEN: [Line; 2] = [Line { worker: 0, text: 7 }, Line { worker: 0, text: 8 }];
 
 #[test]
-fn a_commit_adds_an_entry_at_the_place_it_answers(rt: HostRuntime) -> Result<(), Fail> {
+fn a_commit_adds_an_entry_at_the_place_it_answers(rt: HostRuntime) {
     let alloc = rt.alloc();
-    let (table, passes, mut empty) = JournalTable::open(alloc, empty_lines(alloc, 4)?, &[4])?;
+    let lines = empty_lines(alloc, 4).ok().expect(&rt, "memory");
+    let opened = JournalTable::open(alloc, lines, &[4]).ok();
+    let (table, passes, mut empty) = opened.expect(&rt, "a journal");
     let mut pass = only(&table, passes);
     let known = empty.split(&table);
     let Committed {
@@ -123,7 +124,6 @@ fn a_commit_adds_an_entry_at_the_place_it_answers(rt: HostRuntime) -> Result<(),
     same(&rt, &(pass.number(), pass.left()), &(0, 2));
     let journal = closed(table, pass);
     same(&rt, &journal.lines.as_slice(), &WRITTEN.as_slice());
-    Ok(())
 }
 
 #[test]

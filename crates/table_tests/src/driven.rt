@@ -1,13 +1,14 @@
 //! A pass together with its board, which has no values: any of its calls may be made at any time.
-ghost use Rattle.std.specs.Prelude.{◌≡◌, All};
+ghost use Rattle.std.specs.Prelude.{◌≡◌, ◌<◌, ◌≤◌, All, length};
 ghost use Rattle.shfl_core.specs.Waiting.{MayUse};
 ghost use Rattle.shfl_table.specs.PassModel.{IsIdleAt};
 
 use shfl_core::{Ask, Nap, PassState, Phase, Watch};
-use shfl_line::{Form, Mode, NoMemory};
-use shfl_table::{Pass, SharedBoard};
+use shfl_line::{Attr, Form, Mode, NoMemory};
+use shfl_table::{Pass, SharedBoard, open};
 use std::alloc::Global;
 use std::marker::Model;
+use std::process::Abort;
 
 #[derive(Drop)]
 pub struct Driven<'a> {
@@ -28,7 +29,7 @@ impl<'a> Model for Driven<'a> {
 }
 
 impl<'a> Driven<'a> {
-    fn new(form: Form, board: &'a SharedBoard<()>, pass: Pass<()>) -> Driven<'a>
+    pub fn new(form: Form, board: &'a SharedBoard<()>, pass: Pass<()>) -> Driven<'a>
         requires pass { IsIdleAt board.now.id pass }
         requires form { board.now.id.rules.form ≡ form }
         requires none { board.now.id.table.slots ≡ 0 }
@@ -124,14 +125,39 @@ impl<'a> Driven<'a> {
         }
     }
 
-    /// One step of a pass on this socket, which groups the waiters of its socket.
-    pub fn step_by_socket(&mut self, socket: u16) {
-        let choice = match self.ask() {
-            Ask::Should { waiter, .. } => waiter.socket == socket,
-            _ => false,
-        };
-        let _ = self.step(choice);
+    /// Frees the lock, if it holds it.
+    pub fn give_back(&mut self) {
+        let _ = self.release();
+        self.steps(1);
     }
+
+    /// So many steps of a pass on this socket, which groups the waiters of its socket.
+    pub fn steps_by_socket(&mut self, socket: u16, count: u32) {
+        for _ in 0..count {
+            let choice = match self.ask() {
+                Ask::Should { waiter, .. } => waiter.socket == socket,
+                _ => false,
+            };
+            let _ = self.step(choice);
+        }
+    }
+}
+
+/// A lock without values, and its passes.
+pub fn opened(
+    rt: &impl Abort,
+    alloc: Global,
+    form: Form,
+    attrs: &[Attr],
+) -> (SharedBoard<()>, Vec<Pass<()>>)
+    requires attrs { (0 < length attrs.now) × (length attrs.now ≤ 8) }
+    ensures form { result.0.id.rules.form ≡ form }
+    ensures none { result.0.id.table.slots ≡ 0 }
+    ensures passes { All (IsIdleAt result.0.id) result.1.items }
+{
+    open::<()>(alloc, attrs, form, 1024, Vec::new(alloc))
+        .ok()
+        .expect(rt, "memory for a board")
 }
 
 /// Each pass with its board.
@@ -152,4 +178,21 @@ pub fn drive_all<'a>(
         }
     }
     Ok(driven)
+}
+
+/// The same, where there is memory.
+pub fn drive<'a>(
+    rt: &impl Abort,
+    alloc: Global,
+    form: Form,
+    board: &'a SharedBoard<()>,
+    passes: Vec<Pass<()>>,
+) -> Vec<Driven<'a>>
+    requires passes { All (IsIdleAt board.now.id) passes.items }
+    requires form { board.now.id.rules.form ≡ form }
+    requires none { board.now.id.table.slots ≡ 0 }
+{
+    drive_all(alloc, form, board, passes)
+        .ok()
+        .expect(rt, "memory for passes")
 }

@@ -2,15 +2,16 @@
 ghost use Rattle.std.specs.Prelude.{◌≡◌};
 ghost use Rattle.shfl_table.specs.PassModel.{IsIdleAt};
 
-use crate::driven::{Driven, drive_all};
-use shared_tests::{LOOKS, PLAIN, await_sign, nap};
+use crate::checks::same;
+use crate::driven::{Driven, drive, opened};
+use shared_tests::{FORMS, LOOKS, PLAIN, await_sign, nap};
 use shfl_core::Phase;
-use shfl_line::{CLOSED, Form, Mode, Never, NoMemory};
-use shfl_table::{Pass, Queueing, SharedBoard, free, open, wait_by};
+use shfl_line::{CLOSED, Form, Mode, Never};
+use shfl_table::{Pass, Queueing, SharedBoard, free, wait_by};
 use std::alloc::Global;
+use std::process::Abort;
 use std::sync::Wait;
 use std::sync::atomic::{AtomicU64, Ordering};
-use std::test::Fail;
 use std::thread;
 use std::thread::Threads;
 use syn_outer::{Gate, Point};
@@ -58,12 +59,16 @@ fn lead<R: Wait>(rt: &R, board: &SharedBoard<()>, mut pass: Pass<()>, signs: &Si
     free(board, &mut pass);
 }
 
+fn step_before_open(pass: &mut Driven) {
+    if !matches!(pass.phase(), Phase::Open) {
+        pass.steps(1);
+    }
+}
+
 /// Steps until its next step enables stealing, for a while at most.
 fn step_to_open(pass: &mut Driven) {
     for _ in 0..20 {
-        if pass.phase() != Phase::Open {
-            pass.steps(1);
-        }
+        step_before_open(pass);
     }
 }
 
@@ -88,8 +93,7 @@ fn open_behind<R: Wait>(
     let _ = holder.acquire(Mode::Write);
     // Steal, Init, Swap, Close, Begin, Next, Give.
     holder.steps(7);
-    let _ = other.release();
-    other.steps(1);
+    other.give_back();
     step_to_open(holder);
     let ready = &signs.ready;
     ready.store(1, Ordering::SeqCst);
@@ -124,8 +128,7 @@ fn steals(other: &mut Driven) -> u32 {
         };
         if other.attempt(mode).is_ok() {
             won = won.saturating_add(1);
-            let _ = other.release();
-            other.steps(1);
+            other.give_back();
         }
     }
     won
@@ -142,12 +145,11 @@ struct Seen {
     steals: u32,
 }
 
-fn beside<R: Wait>(rt: &R, signs: &Signs, mut holder: Driven, mut other: Driven) -> Seen {
-    let (disabled, still) = open_behind(rt, signs, &mut holder, &mut other);
-    let disabled_again = sees_disabled(rt, &mut other);
-    let _ = holder.release();
-    holder.steps(1);
-    let steals = steals(&mut other);
+fn beside<R: Wait>(rt: &R, signs: &Signs, holder: &mut Driven, other: &mut Driven) -> Seen {
+    let (disabled, still) = open_behind(rt, signs, holder, other);
+    let disabled_again = sees_disabled(rt, other);
+    holder.give_back();
+    let steals = steals(other);
     let tried = &signs.tried;
     tried.store(1, Ordering::SeqCst);
     Seen {
@@ -162,8 +164,8 @@ fn beside<R: Wait>(rt: &R, signs: &Signs, mut holder: Driven, mut other: Driven)
 fn race<R: Threads + Wait + Sync>(
     rt: &R,
     board: &SharedBoard<()>,
-    holder: Driven,
-    other: Driven,
+    holder: &mut Driven,
+    other: &mut Driven,
     head: Pass<()>,
 ) -> Seen
     requires head { IsIdleAt board.now.id head }
@@ -184,33 +186,25 @@ fn race<R: Threads + Wait + Sync>(
 }
 
 /// The same, of a new lock.
-fn passed<R: Threads + Wait + Sync>(
-    rt: &R,
-    alloc: Global,
-    form: Form,
-) -> Result<Option<Seen>, NoMemory> {
-    let (board, mut passes) = open::<()>(alloc, &[PLAIN; 3], form, 1024, Vec::new(alloc))?;
-    let Some(head) = passes.pop() else {
-        return Ok(None);
-    };
-    let mut driven = drive_all(alloc, form, &board, passes)?;
-    let (Some(other), Some(holder)) = (driven.pop(), driven.pop()) else {
-        return Ok(None);
-    };
-    Ok(Some(race(rt, &board, holder, other, head)))
+fn passed<R: Abort + Threads + Wait + Sync>(rt: &R, alloc: Global, form: Form) -> Seen {
+    let (board, mut passes) = opened(rt, alloc, form, &[PLAIN; 3]);
+    let head = passes.pop().expect(rt, "a head");
+    let mut driven = drive(rt, alloc, form, &board, passes);
+    let mut other = driven.pop().expect(rt, "another pass");
+    let mut holder = driven.pop().expect(rt, "a holder");
+    race(rt, &board, &mut holder, &mut other, head)
 }
 
+const DUE: Seen = Seen {
+    disabled: true,
+    enabled: true,
+    disabled_again: true,
+    steals: 0,
+};
+
 #[test]
-fn nobody_comes_past_the_head(rt: HostRuntime) -> Result<(), Fail> {
-    for form in [Form::Spin, Form::Rw, Form::Park, Form::RwPark] {
-        let seen = passed(&rt, rt.alloc(), form)?;
-        let due = Seen {
-            disabled: true,
-            enabled: true,
-            disabled_again: true,
-            steals: 0,
-        };
-        assert_eq!(rt; seen, Some(due));
+fn nobody_comes_past_the_head(rt: HostRuntime) {
+    for form in FORMS {
+        same(&rt, &passed(&rt, rt.alloc(), form), &DUE);
     }
-    Ok(())
 }

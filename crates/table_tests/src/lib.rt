@@ -6,6 +6,8 @@ mod alike;
 #[cfg(test)]
 mod boards;
 #[cfg(test)]
+mod checks;
+#[cfg(test)]
 mod crowd;
 #[cfg(test)]
 mod driven;

@@ -5,13 +5,15 @@ ghost use Rattle.shfl_core.specs.Waiting.{MayUse};
 ghost use Rattle.shfl_line.specs.declared.events.Mode.TheVariants.{Write};
 ghost use Rattle.shfl_table.specs.PassModel.{AreIn, IsIdleAt};
 
+use crate::checks::same;
 use crate::crowd::{Alternating, Crowd, Tally, mark};
-use shfl_line::{Always, Attr, BySocket, Chooser, Form, Mode, Never, NoMemory};
+use shared_tests::{FAR, FORMS, PLAIN};
+use shfl_line::{Always, Attr, BySocket, Chooser, Form, Mode, Never};
 use shfl_table::{Pass, SharedBoard, free, open, wait_for};
 use std::alloc::Global;
+use std::process::Abort;
 use std::sync::Wait;
 use std::sync::atomic::Ordering;
-use std::test::Fail;
 use std::thread;
 use std::thread::Threads;
 
@@ -115,12 +117,7 @@ fn hold_often<C: Chooser, R: Wait>(
 
 /// Two sockets.
 fn attr_of(pass: u32) -> Attr {
-    Attr {
-        socket: (pass % 2) as u16,
-        prio: 0,
-        class: 0,
-        kind: 0,
-    }
+    if pass % 2 == 0 { PLAIN } else { FAR }
 }
 
 fn hold_by<R: Wait>(
@@ -151,44 +148,34 @@ fn hold_by<R: Wait>(
     }
 }
 
-fn opened(alloc: Global, form: Form) -> Result<(SharedBoard<Tally>, Vec<Pass<Tally>>), NoMemory>
-    ensures board { IfOk result (λ r. (r.0.id.table.slots ≡ 1) × (r.0.id.rules.form ≡ form)) }
-    ensures passes { IfOk result (λ r. (0 < vec_len r.1) × All (IsIdleAt r.0.id) r.1.items) }
+/// Those of sixteen passes.
+const ATTRS: [Attr; 16] = [
+    PLAIN, FAR, PLAIN, FAR, PLAIN, FAR, PLAIN, FAR, PLAIN, FAR, PLAIN, FAR, PLAIN, FAR, PLAIN, FAR,
+];
+
+fn opened(rt: &impl Abort, alloc: Global, form: Form) -> (SharedBoard<Tally>, Vec<Pass<Tally>>)
+    ensures board { (result.0.id.table.slots ≡ 1) × (result.0.id.rules.form ≡ form) }
+    ensures passes { (0 < vec_len result.1) × All (IsIdleAt result.0.id) result.1.items }
 {
-    let mut values = Vec::with_capacity(alloc, 1)?;
+    let mut values = Vec::with_capacity(alloc, 1).ok().expect(rt, "memory");
     values.push_reserved(Tally {
         holds: 0,
         inside: 0,
     });
-    let attrs = [
-        attr_of(0),
-        attr_of(1),
-        attr_of(2),
-        attr_of(3),
-        attr_of(4),
-        attr_of(5),
-        attr_of(6),
-        attr_of(7),
-        attr_of(8),
-        attr_of(9),
-        attr_of(10),
-        attr_of(11),
-        attr_of(12),
-        attr_of(13),
-        attr_of(14),
-        attr_of(15),
-    ];
-    open(alloc, &attrs, form, 1024, values)
+    let Ok(opened) = open(alloc, &ATTRS, form, 1024, values) else {
+        panic!(rt; "memory for a board")
+    };
+    opened
 }
 
 /// Sixteen threads hold the lock in turn: how often writers held it, and how often somebody met one whom it keeps out.
-fn crowded<R: Threads + Wait + Sync>(
+fn crowded<R: Abort + Threads + Wait + Sync>(
     rt: &R,
     alloc: Global,
     form: Form,
     policy: u32,
-) -> Result<(u64, u64), NoMemory> {
-    let (board, mut passes) = opened(alloc, form)?;
+) -> (u64, u64) {
+    let (board, mut passes) = opened(rt, alloc, form);
     let crowd = Crowd::new();
     let threads = passes.len();
     let job = |_i: usize, pass: &mut Pass<Tally>|
@@ -199,19 +186,18 @@ fn crowded<R: Threads + Wait + Sync>(
     { hold_by(rt, &board, &crowd, pass, form, policy) };
     thread::for_each_mut(rt, &mut passes, threads, &job);
     let last = &mut passes[0];
-    let attr = attr_of(0);
     let holds = hold_once(
         rt,
         &board,
         &crowd,
         last,
         Mode::Write,
-        &attr,
+        &PLAIN,
         &mut Never,
         false,
     );
     let met = &crowd.met;
-    Ok((holds, met.load(Ordering::SeqCst)))
+    (holds, met.load(Ordering::SeqCst))
 }
 
 fn writers_of(form: Form) -> u64 {
@@ -222,12 +208,11 @@ fn writers_of(form: Form) -> u64 {
 }
 
 #[test]
-fn nobody_meets_a_writer_inside(rt: HostRuntime) -> Result<(), Fail> {
-    for form in [Form::Spin, Form::Rw, Form::Park, Form::RwPark] {
+fn nobody_meets_a_writer_inside(rt: HostRuntime) {
+    for form in FORMS {
         for policy in 0..4 {
-            let counts = crowded(&rt, rt.alloc(), form, policy)?;
-            assert_eq!(rt; counts, (writers_of(form), 0));
+            let counts = crowded(&rt, rt.alloc(), form, policy);
+            same(&rt, &counts, &(writers_of(form), 0));
         }
     }
-    Ok(())
 }

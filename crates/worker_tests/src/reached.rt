@@ -43,7 +43,7 @@ fn replay_has_a_copy_for_each_reader(rt: HostRuntime) {
     let gate = readers_gate();
     let status = status_of(&rt, rt.alloc(), "replay", TWO_READERS, &gate);
     same(&rt, &status, &0);
-    nobody_gave_up(&rt, &gate.gave_up);
+    nobody_gave_up(&rt, &gate.late);
 }
 
 // Two writers of two directories hold their locks at once, which they can't behind the lock of `replay`.
@@ -52,5 +52,5 @@ fn shards_has_a_lock_for_each_directory(rt: HostRuntime) {
     let gate = shard_gate();
     let status = status_of(&rt, rt.alloc(), "shards", TWO_SHARDS, &gate);
     same(&rt, &status, &0);
-    nobody_gave_up(&rt, &gate.gave_up);
+    nobody_gave_up(&rt, &gate.late);
 }

@@ -1,9 +1,8 @@
 //! What the policies of a trace's workers are told, as their logs tell it.
 use crate::checks::same;
-use crate::threads::{
-    ATTACHED, GROUPED, QueueGate, Way, is_by, nobody_gave_up, queue_gate, run_text,
-};
+use crate::threads::{ATTACHED, GROUPED, Way, is_by, nobody_gave_up, run_text};
 use round_log::RoundLog;
+use shared_tests::QueueGate;
 use shfl_line::Told;
 use shfl_workers::{Outcome, run_trace};
 use std::alloc::Global;
@@ -76,9 +75,9 @@ fn logs_a_round<R: Abort + Threads + Wait + Sync>(
     way: Way,
     version: u64,
 ) -> Result<(), Fail> {
-    let gate = queue_gate(5);
+    let gate = QueueGate::new(5);
     let outcome = run_text(rt, alloc, text, way, &gate)?;
-    nobody_gave_up(rt, &gate.gave_up);
+    nobody_gave_up(rt, &gate.late);
     same(rt, &outcome.rounds.len(), &5);
     groups_by(rt, alloc, &outcome, 1, version);
     Ok(())
@@ -124,10 +123,10 @@ impl<'a> Gate for Exchanged<'a> {
 // Worker 0 attaches the policy before its call, waits for the lock, and rearranges those behind it.
 #[test]
 fn a_round_behind_an_attachment_has_its_version(rt: HostRuntime) -> Result<(), Fail> {
-    let queue = queue_gate(5);
+    let queue = QueueGate::new(5);
     let gate = Exchanged { gate: &queue };
     let outcome = run_text(&rt, rt.alloc(), ATTACHED, Way::ByCalls, &gate)?;
-    nobody_gave_up(&rt, &queue.gave_up);
+    nobody_gave_up(&rt, &queue.late);
     is_by(&rt, rt.alloc(), &outcome, &[1, 0, 3, 2, 4]);
     groups_by(&rt, rt.alloc(), &outcome, 0, 1);
     Ok(())

@@ -2,11 +2,10 @@
 use crate::checks::same;
 use crate::threads::{
     ATTACHED, FOUR_WORKERS, GROUPED, Way, groups, is_by, is_of_four, nobody_gave_up, run_text,
-    wait_for,
 };
 use dir_table::DirReply;
+use shared_tests::Mark;
 use std::sync::Wait;
-use std::sync::atomic::{AtomicU64, Ordering};
 use std::test::Fail;
 use syn_outer::{Gate, OpenGate, Point};
 
@@ -17,29 +16,29 @@ pub(crate) const TWO_SHARDS: &[u8] =
 /// Lets worker 0 hold its directory's lock until worker 1 has made its call in the other directory.
 #[derive(Drop)]
 pub(crate) struct ShardGate {
-    held: AtomicU64,
-    made: AtomicU64,
-    pub(crate) gave_up: AtomicU64,
+    held: Mark,
+    made: Mark,
+    pub(crate) late: Mark,
 }
 
 /// A gate at which nobody has been yet.
 pub(crate) fn shard_gate() -> ShardGate {
     ShardGate {
-        held: AtomicU64::new(0),
-        made: AtomicU64::new(0),
-        gave_up: AtomicU64::new(0),
+        held: Mark::new(),
+        made: Mark::new(),
+        late: Mark::new(),
     }
 }
 
 impl Gate for ShardGate {
     fn at<Rt: Wait>(&self, _rt: &Rt, worker: u32, point: Point) {
         match (worker, point) {
-            (1, Point::BeforeCall) => wait_for(&self.held, 1, &self.gave_up),
+            (1, Point::BeforeCall) => self.held.wait(1, &self.late),
             (0, Point::Holding) => {
-                self.held.store(1, Ordering::SeqCst);
-                wait_for(&self.made, 1, &self.gave_up);
+                self.held.set();
+                self.made.wait(1, &self.late);
             }
-            (1, Point::AfterCall) => self.made.store(1, Ordering::SeqCst),
+            (1, Point::AfterCall) => self.made.set(),
             _ => {}
         }
     }
@@ -49,7 +48,7 @@ impl Gate for ShardGate {
 fn two_shards(rt: HostRuntime) -> Result<(), Fail> {
     let gate = shard_gate();
     let outcome = run_text(&rt, rt.alloc(), TWO_SHARDS, Way::Shards, &gate)?;
-    nobody_gave_up(&rt, &gate.gave_up);
+    nobody_gave_up(&rt, &gate.late);
     is_by(&rt, rt.alloc(), &outcome, &[1, 0]);
     same(&rt, &outcome.dir.count(0), &DirReply::Number(1));
     same(&rt, &outcome.dir.count(1), &DirReply::Number(1));

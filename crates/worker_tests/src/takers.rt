@@ -1,7 +1,8 @@
 //! Pools that are run by threads.
 use crate::checks::same;
-use crate::threads::{GROUPED, QueueGate, nobody_gave_up, queue_gate};
+use crate::threads::{GROUPED, nobody_gave_up};
 use pool_text::first_fault;
+use shared_tests::QueueGate;
 use std::alloc::Global;
 use std::process::Abort;
 use std::sync::Wait;
@@ -52,9 +53,9 @@ fn workers_of(rt: &impl Abort, alloc: Global, run: &PoolRun) -> Vec<u32> {
 // The takers queue by the first policy of the trace, which is asked about each taker's own attributes.
 #[test]
 fn grouped_order_in_a_pool(rt: HostRuntime) -> Result<(), Fail> {
-    let gate = queue_gate(5);
+    let gate = QueueGate::new(5);
     let run = run_text(&rt, rt.alloc(), GROUPED, &gate)?;
-    nobody_gave_up(&rt, &gate.gave_up);
+    nobody_gave_up(&rt, &gate.late);
     let workers = workers_of(&rt, rt.alloc(), &run);
     same(&rt, &workers.as_slice(), &[0, 1, 3, 2, 4].as_slice());
     Ok(())
@@ -77,10 +78,10 @@ fn orders<R: Abort + Threads + Wait + Sync>(
     policy: &[u8],
     due: &[u32],
 ) -> Result<(), Fail> {
-    let gate = queue_gate(8);
+    let gate = QueueGate::new(8);
     let text = eight_under(rt, alloc, policy);
     let run = run_text(rt, alloc, text.as_slice(), &gate)?;
-    nobody_gave_up(rt, &gate.gave_up);
+    nobody_gave_up(rt, &gate.late);
     same(rt, &workers_of(rt, alloc, &run).as_slice(), &due);
     Ok(())
 }

@@ -1,19 +1,15 @@
 //! Traces that are run by threads.
 use crate::checks::same;
 use dir_table::DirReply;
+use shared_tests::{Mark, QueueGate};
 use shfl_workers::{Outcome, do_writes_prevail, run_copies, run_shards, run_trace};
 use std::alloc::Global;
 use std::process::Abort;
 use std::sync::Wait;
-use std::sync::atomic::{AtomicU64, Ordering};
 use std::test::Fail;
-use std::thread;
 use std::thread::Threads;
 use syn_outer::{Gate, OpenGate, Point};
 use trace_text::read_trace;
-
-// How often a test looks at its counters before it gives up.
-const LOOKS: u64 = 100_000_000;
 
 /// Five workers on the sockets 0, 0, 1, 0 and 1, who call one directory; the first policy prefers waiters of the own socket, and the last
 /// one nobody.
@@ -35,84 +31,6 @@ pub(crate) const FOUR_WORKERS: &[u8] =
 /// Two workers who look for a name that nobody makes.
 pub(crate) const TWO_READERS: &[u8] =
     b"syncord-trace 1\nworker 0 0 0 0\nworker 0 0 0 0\npolicy none - -\ncalls\n0 find 0 a\n1 find 0 a\n";
-
-/// Lets worker 0 hold the lock until the others, at most seven, have queued in their order and worker 1 has ended its round.
-#[derive(Drop)]
-pub(crate) struct QueueGate {
-    workers: usize,
-    held: AtomicU64,
-    // how often each has joined the queue or ended a round
-    queued: [AtomicU64; 8],
-    pub(crate) gave_up: AtomicU64,
-}
-
-/// Waits until the counter is that high, or until someone gave up.
-pub(crate) fn wait_for(counter: &AtomicU64, least: u64, gave_up: &AtomicU64) {
-    for _ in 0..LOOKS {
-        if counter.load(Ordering::SeqCst) >= least || gave_up.load(Ordering::SeqCst) > 0 {
-            return;
-        }
-        thread::yield_now();
-    }
-    gave_up.store(1, Ordering::SeqCst);
-}
-
-impl QueueGate {
-    // Waits until this worker has queued, or ended a round.
-    fn await_worker(&self, worker: usize, least: u64) {
-        if let Some(queued) = self.queued.get(worker) {
-            wait_for(queued, least, &self.gave_up);
-        }
-    }
-
-    // Worker 1 stays at the head of the queue until all have queued, and only then begins its round.
-    fn note(&self, worker: usize) {
-        let Some(queued) = self.queued.get(worker) else {
-            return;
-        };
-        let before = queued.fetch_add(1, Ordering::SeqCst);
-        if worker == 1 && before == 0 {
-            for other in 2..self.workers {
-                self.await_worker(other, 1);
-            }
-        }
-    }
-}
-
-impl Gate for QueueGate {
-    fn at<Rt: Wait>(&self, _rt: &Rt, worker: u32, point: Point) {
-        match (worker as usize, point) {
-            (0, Point::Holding) => {
-                self.held.store(1, Ordering::SeqCst);
-                self.await_worker(1, 2);
-            }
-            (0, _) => {}
-            (1, Point::BeforeCall) => wait_for(&self.held, 1, &self.gave_up),
-            (worker, Point::BeforeCall) => self.await_worker(worker - 1, 1),
-            (worker, Point::Queued) => self.note(worker),
-            _ => {}
-        }
-    }
-}
-
-/// A gate for so many workers, at which nobody has been yet.
-pub(crate) fn queue_gate(workers: usize) -> QueueGate {
-    QueueGate {
-        workers,
-        held: AtomicU64::new(0),
-        queued: [
-            AtomicU64::new(0),
-            AtomicU64::new(0),
-            AtomicU64::new(0),
-            AtomicU64::new(0),
-            AtomicU64::new(0),
-            AtomicU64::new(0),
-            AtomicU64::new(0),
-            AtomicU64::new(0),
-        ],
-        gave_up: AtomicU64::new(0),
-    }
-}
 
 /// By what a test runs a trace.
 #[derive(Clone, Copy)]
@@ -143,8 +61,8 @@ pub(crate) fn run_text<G: Gate + Sync, R: Threads + Wait + Sync>(
 }
 
 /// Nobody gave up.
-pub(crate) fn nobody_gave_up(rt: &impl Abort, gave_up: &AtomicU64) {
-    same(rt, &gave_up.load(Ordering::SeqCst), &0);
+pub(crate) fn nobody_gave_up(rt: &impl Abort, late: &Mark) {
+    same(rt, &late.count(), &0);
 }
 
 /// The history is by these workers, in its order.
@@ -170,9 +88,9 @@ pub(crate) fn groups<R: Abort + Threads + Wait + Sync>(
     way: Way,
     published: &[(u64, u32)],
 ) -> Result<(), Fail> {
-    let gate = queue_gate(5);
+    let gate = QueueGate::new(5);
     let outcome = run_text(rt, alloc, text, way, &gate)?;
-    nobody_gave_up(rt, &gate.gave_up);
+    nobody_gave_up(rt, &gate.late);
     is_grouped(rt, alloc, &outcome, published);
     Ok(())
 }
@@ -206,15 +124,15 @@ fn a_policy_is_attached_behind_the_call_before_it(rt: HostRuntime) -> Result<(),
 /// Lets each of two workers hold the lock until the other one holds it too.
 #[derive(Drop)]
 pub(crate) struct ReadersGate {
-    held: [AtomicU64; 2],
-    pub(crate) gave_up: AtomicU64,
+    held: [Mark; 2],
+    pub(crate) late: Mark,
 }
 
 /// A gate at which neither has been yet.
 pub(crate) fn readers_gate() -> ReadersGate {
     ReadersGate {
-        held: [AtomicU64::new(0), AtomicU64::new(0)],
-        gave_up: AtomicU64::new(0),
+        held: [Mark::new(), Mark::new()],
+        late: Mark::new(),
     }
 }
 
@@ -222,12 +140,12 @@ impl Gate for ReadersGate {
     fn at<Rt: Wait>(&self, _rt: &Rt, worker: u32, point: Point) {
         match (worker, point) {
             (0, Point::Holding) => {
-                self.held[0].store(1, Ordering::SeqCst);
-                wait_for(&self.held[1], 1, &self.gave_up);
+                self.held[0].set();
+                self.held[1].wait(1, &self.late);
             }
             (1, Point::Holding) => {
-                self.held[1].store(1, Ordering::SeqCst);
-                wait_for(&self.held[0], 1, &self.gave_up);
+                self.held[1].set();
+                self.held[0].wait(1, &self.late);
             }
             _ => {}
         }
@@ -238,7 +156,7 @@ impl Gate for ReadersGate {
 fn readers_hold_at_once(rt: HostRuntime) -> Result<(), Fail> {
     let gate = readers_gate();
     let outcome = run_text(&rt, rt.alloc(), TWO_READERS, Way::ByCalls, &gate)?;
-    nobody_gave_up(&rt, &gate.gave_up);
+    nobody_gave_up(&rt, &gate.late);
     same(&rt, &outcome.history.len(), &2);
     same(&rt, &outcome.dir.count(0), &DirReply::Number(0));
     Ok(())

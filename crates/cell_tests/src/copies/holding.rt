@@ -4,7 +4,7 @@ ghost use Rattle.std.specs.Prelude.{◌≡◌, ◌<◌, All};
 use super::opening::open;
 use crate::register::{LOOK, Register};
 use rw_cell::{RwCell, RwPass};
-use shared_tests::PLAIN;
+use shared_tests::{Mark, PLAIN};
 use shfl_line::{Form, Never};
 use std::sync::Wait;
 use std::sync::atomic::{AtomicU64, Ordering};
@@ -13,15 +13,12 @@ use std::thread;
 use std::thread::Threads;
 use syn_outer::{Gate, Point};
 
-// How often a wait looks. After one that ends so, no wait waits any more.
-const LOOKS: u32 = 100_000_000;
-
 /// Pass 0 holds the lock from the first mark on, until pass 1 has tried or joined the queue.
 #[derive(Drop)]
 struct Trial {
-    held: AtomicU64,
-    tried: AtomicU64,
-    late: AtomicU64,
+    held: Mark,
+    tried: Mark,
+    late: Mark,
     read_word: AtomicU64,
     write_word: AtomicU64,
 }
@@ -29,22 +26,12 @@ struct Trial {
 impl Trial {
     fn new() -> Trial {
         Trial {
-            held: AtomicU64::new(0),
-            tried: AtomicU64::new(0),
-            late: AtomicU64::new(0),
+            held: Mark::new(),
+            tried: Mark::new(),
+            late: Mark::new(),
             read_word: AtomicU64::new(0),
             write_word: AtomicU64::new(0),
         }
-    }
-
-    fn wait(&self, mark: &AtomicU64) {
-        for _ in 0..LOOKS {
-            if mark.load(Ordering::SeqCst) > 0 || self.late.load(Ordering::SeqCst) > 0 {
-                return;
-            }
-            thread::yield_now();
-        }
-        self.late.store(1, Ordering::SeqCst);
     }
 }
 
@@ -52,10 +39,10 @@ impl Gate for Trial {
     fn at<Rt: Wait>(&self, _rt: &Rt, worker: u32, point: Point) {
         match (worker, point) {
             (0, Point::Holding) => {
-                self.held.store(1, Ordering::SeqCst);
-                self.wait(&self.tried);
+                self.held.set();
+                self.tried.wait(1, &self.late);
             }
-            (1, Point::Queued) => self.tried.store(1, Ordering::SeqCst),
+            (1, Point::Queued) => self.tried.set(),
             _ => {}
         }
     }
@@ -70,14 +57,14 @@ fn overlap<Rt: Wait>(rt: &Rt, cell: &RwCell<Register>, trial: &Trial, pass: &mut
         let _ = cell.write(rt, pass, &mut Never, trial, &7);
         return;
     }
-    trial.wait(&trial.held);
+    trial.held.wait(1, &trial.late);
     if let Err(busy) = cell.try_read(pass, &LOOK) {
         trial.read_word.store(busy.word, Ordering::SeqCst);
         if let Err(busy) = cell.try_write(pass, &8) {
             trial.write_word.store(busy.word, Ordering::SeqCst);
         }
     }
-    trial.tried.store(1, Ordering::SeqCst);
+    trial.tried.set();
 }
 
 // Pass 0 writes; pass 1 reads what it wrote, and keeps it.
@@ -94,7 +81,7 @@ fn wait_behind<Rt: Wait>(
         let _ = cell.write(rt, pass, &mut Never, trial, &7);
         return;
     }
-    trial.wait(&trial.held);
+    trial.held.wait(1, &trial.late);
     let (value, _) = cell.read(rt, pass, &mut Never, trial, &LOOK);
     trial.read_word.store(u64::from(value), Ordering::SeqCst);
 }
@@ -126,7 +113,7 @@ fn a_try_beside_a_writer_is_told_the_lock_word(rt: HostRuntime) -> Result<(), Fa
     let (cell, mut passes) = open(rt.alloc(), &[PLAIN, PLAIN], Form::Rw, &[2, 2])?;
     let trial = Trial::new();
     overlap_all(&rt, &cell, &trial, false, &mut passes);
-    assert_eq!(rt; trial.late.load(Ordering::SeqCst), 0);
+    assert_eq!(rt; trial.late.count(), 0);
     assert_eq!(rt; trial.read_word.load(Ordering::SeqCst), 1);
     assert_eq!(rt; trial.write_word.load(Ordering::SeqCst), 1);
     Ok(())
@@ -138,7 +125,7 @@ fn a_reader_queues_behind_a_writer(rt: HostRuntime) -> Result<(), Fail> {
     let (cell, mut passes) = open(rt.alloc(), &[PLAIN, PLAIN], Form::Rw, &[2, 2])?;
     let trial = Trial::new();
     overlap_all(&rt, &cell, &trial, true, &mut passes);
-    assert_eq!(rt; trial.late.load(Ordering::SeqCst), 0);
+    assert_eq!(rt; trial.late.count(), 0);
     assert_eq!(rt; trial.read_word.load(Ordering::SeqCst), 7);
     Ok(())
 }

@@ -1,63 +1,91 @@
 //! Pools with one taker.
+ghost use Rattle.std.specs.Prelude.{◌≤◌, All, length};
+ghost use Rattle.dir_table.specs.Numbers.{call_numbers, state_numbers};
+ghost use Rattle.dir_table.specs.Meanings.{Admits};
 ghost use Rattle.call_pool.specs.Pools.{IsPassOf};
 
 use crate::checks::{holds, same};
+use crate::directory::opened;
 use call_pool::{Pool, PoolPass};
 use dir_table::{Dir, DirCall, DirReply};
-use hist_log::{Object, Receipt};
-use shfl_line::{Attr, Never};
+use hist_log::Receipt;
+use shared_tests::PLAIN;
+use shfl_line::Never;
+use std::alloc::Global;
+use std::process::Abort;
 use std::sync::Wait;
-use std::test::Fail;
 use syn_outer::OpenGate;
 
-const ATTR: Attr = Attr {
-    socket: 0,
-    prio: 0,
-    class: 0,
-    kind: 0,
-};
-
-/// A call by the pass, where there is one left.
-fn take<O: Object + Drop, R: Wait>(
+/// The pass takes a call, which is answered so, or finds none.
+fn takes<R: Abort + Wait>(
     rt: &R,
-    pool: &Pool<O>,
-    pass: &mut PoolPass<O>,
-) -> Option<(u32, O::Reply, Receipt)>
-    requires { IsPassOf O.call_numbers O.admits pool.now pass.old }
-    ensures { IsPassOf O.call_numbers O.admits pool.now pass.new }
+    pool: &Pool<Dir>,
+    pass: &mut PoolPass<Dir>,
+    due: Option<(u32, DirReply, Receipt)>,
+)
+    requires { IsPassOf call_numbers Admits pool.now pass.old }
+    ensures { IsPassOf call_numbers Admits pool.now pass.new }
 {
-    pool.take(rt, pass, &mut Never, &OpenGate)
+    let taken = pool.take(rt, pass, &mut Never, &OpenGate);
+    same(rt, &taken, &due);
+}
+
+/// The pass finds no call, and has ended then.
+fn finds_none<R: Abort + Wait>(rt: &R, pool: &Pool<Dir>, pass: &mut PoolPass<Dir>)
+    requires { IsPassOf call_numbers Admits pool.now pass.old }
+    ensures { IsPassOf call_numbers Admits pool.now pass.new }
+{
+    takes(rt, pool, pass, None);
+    holds(rt, pass.ended());
+}
+
+const MAKES: [DirCall; 2] = [DirCall::Make { dir: 0, name: 0 }; 2];
+
+/// A name is made once.
+fn makes_once<R: Abort + Wait>(rt: &R, pool: &Pool<Dir>, pass: &mut PoolPass<Dir>)
+    requires { IsPassOf call_numbers Admits pool.now pass.old }
+    ensures { IsPassOf call_numbers Admits pool.now pass.new }
+{
+    let first = (0, DirReply::Ino(1), Receipt { place: 0 });
+    takes(rt, pool, pass, Some(first));
+    let second = (1, DirReply::Exists, Receipt { place: 1 });
+    takes(rt, pool, pass, Some(second));
+    holds(rt, !pass.ended());
+}
+
+// A pool of these calls, and its only pass.
+fn with_one_pass(
+    rt: &impl Abort,
+    alloc: Global,
+    dir: Dir,
+    calls: &[DirCall],
+) -> (Pool<Dir>, PoolPass<Dir>)
+    requires few { length calls.now ≤ 2 }
+    requires spare { length calls.now ≤ dir.spare }
+    requires admitted { All (λ c. Admits (state_numbers dir) (call_numbers c)) calls.now }
+    ensures { IsPassOf call_numbers Admits result.0 result.1 }
+{
+    let Ok((pool, mut passes)) = Pool::<Dir>::open(alloc, dir, &[PLAIN], 1024, calls) else {
+        panic!(rt; "memory")
+    };
+    let Some(pass) = passes.pop() else {
+        panic!(rt; "a pass")
+    };
+    (pool, pass)
 }
 
 #[test]
-fn a_name_is_made_once(rt: HostRuntime) -> Result<(), Fail> {
-    let alloc = rt.alloc();
-    let calls = [DirCall::Make { dir: 0, name: 0 }; 2];
-    let dir = Dir::open(alloc, 1, 2)?;
-    let (pool, mut passes) = Pool::<Dir>::open(alloc, dir, &[ATTR], 1024, &calls)?;
-    let Some(mut pass) = passes.pop() else {
-        panic!(&rt; "a pass")
-    };
-    let first = Some((0, DirReply::Ino(1), Receipt { place: 0 }));
-    same(&rt, &take(&rt, &pool, &mut pass), &first);
-    let second = Some((1, DirReply::Exists, Receipt { place: 1 }));
-    same(&rt, &take(&rt, &pool, &mut pass), &second);
-    holds(&rt, !pass.ended());
-    holds(&rt, take(&rt, &pool, &mut pass).is_none());
-    holds(&rt, pass.ended());
-    holds(&rt, take(&rt, &pool, &mut pass).is_none());
-    Ok(())
+fn a_name_is_made_once(rt: HostRuntime) {
+    let dir = opened(&rt, rt.alloc(), 1, 2);
+    let (pool, mut pass) = with_one_pass(&rt, rt.alloc(), dir, &MAKES);
+    makes_once(&rt, &pool, &mut pass);
+    finds_none(&rt, &pool, &mut pass);
+    finds_none(&rt, &pool, &mut pass);
 }
 
 #[test]
-fn a_pool_of_no_call_ends_at_once(rt: HostRuntime) -> Result<(), Fail> {
-    let alloc = rt.alloc();
-    let dir = Dir::open(alloc, 1, 0)?;
-    let (pool, mut passes) = Pool::<Dir>::open(alloc, dir, &[ATTR], 1024, &[])?;
-    let Some(mut pass) = passes.pop() else {
-        panic!(&rt; "a pass")
-    };
-    holds(&rt, take(&rt, &pool, &mut pass).is_none());
-    holds(&rt, pass.ended());
-    Ok(())
+fn a_pool_of_no_call_ends_at_once(rt: HostRuntime) {
+    let dir = opened(&rt, rt.alloc(), 1, 0);
+    let (pool, mut pass) = with_one_pass(&rt, rt.alloc(), dir, &[]);
+    finds_none(&rt, &pool, &mut pass);
 }

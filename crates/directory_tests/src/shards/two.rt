@@ -3,20 +3,15 @@ ghost use Rattle.std.specs.Prelude.{◌≡◌, ◌<◌, All, length, vec_len, If
 ghost use Rattle.dir_table.specs.Meanings.{IsAdmitted};
 ghost use Rattle.dir_shards.specs.ShardPasses.{IsPassOf, AreInOrder};
 
+use crate::checks::same;
 use dir_shards::{ShardPass, ShardedDir};
 use dir_table::{Dir, DirCall, DirReply, DirRow};
 use hist_log::Entry;
-use shfl_line::{Attr, Never};
+use shared_tests::PLAIN;
+use shfl_line::Never;
+use std::process::Abort;
 use std::sync::Wait;
-use std::test::Fail;
 use syn_outer::OpenGate;
-
-const ATTR: Attr = Attr {
-    socket: 0,
-    prio: 0,
-    class: 0,
-    kind: 0,
-};
 
 // A call by the pass of a number, where it has one left.
 fn call_by<R: Wait>(
@@ -86,22 +81,32 @@ fn to_and_fro<R: Wait>(
     [made, went, came, found, none_left]
 }
 
-#[test]
-fn a_name_goes_to_another_directory_and_back(rt: HostRuntime) -> Result<(), Fail> {
-    let (dir, mut passes) = ShardedDir::open(rt.alloc(), 1, &[ATTR, ATTR], 1024, &[2, 2])?;
-    let [made, went, came, found, none_left] = to_and_fro(&rt, &dir, &mut passes);
-    assert_eq!(rt; made, Some((DirReply::Ino(1), 0)));
-    assert_eq!(rt; went, Some((DirReply::Done, 1)));
-    assert_eq!(rt; came, Some((DirReply::Done, 2)));
-    assert_eq!(rt; found, Some((DirReply::Absent, 3)));
-    assert_eq!(rt; none_left, None);
-    let (rows, entries) = close_in_order(dir, passes);
+// What they are answered, and at which places.
+const DUE: [Option<(DirReply, u64)>; 5] = [
+    Some((DirReply::Ino(1), 0)),
+    Some((DirReply::Done, 1)),
+    Some((DirReply::Done, 2)),
+    Some((DirReply::Absent, 3)),
+    None,
+];
+
+// What the directory ends with: its one name, and their four calls.
+fn ends(rt: &impl Abort, rows: &[DirRow], entries: &[Entry<Dir>]) {
     let row = DirRow {
         dir: 0,
         name: 0,
         ino: 1,
     };
-    assert_eq!(rt; rows.as_slice(), [row].as_slice());
-    assert_eq!(rt; entries.len(), 4);
-    Ok(())
+    same(rt, &rows, &[row].as_slice());
+    same(rt, &entries.len(), &4);
+}
+
+#[test]
+fn a_name_goes_to_another_directory_and_back(rt: HostRuntime) {
+    let opened = ShardedDir::open(rt.alloc(), 1, &[PLAIN, PLAIN], 1024, &[2, 2]);
+    let (dir, mut passes) = opened.expect(&rt, "a directory");
+    let answered = to_and_fro(&rt, &dir, &mut passes);
+    same(&rt, &answered, &DUE);
+    let (rows, entries) = close_in_order(dir, passes);
+    ends(&rt, &rows, &entries);
 }
