@@ -83,13 +83,23 @@ static int sleep_on(shfl_cond_t *cond, uint32_t seen, clockid_t clock, const str
     return 0;
 }
 
+/* A thread that ends has its seat no longer than its locks; here it keeps it, so that it can have the mutex again. */
+static bool keeps_seat(void) {
+    struct shfl_thread *me = shfl_me;
+    if (!me || !(shfl_load(&me->unusual) & SHFL_IS_ENDING)) return false;
+    __atomic_fetch_and(&me->unusual, ~(uint32_t)SHFL_IS_ENDING, __ATOMIC_SEQ_CST);
+    return true;
+}
+
 static int wait_on(shfl_cond_t *cond, shfl_mutex_t *mutex, clockid_t clock, const struct timespec *deadline) {
+    bool ends = keeps_seat();
     uint32_t seen = shfl_load(&cond->signals);
     shfl_comes_to_wait(cond); /* each that waits has a seat, so there is room */
     int error = shfl_mutex_unlock(mutex);
     int told = error ? error : sleep_on(cond, seen, clock, deadline);
     shfl_ends_to_wait(cond, told == 0 && shfl_load(&cond->signals) != seen);
     if (!error) error = shfl_mutex_lock(mutex);
+    if (ends) __atomic_fetch_or(&shfl_me->unusual, SHFL_IS_ENDING, __ATOMIC_SEQ_CST);
     return error ? error : told;
 }
 

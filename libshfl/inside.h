@@ -86,8 +86,8 @@ struct shfl_total {
 /* A read lock that a thread took again. */
 struct shfl_again { uint32_t lock, times; };
 
-/* In the child of a fork, of the thread that forked and had locks; of all threads, while a lock is recorded; of one that took a lock again. */
-enum { SHFL_IS_STALE = 1, SHFL_IS_WATCHED = 2, SHFL_HAS_AGAIN = 4, SHFL_MARK_WATCHED = 0x8000 };
+/* In the child of a fork, of the thread that forked and had locks; of all threads, while a lock is recorded; of one that took a lock again; that ends. */
+enum { SHFL_IS_STALE = 1, SHFL_IS_WATCHED = 2, SHFL_HAS_AGAIN = 4, SHFL_IS_ENDING = 8, SHFL_MARK_WATCHED = 0x8000 };
 
 /* A thread, or a place for one. What each lock and unlock reads stands first; the last line is written by those who wake it, too. */
 struct shfl_thread {

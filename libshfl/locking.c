@@ -205,13 +205,22 @@ int shfl_not_given_back(uint32_t *word) {
     return me && number > shfl_process.arena_locks ? give_back_in_place(me, word, number - 1) : refuse_to_give(word);
 }
 
-/* A lock that was taken again, or one that is stale or recorded; or another one of a thread that has such a lock, or while one is recorded. */
-int shfl_give_back_other(struct shfl_thread *me, uint32_t *word, uint32_t number) {
-    uint32_t lock = number - 1;
+static int give_back_looking(struct shfl_thread *me, uint32_t *word, uint32_t lock) {
     if (give_again(me, lock)) return 0;
     if ((shfl_load(&me->unusual) & SHFL_IS_STALE) && lock < shfl_load(&shfl_process.lock_count) && leave_number(me, word, lock)) return 0;
     shfl_happens(me, lock, SHFL_FREES);
     return give_back_in_place(me, word, lock);
+}
+
+static void leave_seat_at_end(struct shfl_thread *me) {
+    if (me->holding == 0 && (shfl_load(&me->unusual) & SHFL_IS_ENDING)) shfl_leave_seat(me);
+}
+
+/* A lock that was taken again, or one that is stale or recorded; or another one of a thread that has such a lock, or that ends, or while one is recorded. */
+int shfl_give_back_other(struct shfl_thread *me, uint32_t *word, uint32_t number) {
+    int error = give_back_looking(me, word, number - 1);
+    leave_seat_at_end(me);
+    return error;
 }
 
 /* Gives the lock's number back, where nobody has the lock. */
@@ -225,5 +234,6 @@ int shfl_end(uint32_t *word) {
     shfl_given(shfl_me, word);
     shfl_races_ended(word);
     shfl_take_number_back(number - 1);
+    leave_seat_at_end(shfl_me);
     return 0;
 }

@@ -11,6 +11,7 @@ int shfl_give_back_other(struct shfl_thread *me, uint32_t *word, uint32_t number
 int shfl_not_given_back(uint32_t *word);
 void shfl_count_taken_anew(struct shfl_thread *me, uint32_t number, bool shared);
 bool shfl_renumber(struct shfl_thread *me, uint32_t lock);
+void shfl_leave_seat(struct shfl_thread *me); /* process.c: of a thread that ends, with its last lock */
 
 int shfl_try(uint32_t *word, bool shared);
 int shfl_take_until(uint32_t *word, bool shared, clockid_t clock, const struct timespec *deadline);

@@ -10,6 +10,9 @@
 struct shfl_process shfl_process;
 __thread struct shfl_thread *shfl_me;
 
+/* This thread has begun to end. It may use locks still, and libc may have called its last destructor, so its seat goes back with its last lock. */
+static __thread bool ends __attribute__((tls_model("initial-exec")));
+
 shfl_guard shfl_lists;
 uint32_t shfl_seated, shfl_fresh_locks;
 static bool is_open;
@@ -21,6 +24,7 @@ static pthread_key_t at_end;
 static void free_seat(struct shfl_thread *thread) {
     thread->aside = 0;
     thread->tid = 0;
+    __atomic_fetch_and(&thread->unusual, ~(uint32_t)SHFL_IS_ENDING, __ATOMIC_SEQ_CST);
     thread->next_free = free_threads;
     free_threads = thread;
     shfl_seated--;
@@ -33,7 +37,7 @@ static void give_seat_back(struct shfl_thread *me) {
     shfl_guard_unlock(&shfl_lists);
 }
 
-/* A thread that used a lock once more in its last destructors, or behind them, as libc's own end of it may in a program's malloc, is gone with its seat. Where there is no other, those of
+/* A thread that used a lock once more after its last destructors, as libc's own end of it may in a program's malloc, is gone with its seat. Where there is no other, those of
  * such threads are free, too; who looks in vain asks the system no more for a tenth of a second. */
 static void free_seats_of_gone(void) {
     static uint64_t looked_at;
@@ -65,11 +69,18 @@ static void leave_number(uint32_t lock, bool comes_back) {
 void shfl_leave_number(uint32_t lock) { leave_number(lock, false); }
 void shfl_take_number_back(uint32_t lock) { leave_number(lock, true); }
 
+void shfl_leave_seat(struct shfl_thread *me) {
+    pthread_setspecific(at_end, NULL);
+    give_seat_back(me);
+}
+
 /* Where a thread ends its seat goes to another, unless it holds a lock: that stays held, and the seat with it, until a later destructor of the
  * thread's gives the lock back. This one is called again as long as POSIX lets it. */
 static void end_thread(void *at) {
     struct shfl_thread *me = at;
+    ends = true;
     if (me->holding == 0) return give_seat_back(me);
+    __atomic_fetch_or(&me->unusual, SHFL_IS_ENDING, __ATOMIC_SEQ_CST);
     shfl_refuse(0, me->held ? me->held[0] : NULL, "a thread ends that has a lock");
     pthread_setspecific(at_end, me);
 }
@@ -181,6 +192,7 @@ SHFL_COLD struct shfl_thread *shfl_take_seat(int *error) {
         give_seat_back(me);
         return NULL;
     }
+    if (ends) __atomic_fetch_or(&me->unusual, SHFL_IS_ENDING, __ATOMIC_SEQ_CST);
     shfl_me = me;
     shfl_set_attr(me, 0, 0, 0);
     shfl_control();
