@@ -11,6 +11,8 @@
 
 #define WOKEN 0x10000u
 
+_Static_assert(SHFL_MOST_THREADS < WOKEN - 1, "as many as have seats can wait");
+
 static bool change(shfl_cond_t *cond, uint32_t *before, uint32_t waiting, uint32_t woken) {
     uint32_t after = woken * WOKEN + waiting;
     return __atomic_compare_exchange_n(&cond->waiting, before, after, false, __ATOMIC_SEQ_CST, __ATOMIC_SEQ_CST);
@@ -94,7 +96,7 @@ static bool keeps_seat(void) {
 static int wait_on(shfl_cond_t *cond, shfl_mutex_t *mutex, clockid_t clock, const struct timespec *deadline) {
     bool ends = keeps_seat();
     uint32_t seen = shfl_load(&cond->signals);
-    shfl_comes_to_wait(cond); /* each that waits has a seat, so there is room */
+    shfl_comes_to_wait(cond); /* there is room: who waits has the mutex, and so a seat, and whoever hasn't is refused below */
     int error = shfl_mutex_unlock(mutex);
     int told = error ? error : sleep_on(cond, seen, clock, deadline);
     shfl_ends_to_wait(cond, told == 0 && shfl_load(&cond->signals) != seen);

@@ -25,7 +25,7 @@
 #ifndef SHFL_HEAP_H
 static inline void shfl_heap_stop(void) {}
 static inline void shfl_heap_go_on(void) {}
-static inline void shfl_out_of_range(const char *name, uint32_t number, uint32_t most) { (void)name, (void)number, (void)most; }
+static inline void shfl_out_of_range(const char *name, const char *text, uint32_t most) { (void)name, (void)text, (void)most; }
 static inline void shfl_no_such_form(const char *text) { (void)text; }
 #endif
 

@@ -79,6 +79,8 @@ void shfl_leave_seat(struct shfl_thread *me) {
 static void end_thread(void *at) {
     struct shfl_thread *me = at;
     ends = true;
+    /* not this thread's: who had this stack before used a lock behind its last destructor, and what it noted then libc has kept */
+    if (me != shfl_me) return;
     if (me->holding == 0) return give_seat_back(me);
     __atomic_fetch_or(&me->unusual, SHFL_IS_ENDING, __ATOMIC_SEQ_CST);
     shfl_refuse(0, me->held ? me->held[0] : NULL, "a thread ends that has a lock");

@@ -7,13 +7,14 @@
 #include "inside.h"
 #include "races.h"
 
-/* A number from the environment, 1 to the most; what isn't a number counts as not said, and so does all where the program runs with another user's rights. */
+/* A number from the environment, 1 to the most; what isn't a number counts as not said, and so does all where the program runs with another user's rights. Ten digits are
+ * more than any may have. */
 static bool is_asked(const char *name, uint32_t usual, uint32_t most, uint32_t *number) {
     const char *text = secure_getenv(name);
-    bool is_said = text && *text && strspn(text, "0123456789") == strlen(text) && strlen(text) <= 9;
-    *number = is_said ? (uint32_t)strtoul(text, NULL, 10) : usual;
+    bool is_said = text && *text && strspn(text, "0123456789") == strlen(text);
+    *number = !is_said ? usual : strlen(text) > 9 ? UINT32_MAX : (uint32_t)strtoul(text, NULL, 10);
     if (*number >= 1 && *number <= most) return true;
-    shfl_out_of_range(name, *number, most);
+    shfl_out_of_range(name, text, most);
     return false;
 }
 

@@ -8,7 +8,7 @@
 #define MONOTONIC 2u
 #define NAP_NS 1000000
 
-_Static_assert(sizeof(shfl_cond_t) <= offsetof(struct __pthread_cond_s, __g_refs), "the library's words stand before what glibc has of its own");
+_Static_assert(offsetof(shfl_cond_t, words) <= sizeof(((pthread_cond_t *)0)->__data.__wseq), "the library's two words stand where glibc counts what it has served");
 
 static shfl_cond_t *words_of(pthread_cond_t *c) { return (shfl_cond_t *)&c->__data; }
 static bool is_shared(pthread_cond_t *c) { return c->__data.__wrefs & PROCESS_SHARED; }
@@ -52,11 +52,11 @@ static int sleep_cancellably(struct sleeper *sleeper, clockid_t clock, const str
     return told;
 }
 
-/* As many wait as can be counted, by mutexes of libc's: it wakes without a signal. */
-static int nap(void) {
+/* As many wait as can be counted, by mutexes of libc's: it wakes without a signal, or at its deadline. */
+static int nap(clockid_t clock, const struct timespec *deadline) {
     static uint32_t never;
     shfl_sleep(&never, 0, NAP_NS);
-    return 0;
+    return deadline && shfl_clock_of(clock) >= shfl_time_of(deadline) ? ETIMEDOUT : 0;
 }
 
 static int wait_on(pthread_cond_t *c, pthread_mutex_t *m, clockid_t clock, const struct timespec *deadline, const void *caller) {
@@ -64,7 +64,7 @@ static int wait_on(pthread_cond_t *c, pthread_mutex_t *m, clockid_t clock, const
     struct sleeper sleeper = {cond, m, shfl_load(&cond->signals), false};
     bool counts = shfl_comes_to_wait(cond);
     int error = pthread_mutex_unlock(m), told = error;
-    if (!error) told = counts ? sleep_cancellably(&sleeper, clock, deadline) : nap();
+    if (!error) told = counts ? sleep_cancellably(&sleeper, clock, deadline) : nap(clock, deadline);
     if (counts) shfl_ends_to_wait(cond, told == 0 && shfl_load(&cond->signals) != sleeper.seen);
     if (error) return error;
     error = shfl_lock_again(m, caller);

@@ -17,7 +17,7 @@ void shfl_heap_stop(void);
 void shfl_heap_go_on(void);
 
 /* What the environment asks for can't be: said once (numbers.c), and then the program's locks are libc's. */
-void shfl_out_of_range(const char *name, uint32_t number, uint32_t most);
+void shfl_out_of_range(const char *name, const char *text, uint32_t most);
 void shfl_no_such_form(const char *text);
 
 /* Before the process has a guard: libc's call that registers handlers of forks is found (libc.c). */

@@ -1,5 +1,5 @@
 /* What an unmodified program can't be told: that there is no number for a lock, which then is libc's, or no seat for a thread, which then
- * waits for one. Nothing of this is proved: a lock that went to libc is libc's alone. */
+ * waits for one; or that the environment asks for what can't be. Nothing of this is proved: a lock that went to libc is libc's alone. */
 #include <stdio.h>
 #include <string.h>
 #include "inside.h"
@@ -20,9 +20,9 @@ static SHFL_COLD void say_once(uint32_t *said, const char *words) {
 
 static uint32_t said_what_cannot_be;
 
-SHFL_COLD void shfl_out_of_range(const char *name, uint32_t number, uint32_t most) {
+SHFL_COLD void shfl_out_of_range(const char *name, const char *text, uint32_t most) {
     char words[160];
-    snprintf(words, sizeof words, "libshfl_preload: %s=%u is out of its range, 1 to %u; the program has libc's locks\n", name, number, most);
+    snprintf(words, sizeof words, "libshfl_preload: %s=%.60s is out of its range, 1 to %u; the program has libc's locks\n", name, text, most);
     say_once(&said_what_cannot_be, words);
 }
 
