@@ -93,6 +93,14 @@ static bool keeps_seat(void) {
     return true;
 }
 
+/* It returns with the mutex, though there may be no memory to queue for it now. */
+static int lock_again(shfl_mutex_t *mutex) {
+    static uint32_t never;
+    int error;
+    while ((error = shfl_mutex_lock(mutex)) == ENOMEM) shfl_sleep(&never, 0, 1000000);
+    return error;
+}
+
 static int wait_on(shfl_cond_t *cond, shfl_mutex_t *mutex, clockid_t clock, const struct timespec *deadline) {
     bool ends = keeps_seat();
     uint32_t seen = shfl_load(&cond->signals);
@@ -100,7 +108,7 @@ static int wait_on(shfl_cond_t *cond, shfl_mutex_t *mutex, clockid_t clock, cons
     int error = shfl_mutex_unlock(mutex);
     int told = error ? error : sleep_on(cond, seen, clock, deadline);
     shfl_ends_to_wait(cond, told == 0 && shfl_load(&cond->signals) != seen);
-    if (!error) error = shfl_mutex_lock(mutex);
+    if (!error) error = lock_again(mutex);
     if (ends) __atomic_fetch_or(&shfl_me->unusual, SHFL_IS_ENDING, __ATOMIC_SEQ_CST);
     return error ? error : told;
 }

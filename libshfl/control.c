@@ -7,6 +7,7 @@
 #include <fcntl.h>
 #include <poll.h>
 #include <pthread.h>
+#include <sched.h>
 #include <signal.h>
 #include <stdio.h>
 #include <stdlib.h>
@@ -22,6 +23,7 @@
 #define CLIENTS 16
 #define CLIENT_NS 1000000000u
 #define CLIENT_BRIEF_NS 100000000u
+#define LOOK_MS 1000 /* after so long at the latest it looks whether the program has ended */
 
 /* A client: its request as far as it came, then what it is answered as far as that went. */
 struct client {
@@ -169,6 +171,7 @@ static void hear(struct client *client) {
     if (end) *end = 0;
     if (!whole) client->request[0] = 0;
     shfl_reply_to(client->request, &client->reply);
+    client->since = shfl_clock(); /* its answer may have taken longer than a client has */
 }
 
 static void tell(struct client *client) {
@@ -201,11 +204,27 @@ static int whom_to_hear(struct pollfd *at) {
     return wait;
 }
 
+/* Of the program's threads only the first is left, and it has ended. */
+static bool is_last(void) {
+    char text[1024], state;
+    long threads;
+    int file = open("/proc/self/stat", O_RDONLY | O_CLOEXEC);
+    ssize_t length = file >= 0 ? read(file, text, sizeof text - 1) : -1;
+    if (file >= 0) close(file);
+    text[length > 0 ? length : 0] = 0;
+    char *at = strrchr(text, ')');
+    return at && sscanf(at + 1, " %c %*d %*d %*d %*d %*d %*u %*u %*u %*u %*u %*u %*u %*d %*d %*d %*d %ld", &state, &threads) == 2 && state == 'Z' && threads == 2;
+}
+
+/* At the program's priority it may hold up its threads, so it has none; and where these have all ended, the process does, as by libc with its last thread. */
 static void *serve(void *none) {
     struct pollfd at[CLIENTS + 1];
+    sched_setscheduler(0, SCHED_OTHER, &(struct sched_param){0});
     for (;;) {
-        int wait = whom_to_hear(at);
-        if (poll(at, CLIENTS + 1, wait) <= 0) continue;
+        int wait = whom_to_hear(at), came = poll(at, CLIENTS + 1, wait < 0 || wait > LOOK_MS ? LOOK_MS : wait);
+        if (came == 0 && is_last()) exit(0);
+        if (came < 0) usleep(100000); /* the program may have fewer descriptors than these */
+        if (came <= 0) continue;
         for (int k = 0; k < CLIENTS; k++) {
             if (!at[k].revents || !is_there(&clients[k])) continue;
             if (clients[k].reply.length) tell(&clients[k]);

@@ -55,6 +55,7 @@ static void add_ended(uint64_t class_of, const struct shfl_stat *counts, const s
 static void begin_move(uint32_t lock) {
     shfl_guard_lock(moving_of(lock));
     __atomic_fetch_add(&shfl_process.totals[lock].moves, 1, __ATOMIC_SEQ_CST);
+    __atomic_thread_fence(__ATOMIC_RELEASE);
 }
 
 static void end_move(uint32_t lock) {
@@ -136,6 +137,7 @@ void shfl_sum_lock(uint32_t lock, struct shfl_stat *out, struct shfl_waits *wait
             shfl_waits_of(waits, at);
             add(out, &at->counts);
         }
+        __atomic_thread_fence(__ATOMIC_ACQUIRE);
         if (before % 2 == 0 && shfl_load(&total->moves) == before) return;
     }
 }

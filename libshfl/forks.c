@@ -42,6 +42,16 @@ static void after_fork(void) {
     shfl_guard_unlock(&shfl_process.is_loading);
 }
 
+/* What this thread has it has by another number from now on, or it stays stale. All of it is noted first, so that none that is given here is given up for another. */
+static void renumber_all(struct shfl_thread *me, uint32_t given) {
+    for (uint32_t k = 0; k < given; k++)
+        if (shfl_hold(me, shfl_number_at(k)) != 0) shfl_process.totals[shfl_number_at(k)].stale = 1;
+    for (uint32_t k = 0; k < given; k++) {
+        uint32_t lock = shfl_number_at(k);
+        if (shfl_process.totals[lock].stale && shfl_hold(me, lock) != 0 && !shfl_renumber(me, lock)) me->unusual |= SHFL_IS_STALE;
+    }
+}
+
 /* In the child of a fork only the thread that called it goes on. The guards are free there; who held a lock, holds it for good; who
  * waited, or was in the midst of an attempt, stands so in the lock's words for good. So where this thread has a lock it has it by another number
  * from now on; or else the number isn't used again when it is given back. Where nobody waited nothing is written, so that the child has the page in
@@ -50,24 +60,27 @@ static void in_child(void) {
     struct shfl_thread *me = shfl_me;
     int cancels;
     pthread_setcancelstate(PTHREAD_CANCEL_DISABLE, &cancels);
-    for (uint32_t k = 0, given = shfl_fresh_locks; k < given && shfl_seated > 1; k++) {
+    uint32_t given = shfl_seated > (me != NULL) ? shfl_fresh_locks : 0; /* where others had seats */
+    for (uint32_t k = 0; k < given; k++) {
         uint32_t lock = shfl_number_at(k);
         struct shfl_parking *parking = shfl_parking_of(lock);
         if (parking->sleepers | parking->inside | parking->queued | parking->promoted)
             parking->sleepers = parking->inside = parking->queued = parking->promoted = shfl_process.totals[lock].readers = 0;
-        bool stale = me && me->holding > 0 && shfl_hold(me, lock) != 0 && !shfl_renumber(me, lock);
-        if (stale) me->unusual |= SHFL_IS_STALE;
-        if (stale) shfl_process.totals[lock].stale = 1;
     }
+    if (me && me->holding > 0) renumber_all(me, given);
     for (uint32_t k = 0; k < shfl_process.threads_seen; k++)
         if (&shfl_process.threads[k] != me) shfl_process.threads[k].in_round = shfl_process.threads[k].tid = 0;
     if (me) me->tid = (uint32_t)syscall(SYS_gettid);
     shfl_seated = me != NULL;
+    shfl_owner = getpid();
     after_fork();
     shfl_control_forked();
     pthread_setcancelstate(cancels, NULL);
 }
 
-void shfl_hear_of_forks(void) {
-    if (!shfl_load(&hears) && !__atomic_exchange_n(&hears, 1, __ATOMIC_SEQ_CST)) pthread_atfork(before_fork, after_fork, in_child);
+int shfl_hear_of_forks(void) {
+    if (shfl_load(&hears) || __atomic_exchange_n(&hears, 1, __ATOMIC_SEQ_CST)) return 0;
+    int error = pthread_atfork(before_fork, after_fork, in_child);
+    if (error) shfl_store(&hears, 0);
+    return error;
 }

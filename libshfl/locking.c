@@ -151,15 +151,44 @@ static bool is_there(uint32_t *word, uint32_t number) {
     return has;
 }
 
-/* Whether this process alone sees what is written there; a lock that only its parent uses may lie in memory that they share. Of what the system says of
- * the page, bit 63 is that it is there, and bit 61 that it is a file's or shared. */
+/* What the system says of the process's mappings, byte by byte. */
+struct mappings { int file; size_t at, has; char text[1024]; };
+
+static int next_byte(struct mappings *it) {
+    if (it->at == it->has) {
+        ssize_t came = read(it->file, it->text, sizeof it->text);
+        it->at = 0;
+        it->has = came > 0 ? (size_t)came : 0;
+        if (it->has == 0) return -1;
+    }
+    return (unsigned char)it->text[it->at++];
+}
+
+static uintptr_t next_number(struct mappings *it) {
+    uintptr_t number = 0;
+    for (int c; (c = next_byte(it)) > ' ' && c != '-';) number = number * 16 + (uintptr_t)(c <= '9' ? c - '0' : c - 'a' + 10);
+    return number;
+}
+
+/* A line is `FROM-TO rwxp ..`; the fourth letter is p where nobody else sees what is written there. */
+static bool is_private(struct mappings *it, uintptr_t at) {
+    for (int c = 0; c >= 0;) {
+        uintptr_t from = next_number(it), to = next_number(it);
+        for (int k = 0; k < 4; k++) c = next_byte(it);
+        if (from <= at && at < to) return c == 'p';
+        while (c >= 0 && c != '\n') c = next_byte(it);
+    }
+    return false;
+}
+
+/* Whether this process alone sees what is written there; a lock that only its parent uses may lie in memory that they share. */
 static bool is_own(const void *at) {
-    uint64_t entry = 0, page = (uint64_t)sysconf(_SC_PAGESIZE);
-    int before = errno, file = open("/proc/self/pagemap", O_RDONLY | O_CLOEXEC);
-    bool done = file >= 0 && pread(file, &entry, sizeof entry, (off_t)((uintptr_t)at / page * sizeof entry)) == sizeof entry;
-    if (file >= 0) close(file);
+    int before = errno;
+    struct mappings it = {open("/proc/self/maps", O_RDONLY | O_CLOEXEC), 0, 0, {0}};
+    bool done = it.file >= 0 && is_private(&it, (uintptr_t)at);
+    if (it.file >= 0) close(it.file);
     errno = before;
-    return done && entry >> 61 == 4;
+    return done;
 }
 
 /* In the child of a fork this thread has a lock in whose words others may stand that aren't there. It has it by another number from now on, before any
@@ -180,9 +209,11 @@ bool shfl_renumber(struct shfl_thread *me, uint32_t lock) {
     return true;
 }
 
-/* Where that couldn't be, the lock is given back so: the seat keeps its number, and the lock's next use gives it another. */
+/* Where that couldn't be, the lock is given back so: the seat keeps its number, and the lock's next use gives it another. Of a read lock others may read by the number
+ * meanwhile, so it stays. */
 static SHFL_COLD bool leave_number(struct shfl_thread *me, uint32_t *word, uint32_t lock) {
     if (!shfl_process.totals[lock].stale || shfl_hold(me, lock) == 0) return false;
+    if (shfl_hold(me, lock) == 2) return shfl_process.totals[lock].stale = 0, false;
     shfl_given(me, word);
     shfl_leave_number(lock);
     __atomic_store_n(word, 0, __ATOMIC_SEQ_CST);

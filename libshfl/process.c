@@ -15,6 +15,7 @@ static __thread bool ends __attribute__((tls_model("initial-exec")));
 
 shfl_guard shfl_lists;
 uint32_t shfl_seated, shfl_fresh_locks;
+pid_t shfl_owner;
 static bool is_open;
 static struct shfl_thread *free_threads;
 static uint32_t free_locks; /* the last number that came back, plus one */
@@ -38,12 +39,12 @@ static void give_seat_back(struct shfl_thread *me) {
 }
 
 /* A thread that used a lock once more after its last destructors, as libc's own end of it may in a program's malloc, is gone with its seat. Where there is no other, those of
- * such threads are free, too; who looks in vain asks the system no more for a tenth of a second. */
+ * such threads are free, too; who looks in vain asks the system no more for a tenth of a second. Of a child that libc's handlers of forks didn't hear of nobody is gone. */
 static void free_seats_of_gone(void) {
     static uint64_t looked_at;
     uint64_t now = shfl_clock();
     int before = errno;
-    if (now - looked_at < 100000000) return;
+    if (shfl_owner != getpid() || now - looked_at < 100000000) return;
     for (uint32_t k = 0; k < shfl_process.threads_seen; k++) {
         struct shfl_thread *thread = &shfl_process.threads[k];
         bool is_gone = thread->tid != 0 && syscall(SYS_tgkill, getpid(), thread->tid, 0) != 0 && errno == ESRCH;
@@ -104,7 +105,7 @@ static void deal(struct shfl_seat *seats) {
 
 #define OWN(it) shfl_races_own(&(it), sizeof(it))
 static void own_statics(void) {
-    OWN(shfl_process), OWN(shfl_lists), OWN(is_open), OWN(shfl_seated), OWN(free_threads), OWN(shfl_fresh_locks), OWN(free_locks), OWN(at_end);
+    OWN(shfl_process), OWN(shfl_lists), OWN(is_open), OWN(shfl_seated), OWN(shfl_owner), OWN(free_threads), OWN(shfl_fresh_locks), OWN(free_locks), OWN(at_end);
 }
 
 static int open_arena(void) {
@@ -130,13 +131,12 @@ static int open_arena(void) {
 
 SHFL_COLD int shfl_begin_process(void) {
     static bool has_key;
-    int error = 0;
     own_statics();
     OWN(has_key);
     shfl_find_register();
-    shfl_hear_of_forks();
+    int error = shfl_hear_of_forks();
     shfl_guard_lock(&shfl_lists);
-    if (!has_key) {
+    if (!error && !has_key) {
         error = pthread_key_create(&at_end, end_thread);
         has_key = !error;
     }
@@ -150,6 +150,7 @@ SHFL_COLD int shfl_open_process(void) {
     shfl_guard_lock(&shfl_lists);
     if (!error && !is_open) {
         error = open_arena();
+        shfl_owner = getpid();
         __atomic_store_n(&is_open, !error, __ATOMIC_RELEASE);
     }
     shfl_guard_unlock(&shfl_lists);

@@ -7,6 +7,8 @@
 extern shfl_guard shfl_lists; /* of what is open, what is free, and how many threads have a seat */
 extern uint32_t shfl_seated, shfl_fresh_locks; /* how many do, and how many numbers were given for the first time */
 
-void shfl_hear_of_forks(void); /* once, whoever calls */
+extern pid_t shfl_owner; /* the process whose threads have the seats */
+
+int shfl_hear_of_forks(void); /* once, whoever calls */
 #pragma GCC visibility pop
 #endif

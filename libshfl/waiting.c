@@ -100,6 +100,9 @@ static bool is_passed(struct waiter *waiter) {
     return passed && shfl_load(&parking->queued) == 0;
 }
 
+/* Whether the lock's class has got a policy meanwhile: then all queue, and nobody comes past them. */
+static bool is_to_queue(struct shfl_parking *parking) { return shfl_load(&shfl_class_at(shfl_load(&parking->class_of))->attached); }
+
 /* True: it holds the lock. False: it is to queue. */
 static bool wait_outside(struct waiter *waiter) {
     struct shfl_parking *parking = waiter->parking;
@@ -108,7 +111,7 @@ static bool wait_outside(struct waiter *waiter) {
     if (shfl_load(&parking->outside) > 0) go_inside(waiter);
     for (uint64_t most = TRYING_NS; waiter->tries > 0; most = TRYING_AGAIN_NS) {
         if (!aside && spin_trying(waiter, most)) return true;
-        if (is_passed(waiter)) return false;
+        if (is_passed(waiter) || is_to_queue(parking)) return false;
         if (sleep_outside(waiter, ASLEEP_NS)) return true;
         aside = false;
         bool promoted = is_promoted(parking);

@@ -2,7 +2,7 @@
 # libshfl as its document says: installed into an empty prefix by its words, docs/LIBSHFL.md's programs built by its words alone, against the shared
 # library and the static one, and one that opens and closes it (opened.c); what is visible and has a manual page is what the header has. In both forms each call and each error (tests/libshfl/posix.c), each
 # argument that can't be (arguments.c), deadlines (times.c), that who waits sleeps (sleeps.c), threads' ends and cancellation (lives.c), a first lock behind them (behind.c), forks (forks.c), a holder that is late (late.c), a reader that takes its lock again and again (again.c), a process's first lock (first.c), what shfl_stat counts (counts.c), policies of classes
-# (policies.c), what a record has of a lock in each arena (records.c), that a lock may end while its last holder but one still gives it back (steps.c), that a thread of a higher priority takes no signal of another (stolen.c), that nobody sleeps beside a free lock (between.c, tries.c), nor a reader beside others that read (shares.c), that no file of the program's is taken for a client of the control socket (closes.c), the C++ classes (locks.cpp); exact counts under 16 and 64 threads (storm.c), more locks than an
+# (policies.c), and one that comes while threads sleep (attached.c), that a process ends with its last thread (last.c), what a record has of a lock in each arena (records.c), that a lock may end while its last holder but one still gives it back (steps.c), that a thread of a higher priority takes no signal of another (stolen.c), that nobody sleeps beside a free lock (between.c, tries.c), nor a reader beside others that read (shares.c), that no file of the program's is taken for a client of the control socket (closes.c), the C++ classes (locks.cpp); exact counts under 16 and 64 threads (storm.c), more locks than an
 # arena has (growth.c), each message of the checked build (misuse.c). The preload library, which has each of glibc's names, under programs that know pthread alone
 # (pthreads.c, ends.c, libcs.c, errors.c, conditions.c, handlers.c, standard.cpp), which are first run with libc's own locks, in an arena that is too small, in one that can't be, which is said, and with a malloc
 # that takes a mutex (heap.c); and that it passes a signal on, too (stolen.c). Under valgrind's memcheck where it is there, and with gcc's address and undefined-behaviour checks, which end a program; programs with a
@@ -64,7 +64,7 @@ run "opened" "$room/opened"
 run "opened by its path" "$room/opened" "$room/prefix/lib/libshfl.so.1"
 
 tests=(posix arguments times lives forks counts policies)
-for name in "${tests[@]}" sleeps storm records steps tries stolen between shares closes behind; do
+for name in "${tests[@]}" sleeps storm records steps tries stolen between shares closes behind attached last; do
     "$cc" -std=gnu11 -O2 -g -Wall -Wextra -Werror "$top/tests/libshfl/$name.c" "${words[@]}" -o "$room/$name" || exit 1
 done
 if command -v c++ >/dev/null; then
@@ -74,9 +74,11 @@ fi
 # with few seats, where threads end and fork
 seats() { case "$1" in lives | behind) echo SHFL_THREADS=3 ;; forks) echo SHFL_THREADS=4 ;; esac; }
 for form in rw rw-park; do
-    for name in "${tests[@]}" sleeps records steps tries stolen between shares behind; do run "$name, $form" env SHFL_FORM="$form" $(seats "$name") "$room/$name"; done
+    for name in "${tests[@]}" sleeps records steps tries stolen between shares behind attached; do run "$name, $form" env SHFL_FORM="$form" $(seats "$name") "$room/$name"; done
 done
 run "closes" env SHFL_CONTROL="$room/control" "$room/closes" "$top/libshfl/install"
+# (whoever is left then takes no signal)
+run "a process ends with its last thread" env SHFL_CONTROL="$room/control" timeout -k 1 20 "$room/last"
 "$cc" -std=gnu11 -O2 -Wall -Wextra -Werror "$top/tests/libshfl/first.c" "${words[@]}" -o "$room/first" || exit 1
 "$cc" -std=gnu11 -O2 -Wall -Wextra -Werror -DPTHREAD "$top/tests/libshfl/first.c" -pthread -o "$room/firstpthread" || exit 1
 for place in sockets none/none; do
@@ -157,6 +159,7 @@ run "libc's own, preloaded" env LD_PRELOAD="$preload" "$room/libcs" preloaded
 run "preloaded condition variables" env LD_PRELOAD="$preload" "$room/conditions" "$((rounds / 8))" preloaded
 for name in pthreads libcs errors "conditions $((rounds / 8))"; do run "preloaded, rw-park" env SHFL_FORM=rw-park LD_PRELOAD="$preload" "$room/"$name preloaded; done
 run "preloaded with a malloc that takes a mutex" env LD_PRELOAD="$room/heap.so:$preload" "$room/pthreads" preloaded
+run "libc's locks, preloaded with such a malloc" env SHFL_LOCKS=0 LD_PRELOAD="$room/heap.so:$preload" "$room/pthreads"
 run "preloaded with such a malloc and four seats" env SHFL_THREADS=4 LD_PRELOAD="$room/heap.so:$preload" "$room/ends"
 if command -v c++ >/dev/null; then
     c++ -std=c++17 -O2 -Wall -Wextra -Werror "$top/tests/libshfl/standard.cpp" -pthread -o "$room/standard" && run "libc's locks in C++" "$room/standard" &&

@@ -41,6 +41,9 @@ template <class Duration> timespec after(Duration wait) {
 template <class Clock, class Duration> auto left_until(const std::chrono::time_point<Clock, Duration> &deadline) {
     auto now = Clock::now();
     using Left = decltype(deadline - now);
+    using Real = std::chrono::duration<double>;
+    // (in coarse units it may lie further ahead than the difference can be told)
+    if (Real(deadline.time_since_epoch()) - Real(now.time_since_epoch()) >= Real(Left::max())) return Left::max();
     return deadline > now ? deadline - now : Left::zero();
 }
 

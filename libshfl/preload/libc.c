@@ -5,22 +5,25 @@
 static struct shfl_libc calls;
 static uint32_t are_found;
 
-/* The one that programs of today mean: glibc has condition variables of an older shape too, under the same names. */
-static void *found(const char *name) {
-    void *at = dlvsym(RTLD_NEXT, name, "GLIBC_2.3.2");
-    return at ? at : dlsym(RTLD_NEXT, name);
-}
-
-/* Several threads may do this at once, and write the same. */
+/* Several threads may do this at once, and write the same. Names that are there come first, since libc takes memory to say that one isn't, and the program's malloc may use a
+ * lock of libc's. Then the condition variables that programs of today mean: glibc has some of an older shape too, under the same names. */
 static SHFL_COLD void find(void) {
+    void *at;
     int before = errno;
-#define FIND(call) calls.call = (__typeof__(calls.call))found("pthread_" #call)
+#define FIND(call) calls.call = (__typeof__(calls.call))dlsym(RTLD_NEXT, "pthread_" #call)
     FIND(mutex_lock), FIND(mutex_trylock), FIND(mutex_timedlock), FIND(mutex_clocklock), FIND(mutex_unlock), FIND(mutex_destroy);
     FIND(rwlock_rdlock), FIND(rwlock_wrlock), FIND(rwlock_tryrdlock), FIND(rwlock_trywrlock), FIND(rwlock_timedrdlock);
     FIND(rwlock_timedwrlock), FIND(rwlock_clockrdlock), FIND(rwlock_clockwrlock), FIND(rwlock_unlock), FIND(rwlock_destroy);
     FIND(cond_wait), FIND(cond_timedwait), FIND(cond_clockwait), FIND(cond_signal), FIND(cond_broadcast), FIND(cond_destroy);
 #undef FIND
     __atomic_store_n(&are_found, 1, __ATOMIC_RELEASE);
+#define FIND(call) if ((at = dlvsym(RTLD_NEXT, "pthread_" #call, "GLIBC_2.3.2"))) calls.call = (__typeof__(calls.call))at
+    FIND(cond_wait);
+    FIND(cond_timedwait);
+    FIND(cond_signal);
+    FIND(cond_broadcast);
+    FIND(cond_destroy);
+#undef FIND
     errno = before;
 }
 
