@@ -98,7 +98,7 @@ static void go_over(void) {
     IS(of_lock().queued == of_lock().contended - 1, 1);
 }
 
-/* The threads are there, and each has had a lock, before memory is counted. */
+/* The threads are there, and each has queued, for which its seat takes memory once, before memory is counted. */
 static void *takes_often(void *none) {
     takes(none);
     pthread_barrier_wait(&all);
@@ -112,15 +112,21 @@ static void *takes_often(void *none) {
 static void one_copy(void) {
     pthread_t threads[THREADS];
     IS(pthread_barrier_init(&all, NULL, THREADS + 1), 0);
+    IS(attach(0) || shfl_mutex_lock(&m), 0);
+    uint64_t had = of_lock().queued;
     for (int k = 0; k < THREADS; k++) IS(pthread_create(&threads[k], NULL, takes_often, NULL), 0);
+    while (of_lock().queued < had + THREADS) usleep(1000);
+    IS(shfl_mutex_unlock(&m), 0);
     pthread_barrier_wait(&all);
     size_t without = mallinfo2().uordblks;
     IS(attach(1), 0);
     size_t with_one = mallinfo2().uordblks;
     pthread_barrier_wait(&all);
     pthread_barrier_wait(&all);
-    size_t with_all = mallinfo2().uordblks, more = with_all > with_one ? with_all - with_one : 0;
-    printf("a policy of two programs of %d slots takes %zu bytes, and %d threads that go by it %zu more\n", SLOTS, with_one - without, THREADS, more);
+    size_t with_all = mallinfo2().uordblks, size = with_one - without;
+    if (with_all + size / 2 < with_one) with_all += size; /* nobody goes by the one before any more */
+    size_t more = with_all > with_one ? with_all - with_one : 0;
+    printf("a policy of two programs of %d slots takes %zu bytes, and %d threads that go by it %zu more\n", SLOTS, size, THREADS, more);
     IS(more <= 4096, 1);
     pthread_barrier_wait(&all);
     for (int k = 0; k < THREADS; k++) IS(pthread_join(threads[k], NULL), 0);
