@@ -5,6 +5,7 @@
 #include <pthread.h>
 #include <stdbool.h>
 #include <sys/mman.h>
+#include <sys/prctl.h>
 #include <sys/resource.h>
 #include <sys/wait.h>
 #include <unistd.h>
@@ -217,8 +218,10 @@ static void shared_memory(void) {
     IS(shfl_mutex_destroy(shared), 0);
 }
 
-int main(void) {
+int main(int count, char **words) {
     alarm(280);
+    /* as where it has changed its user: some of what the system knows of it isn't told */
+    if (count > 1 && strcmp(words[1], "changed") == 0) IS((getuid() == 0 && setuid(65534)) || prctl(PR_SET_DUMPABLE, 0), 0);
     IS(pthread_atfork(before, after, after), 0); /* before the library is used */
     IS(shfl_mutex_lock(&others[0]) || shfl_mutex_unlock(&others[0]), 0);
     handlers_take = true;
