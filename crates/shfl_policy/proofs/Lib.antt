@@ -1,1 +1,2 @@
 pub mod LoadedPolicies
+mod SameInsns
