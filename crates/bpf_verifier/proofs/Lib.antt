@@ -6,3 +6,4 @@ pub mod Arriving
 pub mod Faulty
 pub mod Forward
 pub mod SafeRuns
+pub mod Refusals

@@ -2,7 +2,7 @@
 use Rattle.std.proofs.Common.{◌≡◌, ℕ, List, [], ◌∷◌, Bool, true, false, cond, Option, Some, None, Result, Ok, refl, ap}
 use Rattle.std.specs.Prelude.{OnSome}
 use Rattle.doc_text.specs.declared.fault.Fault.{Fault}
-use Rattle.doc_text.specs.Words.{two, four, five, one, ◌>>?◌}
+use Rattle.doc_text.specs.Words.{two, three, four, five, one, ◌>>?◌}
 use Rattle.doc_text.specs.Faults.{fault}
 
 pub then-some : {A B : Type 0} (o : Option A) (f : A → Option B) (y : B) → (o >>? f) ≡ Some y → (x : A) × (o ≡ Some x) × (f x ≡ Some y)
@@ -39,6 +39,13 @@ two-some [] w h = cc
 two-some (a ∷ []) w h = cc
 two-some (a ∷ b ∷ []) w h = let e : (a, b) ≡ w = cc in ap (λ (p : List ℕ × List ℕ). p.0 ∷ p.1 ∷ []) e
 two-some (a ∷ b ∷ c ∷ ws) w h = cc
+
+pub three-some : (ws : List (List ℕ)) (w : List ℕ × List ℕ × List ℕ) → three ws ≡ Some w → ws ≡ w.0 ∷ w.1 ∷ w.2 ∷ []
+three-some [] w h = cc
+three-some (a ∷ []) w h = cc
+three-some (a ∷ b ∷ []) w h = cc
+three-some (a ∷ b ∷ c ∷ []) w h = let e : (a, b, c) ≡ w = cc in ap (λ (p : List ℕ × List ℕ × List ℕ). p.0 ∷ p.1 ∷ p.2 ∷ []) e
+three-some (a ∷ b ∷ c ∷ d ∷ ws) w h = cc
 
 pub four-some : (ws : List (List ℕ)) (w : List ℕ × List ℕ × List ℕ × List ℕ) → four ws ≡ Some w → ws ≡ w.0 ∷ w.1 ∷ w.2 ∷ w.3 ∷ []
 four-some [] w h = cc

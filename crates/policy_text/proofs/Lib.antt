@@ -7,3 +7,4 @@ pub mod HeadingLines
 pub mod ProgramWords
 pub mod LinesRead
 pub mod AttrSections
+pub mod FirstWords

@@ -1,22 +1,15 @@
 -- What a refusal says of a program's bytes.
-use Rattle.std.proofs.Common.{◌≡◌, ◌≢◌, ℕ, Bool, false, List, Result, Ok, Err, IfOk, refl, subst}
+use Rattle.std.proofs.Common.{◌≡◌, ◌≢◌, ℕ, Bool, false, List, Result, Ok, Err, IfOk, subst}
 use Rattle.std.specs.Prelude.{IsTrue, ◌↔◌}
 use Rattle.bpf_isa.specs.declared.insn.Insn.{Insn}
 use Rattle.bpf_isa.specs.declared.insn.Profile.{Profile}
 use Rattle.bpf_isa.specs.Decoding.{decoding}
 use Rattle.bpf_verifier.specs.declared.refusal.Refusal.{Refusal}
-use Rattle.bpf_verifier.specs.declared.refusal.Refusal.TheVariants.{Back, OutOfProgram, NoValue, PointerUse, BadLoad, NoMemory}
+use Rattle.bpf_verifier.specs.declared.refusal.Refusal.TheVariants.{NoMemory}
 use Rattle.bpf_verifier.specs.Acceptance.{IsAccepted, IsRefusal}
+use Rattle.bpf_verifier.proofs.Refusals.{refused-not_accepted}
 use Rattle.policy_text.specs.declared.error.NoMemory.{NoMemory as Wants}
 use Rattle.policy_text.specs.Accepted.{IsProgram}
-
-refused-not_accepted : (insns : List Insn) (e : Refusal) → IsRefusal insns e → e ≢ NoMemory → IsAccepted insns → ⊥
-refused-not_accepted insns NoMemory h ne a = ne refl
-refused-not_accepted insns (Back slot) h ne a = a (Back slot) h.0
-refused-not_accepted insns (OutOfProgram slot) h ne a = a (OutOfProgram slot) h.0
-refused-not_accepted insns (NoValue slot reg) h ne a = a (NoValue slot reg) h.0
-refused-not_accepted insns (PointerUse slot reg) h ne a = a (PointerUse slot reg) h.0
-refused-not_accepted insns (BadLoad slot) h ne a = a (BadLoad slot) h.0
 
 pub not_a_program : (profile : Profile) (bytes : List ℕ) (insns : List Insn) (e : Refusal) → decoding profile bytes ≡ Ok insns → IsRefusal insns e → e ≢ NoMemory → IsProgram profile bytes → ⊥
 not_a_program profile bytes insns e d h ne (others, f, a) =

@@ -7,6 +7,7 @@ mod document_error;
 mod error;
 mod heading;
 mod programs;
+mod rules;
 mod sections;
 mod writing;
 
@@ -16,5 +17,6 @@ pub use document_error::DocumentError;
 pub use error::NoMemory;
 pub use heading::{heading_of, profile_due, push_heading, push_version};
 pub use programs::{push_program, source_of};
+pub use rules::{RuleSource, rule_source, text_behind};
 pub use sections::{Section, attrs_of, begins};
 pub use writing::{push_number, push_word};

@@ -3,7 +3,6 @@ pub mod KeptReads
 pub mod HeldCopies
 pub mod MadeWrites
 pub mod MadeReads
-pub mod EachPlace
 pub mod GivenReads
 pub mod SortedReads
 pub mod GivenCopies

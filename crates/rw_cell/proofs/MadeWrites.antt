@@ -1,5 +1,6 @@
 -- A write that was made, by a pass that took the lock and freed it.
 use Rattle.std.proofs.Common.{◌≡◌, ℕ, ◌+◌, ◌-◌, ◌<◌, ◌≤◌, true, List, [], ◌∷◌, ◌++◌, length, refl, sym, ap, ◌∙◌, subst, arith, length-append, append_assoc, slice_index}
+use Rattle.std.proofs.lemmas.List.{nil_from_length}
 use Rattle.hist_log.specs.History.{IsLegal}
 use Rattle.shfl_line.specs.declared.words.Attr.{Attr}
 use Rattle.shfl_core.specs.Plan.{is_idle}
@@ -79,10 +80,6 @@ module _ {E : Type 0} (reply_at state_after : List ℕ → List ℕ → List ℕ
         (keeps-seen action point fits (opening_of q0.initial_state) q0.own.reg.me q0.history (knew.0.0 ++ made ∷ []) q2.history reads grown inv.keeps);
   }
 
-nothing-more : (l : List ℕ) → length l + 1 ≡ 1 → l ≡ []
-nothing-more [] e = refl
-nothing-more (x ∷ xs) e = absurd (omega arith)
-
 one-more : (l : List ℕ) → length l + 1 ≡ 2 → (word : ℕ) × (l ≡ word ∷ [])
 one-more [] e = absurd (omega arith)
 one-more (x ∷ []) e = (x, refl)
@@ -95,7 +92,7 @@ module _ {E : Type 0} (q0 q1 : PassModel BookModel) (left : ℕ) (attr : Attr) (
       ∙ ((λ j. record (cell_pass q0 left attr reads) { reg = record q0.own.reg { mode = mode; saw = word }; steps_taken = q0.steps_taken + attempt_steps mode; found = found j; attempts = q0.attempts + 1 }) ∙ ap (turned_away mode word more) same)
 
   pub write-turned : LosesAttempt Write word q0 q1 → cell_pass q1 left attr reads ≡ turned_away Write word [] p
-  write-turned l = turned Write [] l (l.2.2 ∙ ap (λ (m : List ℕ). q0.found ++ word ∷ m) (nothing-more l.2.0 l.2.1))
+  write-turned l = turned Write [] l (l.2.2 ∙ ap (λ (m : List ℕ). q0.found ++ word ∷ m) (let few : length l.2.0 + 1 ≡ 1 = l.2.1 in nil_from_length l.2.0 (omega arith)))
 
   pub read-turned : LosesAttempt Read word q0 q1 → (more : ℕ) × (cell_pass q1 left attr reads ≡ turned_away Read word (more ∷ []) p)
   read-turned l = let m = one-more l.2.0 l.2.1 in (m.0, turned Read (m.0 ∷ []) l (l.2.2 ∙ ap (λ (m : List ℕ). q0.found ++ word ∷ m) m.1))

@@ -1,5 +1,6 @@
 -- A call that was made, by a pass that took the lock and freed it.
-use Rattle.std.proofs.Common.{◌≡◌, ℕ, ◌+◌, ◌-◌, ◌<◌, true, List, [], ◌∷◌, ◌++◌, map, length, Option, Some, None, refl, sym, ap, ◌∙◌, subst, arith, length-append, slice_index}
+use Rattle.std.proofs.Common.{◌≡◌, ℕ, ◌+◌, ◌-◌, ◌<◌, true, List, [], ◌∷◌, ◌++◌, map, length, Some, refl, sym, ap, ◌∙◌, subst, arith, length-append, slice_index}
+use Rattle.std.proofs.lemmas.List.{nil_from_length}
 use Rattle.hist_log.specs.History.{IsLegal}
 use Rattle.shfl_line.specs.declared.words.Attr.{Attr}
 use Rattle.shfl_line.specs.declared.events.Mode.TheVariants.{Write}
@@ -76,12 +77,8 @@ module _ (reply_at state_after : List ℕ → List ℕ → List ℕ) (q0 q1 q2 :
         (let a = ap length own in let b = length-append (actions_by q0.own.reg.me q0.history) (made ∷ []) in omega arith),
   )
 
-nothing-more : (l : List ℕ) → length l + 1 ≡ 1 → l ≡ []
-nothing-more [] e = refl
-nothing-more (x ∷ xs) e = absurd (omega arith)
-
 -- a try in vain
 pub turned : (q0 q1 : PassModel BookModel) (left : ℕ) (attr : Attr) (word : ℕ) → LosesAttempt Write word q0 q1 → (p : CellPassModel) → cell_pass q0 left attr ≡ p → cell_pass q1 left attr ≡ turned_away word p
-turned q0 q1 left attr word l p same = let found : q1.found ≡ q0.found ++ word ∷ [] = l.2.2 ∙ ap (λ (m : List ℕ). q0.found ++ word ∷ m) (nothing-more l.2.0 l.2.1) in
+turned q0 q1 left attr word l p same = let found : q1.found ≡ q0.found ++ word ∷ [] = l.2.2 ∙ ap (λ (m : List ℕ). q0.found ++ word ∷ m) (let few : length l.2.0 + 1 ≡ 1 = l.2.1 in nil_from_length l.2.0 (omega arith)) in
     ap (λ (z : PassModel BookModel). cell_pass z left attr) l.1
     ∙ ((λ j. record (cell_pass q0 left attr) { reg = record q0.own.reg { mode = Write; saw = word }; steps_taken = q0.steps_taken + 1; found = found j; attempts = q0.attempts + 1 }) ∙ ap (turned_away word) same)

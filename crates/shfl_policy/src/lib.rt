@@ -7,7 +7,6 @@ mod laws;
 mod loading;
 mod policy;
 mod running;
-mod same;
 
 pub use asked::context;
 pub use error::{Hook, LoadError, ProgramFault};

@@ -3,7 +3,7 @@ ghost use Rattle.std.specs.Prelude.{◌≡◌, ◌↔◌, IsTrue, IfOk, IfSome};
 ghost use Rattle.bpf_verifier.specs.Acceptance.{IsProgram};
 
 use crate::running::Running;
-use crate::same::same_insns;
+use bpf_isa::Insn;
 use bpf_verifier::Program;
 use shfl_line::NoMemory;
 use std::alloc::Global;
@@ -23,6 +23,12 @@ impl Model for Policy {
     ghost Value = { PolicyModel };
 
     ghost view = { λ p. record { name = p.name; should = p.should; skip = p.skip } };
+}
+
+fn same_insns(a: &[Insn], b: &[Insn]) -> bool
+    ensures { IsTrue result ↔ a.now ≡ b.now }
+{
+    a == b
 }
 
 fn same_program(a: &Option<Program>, b: &Option<Program>) -> bool

@@ -2,7 +2,6 @@ pub mod RunSteps
 pub mod RunRows
 pub mod RunMoments
 pub mod Parked
-pub mod Loading
 pub mod Once
 pub mod Wording
 pub mod RuleLines

@@ -9,15 +9,15 @@ use Rattle.doc_text.specs.Words.{words, spaced, is_word}
 use Rattle.doc_text.specs.Faults.{or_fault, Then}
 use Rattle.policy_source.specs.Source.{SourceModel}
 use Rattle.shfl_policy.specs.Loading.{Loads}
+use Rattle.policy_text.specs.declared.rules.RuleSource.{RuleSource}
+use Rattle.policy_text.specs.declared.rules.RuleSource.TheVariants as said
 use Rattle.policy_text.specs.Programs.{source_in}
 use Rattle.policy_text.specs.Accepted.{AcceptsProgram}
 use Rattle.policy_text.proofs.Parts.{IsPart, line-plain, line-words}
 use Rattle.policy_text.proofs.ProgramWords.{source_in-words, program-part, program-is_word}
 use Rattle.shfl_sched.specs.declared.schedule.Rule.{Rule}
 use Rattle.shfl_sched.specs.declared.schedule.Rule.TheVariants as rules
-use Rattle.shfl_sched.specs.declared.rule.RuleLine.{RuleLine}
-use Rattle.shfl_sched.specs.declared.rule.RuleLine.TheVariants as said
-use Rattle.shfl_sched.specs.Lines.{rule_in}
+use Rattle.shfl_sched.specs.Lines.{policy_in}
 use Rattle.shfl_sched.specs.declared.faults.TheConstants.{POLICY}
 use Rattle.shfl_sched.specs.Grammar.{ReadsSaid, ReadsRule}
 use Rattle.shfl_sched.specs.Spelling.{IsRuleLine}
@@ -48,7 +48,7 @@ program_words should skip = codes "policy" ∷ codes "program" ∷ should ∷ sk
 
 -- four words that say programs
 words-read : (should skip : List ℕ) (source : SourceModel) → is_word should ≡ true → is_word skip ≡ true → source_in should skip ≡ Some source
-    → rule_in (program_words should skip) ≡ Some (said.Program source)
+    → policy_in (program_words should skip) ≡ Some (said.Program source)
 words-read should skip source e f g = rw (e, f, g) refl
 
 -- the rule of a policy line that is spelled so is read
@@ -61,8 +61,8 @@ rule-read profile line text (rules.Program policy) (source, should, skip, e, a, 
     let some_should = program-is_word profile source.should should (loads-accepts profile source.should policy.should loaded.should) a in
     let some_skip = program-is_word profile source.skip skip (loads-accepts profile source.skip policy.skip loaded.skip) b in
     let each : AllByRecursion IsPart (program_words should skip) = ((refl, refl), ((refl, refl), (program-part source.should should a, (program-part source.skip skip b, tt)))) in
-    let says : rule_in (words (spaced (program_words should skip))) ≡ Some (said.Program source) =
-    ap rule_in (line-words (codes "policy") (codes "program" ∷ should ∷ skip ∷ []) each) ∙ words-read should skip source some_should some_skip (source_in-words should skip source a b) in
-    let here : Then (or_fault line POLICY (rule_in (words (spaced (program_words should skip))))) (ReadsSaid profile line) (Ok (rules.Program policy)) =
-    subst (λ (o : Option RuleLine). Then (or_fault line POLICY o) (ReadsSaid profile line) (Ok (rules.Program policy))) (sym says) (policy, loaded, refl) in
+    let says : policy_in (words (spaced (program_words should skip))) ≡ Some (said.Program source) =
+    ap policy_in (line-words (codes "policy") (codes "program" ∷ should ∷ skip ∷ []) each) ∙ words-read should skip source some_should some_skip (source_in-words should skip source a b) in
+    let here : Then (or_fault line POLICY (policy_in (words (spaced (program_words should skip))))) (ReadsSaid profile line) (Ok (rules.Program policy)) =
+    subst (λ (o : Option RuleSource). Then (or_fault line POLICY o) (ReadsSaid profile line) (Ok (rules.Program policy))) (sym says) (policy, loaded, refl) in
     subst (IsRead profile line (rules.Program policy)) (sym e) (line-plain (program_words should skip) each, here)

@@ -11,16 +11,16 @@ use Rattle.doc_text.specs.Text.{pieces}
 use Rattle.doc_text.specs.Words.{words}
 use Rattle.doc_text.specs.Faults.{fault, ◌>>=◌, or_fault, line_due, one_of, fixed_due, lines_from, Then}
 use Rattle.lock_words.specs.Lines.{form_in, limit_in}
+use Rattle.policy_text.specs.declared.rules.RuleSource.{RuleSource}
+use Rattle.policy_text.specs.declared.rules.RuleSource.TheVariants as said
 use Rattle.policy_text.specs.Headings.{heading_in}
 use Rattle.policy_text.specs.Sections.{SectionModel, attrs_in}
 use Rattle.shfl_sched.specs.declared.faults.TheConstants.{FORM, LIMIT, POLICY, PROGRAM, PASS, EVENT, OVER, PROFILE}
 use Rattle.shfl_sched.specs.declared.schedule.Rule.{Rule}
 use Rattle.shfl_sched.specs.declared.schedule.Rule.TheVariants as rules
 use Rattle.shfl_sched.specs.declared.schedule.Event.{Event}
-use Rattle.shfl_sched.specs.declared.rule.RuleLine.{RuleLine}
-use Rattle.shfl_sched.specs.declared.rule.RuleLine.TheVariants as said
 use Rattle.shfl_sched.specs.Schedules.{ScheduleModel}
-use Rattle.shfl_sched.specs.Lines.{rule_in, event_in}
+use Rattle.shfl_sched.specs.Lines.{policy_in, event_in}
 
 -- ---- the lines up to the policy
 
@@ -51,7 +51,7 @@ abbrev pub LoadsPolicy : Profile → ℕ → SourceModel → Result Rule Fault �
 LoadsPolicy profile line source (Ok rule) = (policy : PolicyModel) × IsLoaded 0 profile source policy × (rule ≡ rules.Program policy)
 LoadsPolicy profile line source (Err e) = ((policy : PolicyModel) → ¬ (IsLoaded 0 profile source policy)) × (e ≡ record { line = line; what = PROGRAM })
 
-abbrev pub ReadsSaid : Profile → ℕ → RuleLine → Result Rule Fault → Type 0
+abbrev pub ReadsSaid : Profile → ℕ → RuleSource → Result Rule Fault → Type 0
 ReadsSaid profile line said.Never read = read ≡ Ok rules.Never
 ReadsSaid profile line said.Always read = read ≡ Ok rules.Always
 ReadsSaid profile line said.Socket read = read ≡ Ok rules.Socket
@@ -59,7 +59,7 @@ ReadsSaid profile line (said.Program source) read = LoadsPolicy profile line sou
 
 -- what a policy line says; bad words or digits are fault 5
 unfoldable pub ReadsRule : Profile → ℕ → List ℕ → Result Rule Fault → Type 0
-ReadsRule profile line text read = Then (or_fault line POLICY (rule_in (words text))) (ReadsSaid profile line) read
+ReadsRule profile line text read = Then (or_fault line POLICY (policy_in (words text))) (ReadsSaid profile line) read
 
 -- ---- the passes
 

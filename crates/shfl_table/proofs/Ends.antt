@@ -226,7 +226,8 @@ module _ {A : Type 0} where
   get_snoc (y ∷ ys) x zero = ((λ _. refl), λ h. absurd (omega arith))
   get_snoc (y ∷ ys) x (suc i) = let r = get_snoc ys x i in ((λ h. r.0 (omega arith)), λ h. r.1 (omega arith))
 
-  each_snoc : (f : ℕ → A) (xs ys : List A) (x : A) → ys ≡ xs ++ x ∷ [] → x ≡ f (length xs) → ((i : ℕ) → i < length xs → slice_get xs i ≡ Some (f i)) → (i : ℕ) → i < length ys → slice_get ys i ≡ Some (f i)
+  -- each element is that of its place, with one more
+  pub each_snoc : (f : ℕ → A) (xs ys : List A) (x : A) → ys ≡ xs ++ x ∷ [] → x ≡ f (length xs) → ((i : ℕ) → i < length xs → slice_get xs i ≡ Some (f i)) → (i : ℕ) → i < length ys → slice_get ys i ≡ Some (f i)
   each_snoc f xs ys x is here below i h = let g = get_snoc xs x i in let long : length ys ≡ length xs + 1 = ap length is ∙ length-append xs (x ∷ []) in
       ap (λ l. slice_get l i) is ∙ elim (dec_lt i (length xs)) as (λ _. slice_get (xs ++ x ∷ []) i ≡ Some (f i)) [
         | yes lt ↦ g.0 lt ∙ below i lt

@@ -1,4 +1,3 @@
-pub mod Loading
 pub mod PolicyLoop
 pub mod Leftover
 pub mod Once

@@ -1,42 +1,21 @@
 -- Bytes have one reading.
-use Rattle.std.proofs.Common.{◌≡◌, ℕ, ◌+◌, List, [], ◌∷◌, ◌++◌, Option, Some, None, Result, Ok, Err, refl, sym, ap, subst, ◌∙◌}
+use Rattle.std.proofs.Common.{◌≡◌, ℕ, ◌+◌, List, [], ◌∷◌, ◌++◌, Option, Some, None, Result, Ok, Err, sym, ap, subst, ◌∙◌}
 use Rattle.std.specs.Prelude.{MatchOption}
-use Rattle.bpf_isa.specs.declared.insn.Insn.{Insn}
 use Rattle.bpf_isa.specs.declared.insn.Profile.{Profile}
 use Rattle.doc_text.specs.declared.fault.Fault.{Fault}
 use Rattle.doc_text.specs.Text.{pieces, text_in}
 use Rattle.doc_text.specs.Faults.{◌>>=◌, or_fault, Then}
 use Rattle.policy_source.specs.Source.{SourceModel}
-use Rattle.shfl_policy.specs.Loading.{Loads, IsLoaded}
-use Rattle.shfl_policy.specs.Policies.{PolicyModel}
+use Rattle.policy_text.specs.declared.rules.RuleSource.{RuleSource}
+use Rattle.policy_text.specs.declared.rules.RuleSource.TheVariants as said
+use Rattle.shfl_policy.proofs.LoadedPolicies.{loaded-once}
 use Rattle.sim_text.specs.declared.setup.Load.{Load}
 use Rattle.sim_text.specs.declared.setup.Machine.{Machine}
 use Rattle.sim_text.specs.declared.setup.Rule.{Rule}
 use Rattle.sim_text.specs.declared.setup.Rule.TheVariants as rules
-use Rattle.sim_text.specs.declared.policies.RuleLine.{RuleLine}
-use Rattle.sim_text.specs.declared.policies.RuleLine.TheVariants as said
 use Rattle.sim_text.specs.Grammar.{LoadsPolicy, ReadsRule, policy_says, candidate, ReadsPolicies, setup_in, front_in, ReadsBehind, ReadsSetup}
 use Rattle.sim_text.specs.Lines.{PolicyLine}
 use Rattle.sim_text.specs.Setups.{CandidateModel, SetupModel}
-
-loads-once : (profile : Profile) (source : Option (List ℕ)) (a b : Option (List Insn)) → Loads profile source a → Loads profile source b → a ≡ b
-loads-once profile None None None h k = refl
-loads-once profile None None (Some y) h k = absurd k
-loads-once profile None (Some x) b h k = absurd h
-loads-once profile (Some bytes) None b h k = absurd h
-loads-once profile (Some bytes) (Some x) None h k = absurd k
-loads-once profile (Some bytes) (Some x) (Some y) h k = let e = h.0 in let f = k.0 in cc
-
-abbrev of_parts : ℕ → Option (List Insn) → Option (List Insn) → PolicyModel
-of_parts called should skip = record { name = called; should = should; skip = skip }
-
-loaded-once : (called : ℕ) (profile : Profile) (source : SourceModel) (a b : PolicyModel) → IsLoaded called profile source a → IsLoaded called profile source b → a ≡ b
-loaded-once called profile source a b h k =
-    let name : a.name ≡ b.name = h.name ∙ sym k.name in
-    let should = loads-once profile source.should a.should b.should h.should k.should in
-    let skip = loads-once profile source.skip a.skip b.skip h.skip k.skip in
-    let same : of_parts a.name a.should a.skip ≡ of_parts b.name b.should b.skip = rw (name, should, skip) refl in
-    same
 
 policy-once : (profile : Profile) (line : ℕ) (source : SourceModel) (a b : Result Rule Fault) → LoadsPolicy profile line source a → LoadsPolicy profile line source b → a ≡ b
 policy-once profile line source (Ok a) (Ok b) h k =
@@ -47,9 +26,11 @@ policy-once profile line source (Err e) (Ok b) h k = absurd (h.0 k.0 k.1)
 policy-once profile line source (Err e) (Err f) h k = ap (λ (x : Fault). Err x) (h.1 ∙ sym k.1)
 
 -- a policy line says one rule, or has one fault
-rule-once : (profile : Profile) (line : ℕ) (r : RuleLine) (a b : Result Rule Fault) → ReadsRule profile line r a → ReadsRule profile line r b → a ≡ b
+rule-once : (profile : Profile) (line : ℕ) (r : RuleSource) (a b : Result Rule Fault) → ReadsRule profile line r a → ReadsRule profile line r b → a ≡ b
 unfolding ReadsRule
-rule-once profile line (said.Simple rule) a b h k = h ∙ sym k
+rule-once profile line said.Never a b h k = h ∙ sym k
+rule-once profile line said.Always a b h k = h ∙ sym k
+rule-once profile line said.Socket a b h k = h ∙ sym k
 rule-once profile line (said.Program source) a b h k = policy-once profile line source a b h k
 
 abbrev Policies : Type 0

@@ -10,15 +10,16 @@ use Rattle.doc_text.specs.Text.{pieces, text_in}
 use Rattle.doc_text.specs.Words.{words}
 use Rattle.doc_text.specs.Faults.{fault, ◌>>=◌, or_fault, one_of, fixed_due, Then}
 use Rattle.lock_words.specs.Lines.{form_in, limit_in}
+use Rattle.policy_text.specs.declared.rules.RuleSource.{RuleSource}
+use Rattle.policy_text.specs.declared.rules.RuleSource.TheVariants as said
 use Rattle.policy_text.specs.Headings.{profile_in}
 use Rattle.policy_text.specs.Sections.{SectionModel, begins, attrs_in}
+use Rattle.sim_setup.specs.declared.built_in.BuiltIn.TheVariants as simple
 use Rattle.sim_text.specs.declared.faults.TheConstants.{TITLE, PROFILE, FORM, LIMIT, LAYOUT, COSTS, WORK, UNTIL, SEEDS, POLICY, POLICIES, PROGRAM, PASS, OVER}
 use Rattle.sim_text.specs.declared.setup.Machine.{Machine}
 use Rattle.sim_text.specs.declared.setup.Load.{Load}
 use Rattle.sim_text.specs.declared.setup.Rule.{Rule}
 use Rattle.sim_text.specs.declared.setup.Rule.TheVariants as rules
-use Rattle.sim_text.specs.declared.policies.RuleLine.{RuleLine}
-use Rattle.sim_text.specs.declared.policies.RuleLine.TheVariants as said
 use Rattle.sim_text.specs.Lines.{layout_in, costs_in, until_in, seeds_in, PolicyLine, policy_in}
 use Rattle.sim_text.specs.Setups.{CandidateModel, SetupModel}
 use Rattle.sim_text.specs.Works.{work_in}
@@ -52,8 +53,10 @@ LoadsPolicy profile line source (Ok rule) = (policy : PolicyModel) × IsLoaded 0
 LoadsPolicy profile line source (Err e) = ((policy : PolicyModel) → ¬ (IsLoaded 0 profile source policy)) × (e ≡ record { line = line; what = PROGRAM })
 
 -- the rule that a policy line says
-unfoldable pub ReadsRule : Profile → ℕ → RuleLine → Result Rule Fault → Type 0
-ReadsRule profile line (said.Simple rule) read = read ≡ Ok (rules.Simple rule)
+unfoldable pub ReadsRule : Profile → ℕ → RuleSource → Result Rule Fault → Type 0
+ReadsRule profile line said.Never read = read ≡ Ok (rules.Simple simple.Never)
+ReadsRule profile line said.Always read = read ≡ Ok (rules.Simple simple.Always)
+ReadsRule profile line said.Socket read = read ≡ Ok (rules.Simple simple.Socket)
 ReadsRule profile line (said.Program source) read = LoadsPolicy profile line source read
 
 abbrev pub candidate : List ℕ → Rule → CandidateModel

@@ -1,18 +1,15 @@
 -- What one line of a setup says.
 use Rattle.std.specs.Prelude.{ℕ, ◌+◌, List, [], ◌∷◌, ◌&&◌, Bool, false, length, Option, Some, None, nat_le, nat_lt, ◌==◌, if◌then◌else◌, codes}
-use Rattle.doc_text.specs.Words.{is_word, same, three, four, five, ◌>>?◌}
+use Rattle.doc_text.specs.Words.{is_word, same, three, four, ◌>>?◌}
 use Rattle.doc_text.specs.Numbers.{number_in}
 use Rattle.lock_words.specs.Lines.{behind}
-use Rattle.policy_text.specs.Programs.{source_in}
+use Rattle.policy_text.specs.declared.rules.RuleSource.{RuleSource}
+use Rattle.policy_text.specs.Rules.{otherwise, words_behind, rule_in}
 use Rattle.sim_setup.specs.declared.setup.Costs.{Costs}
 use Rattle.sim_setup.specs.declared.setup.Layout.{Layout}
 use Rattle.sim_setup.specs.declared.setup.Layout.TheVariants as layouts
-use Rattle.sim_setup.specs.declared.built_in.BuiltIn.{BuiltIn}
-use Rattle.sim_setup.specs.declared.built_in.BuiltIn.TheVariants as simple
-use Rattle.sim_text.specs.declared.policies.RuleLine.{RuleLine}
-use Rattle.sim_text.specs.declared.policies.RuleLine.TheVariants as said
 use Rattle.sim_text.specs.declared.setup.Seeds.{Seeds}
-use Rattle.sim_text.specs.Words.{otherwise, number_next, name_next, none_left}
+use Rattle.sim_text.specs.Words.{number_next, name_next, none_left}
 
 -- ---- the lock
 
@@ -121,13 +118,6 @@ seeds_in ws = otherwise (one_seed ws) (several_seeds ws)
 
 -- ---- the policies
 
-abbrev pub simple_named : List ℕ → Option BuiltIn
-simple_named word =
-    if same word (codes "never") then Some simple.Never
-    else if same word (codes "always") then Some simple.Always
-    else if same word (codes "socket") then Some simple.Socket
-    else None
-
 -- a word of 1 to 32 bytes
 abbrev pub is_name : List ℕ → Bool
 is_name word = is_word word && nat_le (length word) 32
@@ -135,25 +125,13 @@ is_name word = is_word word && nat_le (length word) 32
 -- a policy line: a name and a rule, its programs still as bytes
 pub record PolicyLine : Type 0 where
   pub name : List ℕ
-  pub rule : RuleLine
+  pub rule : RuleSource
 
--- the name and the rule in `policy NAME never`, `policy NAME always` or `policy NAME socket`
-abbrev pub simple_words_in : List (List ℕ) → Option (List ℕ × BuiltIn)
-simple_words_in ws = three ws >>? λ w. if same w.0 (codes "policy") && is_name w.1 then
-    (simple_named w.2 >>? λ rule. Some (w.1, rule)) else None
+-- a name, and a rule behind it
+abbrev pub named_in : List (List ℕ) → Option PolicyLine
+named_in [] = None
+named_in (name ∷ ws) = if is_name name then (rule_in ws >>? λ rule. Some (record { name = name; rule = rule })) else None
 
-abbrev pub simple_in : List (List ℕ) → Option PolicyLine
-simple_in ws = simple_words_in ws >>? λ w. Some (record { name = w.0; rule = said.Simple w.1 })
-
--- the name and the words of the programs in `policy NAME program SHOULD SKIP`
-abbrev pub program_words_in : List (List ℕ) → Option (List ℕ × List ℕ × List ℕ)
-program_words_in ws = five ws >>? λ w.
-    if same w.0 (codes "policy") && is_name w.1 && same w.2 (codes "program") && is_word w.3 && is_word w.4 then Some (w.1, w.3, w.4) else None
-
--- `policy NAME program SHOULD SKIP`
-abbrev pub program_in : List (List ℕ) → Option PolicyLine
-program_in ws = program_words_in ws >>? λ w. source_in w.1 w.2 >>? λ source. Some (record { name = w.0; rule = said.Program source })
-
--- a policy line
+-- `policy`, a name and a rule
 abbrev pub policy_in : List (List ℕ) → Option PolicyLine
-policy_in ws = otherwise (simple_in ws) (program_in ws)
+policy_in ws = words_behind (codes "policy") ws >>? named_in

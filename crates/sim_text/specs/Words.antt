@@ -3,11 +3,6 @@ use Rattle.std.specs.Prelude.{ℕ, List, [], ◌∷◌, Option, Some, None, if�
 use Rattle.doc_text.specs.Words.{words, same, ◌>>?◌}
 use Rattle.doc_text.specs.Numbers.{number_in}
 
--- the first value, or else the second
-abbrev pub otherwise : {A : Type 0} → Option A → Option A → Option A
-otherwise None second = second
-otherwise (Some a) second = Some a
-
 -- the words of a text, or of none
 abbrev pub words_left : Option (List ℕ) → List (List ℕ)
 words_left None = []

@@ -5,7 +5,8 @@ use Rattle.doc_text.specs.Numbers.{number_in}
 use Rattle.sim_setup.specs.declared.setup.Work.{Work}
 use Rattle.sim_text.specs.declared.setup.Queueing.{Queueing}
 use Rattle.sim_text.specs.declared.setup.Queueing.TheVariants.{AtOnce, After, ByPolicy}
-use Rattle.sim_text.specs.Words.{otherwise, number_next, name_next}
+use Rattle.policy_text.specs.Rules.{otherwise}
+use Rattle.sim_text.specs.Words.{number_next, name_next}
 
 -- `work HOLD LINES THINK READS`: at most 64 lines, and at most 1000 reads of a thousand calls; the passes queue at once
 abbrev pub work_alone : List (List ℕ) → Option (Work × Queueing)

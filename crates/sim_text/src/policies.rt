@@ -4,46 +4,25 @@ ghost use Rattle.doc_text.specs.Text.{pieces};
 ghost use Rattle.doc_text.specs.Words.{words};
 ghost use Rattle.doc_text.specs.Faults.{GivesOrWants};
 ghost use Rattle.policy_text.specs.Errors.{fault_of, Allows};
-ghost use Rattle.sim_text.specs.Lines.{simple_named, is_name, simple_words_in, program_words_in, program_in, policy_in};
+ghost use Rattle.sim_text.specs.Lines.{is_name, named_in, policy_in};
 ghost use Rattle.sim_text.specs.Said.{line_said};
 ghost use Rattle.sim_text.specs.Grammar.{policy_says, LoadsPolicy, ReadsRule, ReadsPolicies};
 
 use crate::faults::{POLICIES, POLICY, PROGRAM};
 use crate::setup::{Candidate, Rule};
 use bpf_isa::Profile;
-use doc_text::{five_words, is_same, text_at, three_words};
+use doc_text::{text_at, word_at};
 use policy_source::PolicySource;
-use policy_text::{DocumentError, NoMemory, begins, source_of};
+use policy_text::{DocumentError, NoMemory, RuleSource, begins, rule_source, text_behind};
 use shfl_policy::{LoadError, load};
 use sim_setup::BuiltIn;
 use std::alloc::Global;
-
-/// The rule that a policy line says, the programs as their bytes.
-#[derive(Drop)]
-pub enum RuleLine {
-    Simple(BuiltIn),
-    Program(PolicySource),
-}
 
 /// What a policy line says.
 #[derive(Drop)]
 pub struct NamedLine {
     name: Vec<u8>,
-    rule: RuleLine,
-}
-
-fn simple_named(word: &[u8]) -> Option<BuiltIn>
-    ensures { result ≡ simple_named word.now }
-{
-    if is_same(word, b"never") {
-        Some(BuiltIn::Never)
-    } else if is_same(word, b"always") {
-        Some(BuiltIn::Always)
-    } else if is_same(word, b"socket") {
-        Some(BuiltIn::Socket)
-    } else {
-        None
-    }
+    rule: RuleSource,
 }
 
 fn is_name(word: &[u8]) -> bool
@@ -52,56 +31,31 @@ fn is_name(word: &[u8]) -> bool
     !word.is_empty() && word.len() <= 32
 }
 
-// The name and the rule of a policy that needs no program.
-fn simple_words(text: &[u8]) -> Option<(&[u8], BuiltIn)>
-    ensures { option_map (λ w. (w.0.now, w.1)) result ≡ simple_words_in (words text.now) }
+// A name, and the text of a rule behind it.
+fn named(alloc: Global, text: &[u8]) -> Result<Option<NamedLine>, NoMemory>
+    ensures { IfOk result (λ o. option_map line_said o ≡ named_in (words text.now)) }
 {
-    let (word, name, rule) = three_words(text)?;
-    if !is_same(word, b"policy") || !is_name(name) {
-        return None;
+    let (name, rest) = word_at(text);
+    if !is_name(name) {
+        return Ok(None);
     }
-    let rule = simple_named(rule)?;
-    Some((name, rule))
-}
-
-// The name and the two words of the programs.
-fn program_words(text: &[u8]) -> Option<(&[u8], &[u8], &[u8])>
-    ensures { option_map (λ w. (w.0.now, w.1.now, w.2.now)) result
-        ≡ program_words_in (words text.now) }
-{
-    let (word, name, kind, should, skip) = five_words(text)?;
-    if !is_same(word, b"policy") || !is_name(name) || !is_same(kind, b"program") {
-        return None;
-    }
-    if should.is_empty() || skip.is_empty() {
-        return None;
-    }
-    Some((name, should, skip))
-}
-
-fn program_line(alloc: Global, text: &[u8]) -> Result<Option<NamedLine>, NoMemory>
-    ensures { IfOk result (λ o. option_map line_said o ≡ program_in (words text.now)) }
-{
-    let Some((name, should, skip)) = program_words(text) else {
+    let Some(rest) = rest else {
         return Ok(None);
     };
-    let Some(source) = source_of(alloc, should, skip)? else {
+    let Some(rule) = rule_source(alloc, rest)? else {
         return Ok(None);
     };
     let name = Vec::from_slice(alloc, name)?;
-    let rule = RuleLine::Program(source);
     Ok(Some(NamedLine { name, rule }))
 }
 
 fn policy_line(alloc: Global, text: &[u8]) -> Result<Option<NamedLine>, NoMemory>
     ensures { IfOk result (λ o. option_map line_said o ≡ policy_in (words text.now)) }
 {
-    let Some((name, rule)) = simple_words(text) else {
-        return program_line(alloc, text);
-    };
-    let name = Vec::from_slice(alloc, name)?;
-    let rule = RuleLine::Simple(rule);
-    Ok(Some(NamedLine { name, rule }))
+    match text_behind(b"policy", text) {
+        Some(rest) => named(alloc, rest),
+        None => Ok(None),
+    }
 }
 
 #[tactic(auto, unfolding(crate::specs::Grammar::policy_says))]
@@ -159,13 +113,15 @@ fn rule_of(
     alloc: Global,
     profile: Profile,
     line: u32,
-    rule: RuleLine,
+    rule: RuleSource,
 ) -> Result<Rule, DocumentError>
     ensures { Allows (λ r. r) result (ReadsRule profile line rule) }
 {
     match rule {
-        RuleLine::Simple(rule) => Ok(Rule::Simple(rule)),
-        RuleLine::Program(source) => loaded(alloc, profile, line, &source),
+        RuleSource::Never => Ok(Rule::Simple(BuiltIn::Never)),
+        RuleSource::Always => Ok(Rule::Simple(BuiltIn::Always)),
+        RuleSource::Socket => Ok(Rule::Simple(BuiltIn::Socket)),
+        RuleSource::Program(source) => loaded(alloc, profile, line, &source),
     }
 }
 

@@ -1,6 +1,6 @@
 use Rattle.std.proofs.Common.{rules, length-append, ◌++◌, ◌∷◌, [], arith, ◌≡◌, ℕ, ◌+◌, ◌<◌, ◌≤◌, length, vec_len, vec_capacity, slice_get, slice_index, slice_index_or, Some, sym, ap, ◌∙◌, subst}
 use Rattle.rw_cell.specs.RwCells.{fresh, cell_on, no_attr}
-use Rattle.rw_cell.proofs.EachPlace.{each_is-more}
+use Rattle.shfl_table.proofs.Ends.{each_snoc}
 use Rattle.rw_cell.proofs.opening.cell_passes.Goals as goal
 
 pub loop-pass-preserved : goal.loop-pass-preserved
@@ -16,6 +16,6 @@ loop-pass-preserved g c = let i = c.loop-pass.invariant in let p = c.push_reserv
       long,
       len,
       room,
-      λ j h. each_is-more (λ n. fresh cell n (slice_index c.args.calls.now n) (slice_index_or c.args.attrs.now n no_attr)) c.loop-pass.all.items c.push_reserved.new.self.items _ p.items
+      λ j h. each_snoc (λ n. fresh cell n (slice_index c.args.calls.now n) (slice_index_or c.args.attrs.now n no_attr)) c.loop-pass.all.items c.push_reserved.new.self.items _ p.items
           (here ∙ (λ m. fresh cell (place m) (slice_index c.args.calls.now (place m)) (slice_index_or c.args.attrs.now (place m) no_attr))) (λ k l. i.5 k (subst (λ n. k < n) (sym old) l)) j (subst (λ n. j < n) new h),
     )

@@ -1,6 +1,6 @@
 use Rattle.std.proofs.Common.{refl, subst}
 use Rattle.shfl_policy.specs.Loading.{IsLoadError}
-use Rattle.shfl_sched.proofs.Loading.{not_loaded}
+use Rattle.shfl_policy.proofs.LoadedPolicies.{not_loaded}
 use Rattle.shfl_sched.proofs.rule.loaded.Goals as goal
 
 pub returns-in-Err-Bad : goal.returns-in-Err-Bad

@@ -1,4 +1,4 @@
-use Rattle.std.proofs.Common.{◌≡◌, refl}
+use Rattle.std.proofs.Common.{refl}
 use Rattle.doc_text.proofs.Joining.{text_in-ended}
 use Rattle.sim_text.specs.Grammar.{over_in}
 use Rattle.sim_text.proofs.passes.over_at.Goals as goal

@@ -1,6 +1,6 @@
 use Rattle.std.proofs.Common.{refl, subst}
 use Rattle.shfl_policy.specs.Loading.{IsLoadError}
-use Rattle.sim_text.proofs.Loading.{not_loaded}
+use Rattle.shfl_policy.proofs.LoadedPolicies.{not_loaded}
 use Rattle.sim_text.proofs.policies.loaded.Goals as goal
 
 pub returns-in-Err-Bad : goal.returns-in-Err-Bad

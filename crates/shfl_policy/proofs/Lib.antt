@@ -1,0 +1,2 @@
+pub mod LoadedPolicies
+mod SameInsns
