@@ -164,7 +164,8 @@ bool shfl_set_attr(struct shfl_thread *me, uint16_t prio, uint16_t class_of, uin
     uint64_t attr = (uint16_t)node | (uint64_t)prio << 16 | (uint64_t)class_of << 32 | (uint64_t)kind << 48;
     if (!shfl_seat_set_attr(&me->seat, attr)) return false;
     me->attr = attr;
-    uint32_t before = __atomic_load_n(&me->mark, __ATOMIC_RELAXED), mark = (me->number + 1) << 16 | node % SHFL_MARK_WATCHED;
+    uint32_t before = __atomic_load_n(&me->mark, __ATOMIC_RELAXED);
+    uint32_t mark = (me->number + 1) << SHFL_MARK_NUMBER | (uint32_t)me->turn << SHFL_MARK_TURN | node % SHFL_MARK_SOCKETS;
     while (!__atomic_compare_exchange_n(&me->mark, &before, mark | (before & SHFL_MARK_WATCHED), false, __ATOMIC_SEQ_CST, __ATOMIC_RELAXED)) {}
     return true;
 }
@@ -177,6 +178,7 @@ static struct shfl_thread *take_free(int *error) {
     if (is_new && !shfl_open_counts(&shfl_process, me->number + 1)) *error = ENOMEM;
     if (*error) return NULL;
     free_threads = me->next_free;
+    me->turn = (me->turn + 1) % SHFL_MARK_TURNS;
     me->tid = (uint32_t)syscall(SYS_gettid);
     shfl_seated++;
     if (is_new) shfl_store(&shfl_process.threads_seen, me->number + 1);
