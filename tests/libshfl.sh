@@ -76,6 +76,7 @@ seats() { case "$1" in lives | behind) echo SHFL_THREADS=3 ;; forks) echo SHFL_T
 for form in rw rw-park; do
     for name in "${tests[@]}" sleeps records steps tries stolen between shares behind attached; do run "$name, $form" env SHFL_FORM="$form" $(seats "$name") "$room/$name"; done
 done
+run "policies, without memory" "$room/policies" memory
 run "forks, with another user's rights" env SHFL_THREADS=4 "$room/forks" changed
 run "closes" env SHFL_CONTROL="$room/control" "$room/closes" "$top/libshfl/install"
 # (whoever is left then takes no signal)
