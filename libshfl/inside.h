@@ -283,20 +283,16 @@ void shfl_control_go_on(void);
 int shfl_refuse(int error, const void *lock, const char *what);
 void shfl_note_taken(struct shfl_thread *me, const void *lock);
 void shfl_note_given(struct shfl_thread *me, const void *lock);
-static inline void shfl_taken(struct shfl_thread *me, const void *lock) {
 #ifdef SHFL_CHECKED
-    shfl_note_taken(me, lock);
+enum { SHFL_NOTES = 1 };
+#else
+enum { SHFL_NOTES = 0 };
 #endif
-    (void)lock;
-    me->holding++;
-}
 
-static inline void shfl_given(struct shfl_thread *me, const void *lock) {
-    me->holding--;
-#ifdef SHFL_CHECKED
-    shfl_note_given(me, lock);
-#endif
-    (void)lock;
-}
+/* Before the seat's first call for a lock; where the thread doesn't get it, after the last one; where it has it; and where it has it no more. */
+static inline void shfl_taking(struct shfl_thread *me) { me->holding++; }
+static inline void shfl_not_taken(struct shfl_thread *me) { me->holding--; }
+static inline void shfl_taken(struct shfl_thread *me, const void *lock) { if (SHFL_NOTES) shfl_note_taken(me, lock); }
+static inline void shfl_given(struct shfl_thread *me, const void *lock) { me->holding--; if (SHFL_NOTES) shfl_note_given(me, lock); }
 #pragma GCC visibility pop
 #endif

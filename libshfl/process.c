@@ -22,19 +22,21 @@ static uint32_t free_locks; /* the last number that came back, plus one */
 static pthread_key_t at_end;
 
 /* Has the guard of the lists. */
-static void free_seat(struct shfl_thread *thread) {
+void shfl_free_seat(struct shfl_thread *thread) {
     thread->aside = 0;
     thread->tid = 0;
+    thread->caller = NULL;
     __atomic_fetch_and(&thread->unusual, ~(uint32_t)SHFL_IS_ENDING, __ATOMIC_SEQ_CST);
     thread->next_free = free_threads;
     free_threads = thread;
     shfl_seated--;
 }
 
+/* Where somebody forks the seat stays as it is until it is looked for as that of a thread that is gone. */
 static void give_seat_back(struct shfl_thread *me) {
     shfl_me = NULL;
-    shfl_guard_lock(&shfl_lists);
-    free_seat(me);
+    if (!shfl_guard_lock_unless_forking(&shfl_lists)) return;
+    shfl_free_seat(me);
     shfl_guard_unlock(&shfl_lists);
 }
 
@@ -48,7 +50,7 @@ static void free_seats_of_gone(void) {
     for (uint32_t k = 0; k < shfl_process.threads_seen; k++) {
         struct shfl_thread *thread = &shfl_process.threads[k];
         bool is_gone = thread->tid != 0 && syscall(SYS_tgkill, getpid(), thread->tid, 0) != 0 && errno == ESRCH;
-        if (is_gone && __atomic_load_n(&thread->holding, __ATOMIC_RELAXED) == 0) free_seat(thread);
+        if (is_gone && __atomic_load_n(&thread->holding, __ATOMIC_RELAXED) == 0) shfl_free_seat(thread);
     }
     if (!free_threads) looked_at = now;
     errno = before;
@@ -162,7 +164,10 @@ bool shfl_set_attr(struct shfl_thread *me, uint16_t prio, uint16_t class_of, uin
     unsigned cpu = 0, node = 0;
     if (syscall(SYS_getcpu, &cpu, &node, NULL)) node = 0;
     uint64_t attr = (uint16_t)node | (uint64_t)prio << 16 | (uint64_t)class_of << 32 | (uint64_t)kind << 48;
-    if (!shfl_seat_set_attr(&me->seat, attr)) return false;
+    shfl_taking(me);
+    bool done = shfl_seat_set_attr(&me->seat, attr);
+    shfl_not_taken(me);
+    if (!done) return false;
     me->attr = attr;
     uint32_t before = __atomic_load_n(&me->mark, __ATOMIC_RELAXED);
     uint32_t mark = (me->number + 1) << SHFL_MARK_NUMBER | (uint32_t)me->turn << SHFL_MARK_TURN | node % SHFL_MARK_SOCKETS;
@@ -199,6 +204,7 @@ SHFL_COLD struct shfl_thread *shfl_take_seat(int *error) {
     }
     if (ends) __atomic_fetch_or(&me->unusual, SHFL_IS_ENDING, __ATOMIC_SEQ_CST);
     shfl_me = me;
+    shfl_seated_in_fork(me);
     shfl_set_attr(me, 0, 0, 0);
     shfl_control();
     return me;

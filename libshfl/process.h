@@ -1,14 +1,23 @@
-/* What process.c and forks.c share. */
+/* What process.c and forks.c share, and what a fork means to a call that takes a lock. */
 #ifndef SHFL_PROCESS_H
 #define SHFL_PROCESS_H
 #include "inside.h"
 #pragma GCC visibility push(hidden)
 
 extern shfl_guard shfl_lists; /* of what is open, what is free, and how many threads have a seat */
+void shfl_free_seat(struct shfl_thread *thread); /* of who has the guard of the lists */
 extern uint32_t shfl_seated, shfl_fresh_locks; /* how many do, and how many numbers were given for the first time */
 
 extern pid_t shfl_owner; /* the process whose threads have the seats */
 
 int shfl_hear_of_forks(void); /* once, whoever calls */
+bool shfl_guard_lock_unless_forking(shfl_guard *guard);
+
+/* For handlers of forks that the program registered before the library was opened: the child's thread learns that it is one, before a call that goes the longer way; and a thread that is about to
+ * wait lets go of the guards that it has as it forks, if it does, and takes them again afterwards. */
+void shfl_child_hears(void);
+void shfl_seated_in_fork(struct shfl_thread *me); /* it has its seat from now on */
+bool shfl_fork_rests(void);
+void shfl_fork_goes_on(void);
 #pragma GCC visibility pop
 #endif

@@ -91,7 +91,9 @@ static bool sleep_outside(struct waiter *waiter, uint64_t most) {
     }
     if (!won) {
         if (waiter->shared) shfl_ring(&parking->head_asleep);
+        shfl_not_taken(waiter->me); /* meanwhile its seat is at rest */
         waiter->inside = shfl_sleep_as(&parking->wakeups, seen, most, waiter->shared ? SHFL_READER : SHFL_WRITER);
+        shfl_taking(waiter->me);
     }
     if (waiter->shared) __atomic_fetch_sub(readers, 1, __ATOMIC_SEQ_CST);
     __atomic_fetch_sub(&parking->outside, 1, __ATOMIC_SEQ_CST);
