@@ -107,9 +107,9 @@ static int wait_on(shfl_cond_t *cond, shfl_mutex_t *mutex, clockid_t clock, cons
     uint32_t seen = shfl_load(&cond->signals);
     shfl_comes_to_wait(cond); /* there is room: who waits has the mutex, and so a seat, and whoever hasn't is refused below */
     int error = shfl_mutex_unlock(mutex);
-    bool forks = !error && shfl_fork_rests();
+    bool rested = !error && shfl_fork_rests();
     int told = error ? error : sleep_on(cond, seen, clock, deadline);
-    if (forks) shfl_fork_goes_on();
+    if (rested) shfl_fork_goes_on();
     shfl_ends_to_wait(cond, told == 0 && shfl_load(&cond->signals) != seen);
     if (!error) error = lock_again(mutex);
     if (ends) __atomic_fetch_or(&shfl_me->unusual, SHFL_IS_ENDING, __ATOMIC_SEQ_CST);

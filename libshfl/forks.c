@@ -4,6 +4,7 @@
 #include "arenas.h"
 #include "locking.h"
 #include "process.h"
+#include "races.h"
 
 static uint32_t hears; /* 1 once the handlers are registered */
 
@@ -80,6 +81,19 @@ bool shfl_fork_rests(void) {
 
 void shfl_fork_goes_on(void) { before_fork(); }
 
+static shfl_guard opening;
+
+bool shfl_begin_opening(void) {
+    bool rested = shfl_fork_rests();
+    shfl_guard_lock(&opening);
+    return rested;
+}
+
+void shfl_end_opening(bool rested) {
+    shfl_guard_unlock(&opening);
+    if (rested) shfl_fork_goes_on();
+}
+
 /* What this thread has it has by another number from now on, or it stays stale. All of it is noted first, so that none that is given here is given up for another. */
 static void renumber_all(struct shfl_thread *me, uint32_t given) {
     for (uint32_t k = 0; k < given; k++)
@@ -109,6 +123,7 @@ static void in_child(void) {
     struct shfl_thread *me = shfl_me;
     int cancels;
     forked = getpid();
+    shfl_store(&opening, 0); /* what was opened just then is lost; a lock that gets another number may open anew */
     pthread_setcancelstate(PTHREAD_CANCEL_DISABLE, &cancels);
     uint32_t given = shfl_seated > (me != NULL) ? shfl_fresh_locks : 0; /* where others had seats */
     for (uint32_t k = 0; k < given; k++) {
@@ -138,6 +153,8 @@ static void at_child(void) {
 }
 
 int shfl_hear_of_forks(void) {
+    shfl_races_own(&opening, sizeof opening);
+    shfl_races_own(&forking, sizeof forking);
     if (shfl_load(&hears) || __atomic_exchange_n(&hears, 1, __ATOMIC_SEQ_CST)) return 0;
     int error = pthread_atfork(before_fork, after_fork, at_child);
     if (error) shfl_store(&hears, 0);

@@ -97,9 +97,9 @@ int shfl_take_after(struct shfl_thread *me, uint32_t *word, uint32_t number, boo
     uint64_t since = shfl_clock();
     shfl_count_contended(me, lock);
     shfl_begins_to_wait(me, lock, shared, caller);
-    bool forks = shfl_fork_rests();
+    bool rested = shfl_fork_rests();
     int error = shfl_wait(me, lock, shared);
-    if (forks) shfl_fork_goes_on();
+    if (rested) shfl_fork_goes_on();
     shfl_count_waited(me, lock, since);
     return error ? had_not(me, error) : had(me, word, lock, shared);
 }
@@ -137,9 +137,9 @@ static int wait_until(struct shfl_thread *me, uint32_t lock, bool shared, clocki
     uint64_t since = shfl_clock();
     shfl_count_contended(me, lock);
     shfl_begins_to_wait(me, lock, shared, SHFL_CALLER(me));
-    bool forks = shfl_fork_rests();
+    bool rested = shfl_fork_rests();
     int error = shfl_wait_until(me, lock, shared, clock, deadline);
-    if (forks) shfl_fork_goes_on();
+    if (rested) shfl_fork_goes_on();
     shfl_count_waited(me, lock, since);
     if (error) shfl_happens(me, lock, SHFL_GIVES_UP);
     return error;

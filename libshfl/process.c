@@ -93,6 +93,7 @@ static void end_thread(void *at) {
 /* Gives each thread and class the seat of its number, and keeps the last one for loading policies. */
 static void deal(struct shfl_seat *seats) {
     struct shfl_process *all = &shfl_process;
+    free_threads = NULL;
     for (uint32_t k = 0; k < all->thread_count; k++) {
         struct shfl_thread *thread = &all->threads[all->thread_count - 1 - k];
         thread->number = all->thread_count - 1 - k;
@@ -110,6 +111,18 @@ static void own_statics(void) {
     OWN(shfl_process), OWN(shfl_lists), OWN(is_open), OWN(shfl_seated), OWN(shfl_owner), OWN(free_threads), OWN(shfl_fresh_locks), OWN(free_locks), OWN(at_end);
 }
 
+/* The process's lists begin, at once for who forks. */
+static void begin_with(struct shfl_seat *seats) {
+    shfl_guard_lock(&shfl_lists);
+    deal(seats);
+    shfl_process.arena_count = 1;
+    shfl_store(&shfl_process.lock_count, shfl_process.arena_locks);
+    shfl_owner = getpid();
+    __atomic_store_n(&is_open, true, __ATOMIC_RELEASE);
+    shfl_guard_unlock(&shfl_lists);
+}
+
+/* Has the guard of openings. In the child of a fork that came meanwhile it is done again, from the beginning. */
 static int open_arena(void) {
     struct shfl_process *all = &shfl_process;
     if (!shfl_asked_for(all)) return EINVAL;
@@ -120,15 +133,10 @@ static int open_arena(void) {
         return ENOMEM;
     }
     uint8_t answer = shfl_seats_open(all->arena_locks, false, all->form, all->limit, seats, count);
-    if (answer == SHFL_DONE) deal(seats);
+    if (answer == SHFL_DONE) begin_with(seats);
+    else shfl_free_room(all);
     free(seats);
-    if (answer != SHFL_DONE) {
-        shfl_free_room(all);
-        return answer == SHFL_BAD ? EINVAL : ENOMEM;
-    }
-    all->arena_count = 1;
-    shfl_store(&all->lock_count, all->arena_locks);
-    return 0;
+    return answer == SHFL_DONE ? 0 : answer == SHFL_BAD ? EINVAL : ENOMEM;
 }
 
 SHFL_COLD int shfl_begin_process(void) {
@@ -149,13 +157,9 @@ SHFL_COLD int shfl_begin_process(void) {
 SHFL_COLD int shfl_open_process(void) {
     if (__atomic_load_n(&is_open, __ATOMIC_ACQUIRE)) return 0;
     int error = shfl_begin_process();
-    shfl_guard_lock(&shfl_lists);
-    if (!error && !is_open) {
-        error = open_arena();
-        shfl_owner = getpid();
-        __atomic_store_n(&is_open, !error, __ATOMIC_RELEASE);
-    }
-    shfl_guard_unlock(&shfl_lists);
+    bool rested = shfl_begin_opening();
+    if (!error && !is_open) error = open_arena();
+    shfl_end_opening(rested);
     return error;
 }
 
@@ -216,17 +220,26 @@ uint32_t shfl_number_at(uint32_t k) {
     return within < 4 * quarter ? k - within + within % quarter * 4 + within / quarter : k;
 }
 
-static int take_number(uint32_t *lock) {
-    int error = 0;
+/* False: none is free of as many as `had` says. */
+static bool take_number_of(uint32_t *lock, uint32_t *had) {
+    bool is_done = true;
     shfl_guard_lock(&shfl_lists);
+    *had = shfl_process.lock_count;
     if (free_locks > 0) {
         *lock = free_locks - 1;
         free_locks = shfl_process.totals[*lock].next_free;
+    } else if (shfl_fresh_locks < *had) {
+        *lock = shfl_number_at(shfl_fresh_locks++);
     } else {
-        if (shfl_fresh_locks == shfl_process.lock_count) error = shfl_grow();
-        if (!error) *lock = shfl_number_at(shfl_fresh_locks++);
+        is_done = false;
     }
     shfl_guard_unlock(&shfl_lists);
+    return is_done;
+}
+
+static int take_number(uint32_t *lock) {
+    int error = 0;
+    for (uint32_t had; !error && !take_number_of(lock, &had);) error = shfl_grow(had);
     return error;
 }
 

@@ -13,6 +13,10 @@ extern pid_t shfl_owner; /* the process whose threads have the seats */
 int shfl_hear_of_forks(void); /* once, whoever calls */
 bool shfl_guard_lock_unless_forking(shfl_guard *guard);
 
+/* Around the opening of an arena, of which there is one at a time. It takes memory, as `malloc` may have it for a fork already, so no guard of a fork's is had meanwhile. */
+bool shfl_begin_opening(void);
+void shfl_end_opening(bool rested);
+
 /* For handlers of forks that the program registered before the library was opened: the child's thread learns that it is one, before a call that goes the longer way; and a thread that is about to
  * wait lets go of the guards that it has as it forks, if it does, and takes them again afterwards. */
 void shfl_child_hears(void);

@@ -5,7 +5,7 @@
 # (policies.c), and one that comes while threads sleep (attached.c), that a process ends with its last thread (last.c), what a record has of a lock in each arena (records.c), that a lock may end while its last holder but one still gives it back (steps.c), that a thread of a higher priority takes no signal of another (stolen.c), that nobody sleeps beside a free lock (between.c, tries.c), nor a reader beside others that read (shares.c), that no file of the program's is taken for a client of the control socket (closes.c), the C++ classes (locks.cpp); exact counts under 16 and 64 threads (storm.c), more locks than an
 # arena has (growth.c), each message of the checked build (misuse.c). The preload library, which has each of glibc's names, under programs that know pthread alone
 # (pthreads.c, ends.c, libcs.c, errors.c, conditions.c, handlers.c, seats.c, standard.cpp), which are first run with libc's own locks, in an arena that is too small, in one that can't be, which is said, and with a malloc
-# that takes a mutex (heap.c), also as it forks (mallocs.c); and that it passes a signal on, too (stolen.c). Under valgrind's memcheck where it is there, and with gcc's address and undefined-behaviour checks, which end a program; programs with a
+# that takes a mutex (heap.c), also as it forks (mallocs.c, opens.c); and that it passes a signal on, too (stolen.c). Under valgrind's memcheck where it is there, and with gcc's address and undefined-behaviour checks, which end a program; programs with a
 # race and without one under ThreadSanitizer, helgrind and drd, as far as they are there (races.c). First how long the library's functions are (functions.py). An argument
 # is how many rounds each thread of a storm makes. Where there is no C compiler it says so, and passes.
 set -u
@@ -151,8 +151,10 @@ run "preloaded signals" env LD_PRELOAD="$preload" "$room/stolenpthread"
 run "libc's seats" "$room/seatspthread"
 run "preloaded seats" env SHFL_THREADS=8 LD_PRELOAD="$preload" "$room/seatspthread"
 "$cc" -std=gnu11 -O2 -Wall -Wextra -Werror "$top/tests/libshfl/mallocs.c" -pthread -o "$room/mallocs" || exit 1
+"$cc" -std=gnu11 -O2 -Wall -Wextra -Werror "$top/tests/libshfl/opens.c" "${words[@]}" -o "$room/opens" || exit 1
 for block in 0 1 300; do
     "$cc" -std=gnu11 -O2 -fno-builtin -Wall -Wextra -Werror -shared -fPIC -DAT_BLOCK="$block" "$top/tests/libshfl/heap.c" -pthread -o "$room/heap$block.so" || exit 1
+    run "forks as arenas open, $block" env SHFL_LOCKS=1 SHFL_ARENAS=256 LD_PRELOAD="$room/heap$block.so" "$room/opens"
     for both in "$room/heap$block.so:$preload" "$preload:$room/heap$block.so"; do run "forks with a malloc that hears of them, $block" env LD_PRELOAD="$both" "$room/mallocs"; done
 done
 # what can't be asked for is said in one line, and then the locks are libc's
