@@ -104,15 +104,25 @@ static void renumber_all(struct shfl_thread *me, uint32_t given) {
     }
 }
 
-/* Nobody else has a seat in the child. One that was at rest goes to a new thread; in the others a call stands in its midst, or a lock's words name them, so these stay. */
+/* Nobody else has a seat in the child. One that was at rest goes to a new thread; in the others a call stands in its midst, or a lock's words name them, so these stay. Those that were just
+ * taking a free lock are looked for later. */
 static void free_seats_of_others(struct shfl_thread *me) {
     for (uint32_t k = 0; k < shfl_process.threads_seen; k++) {
         struct shfl_thread *thread = &shfl_process.threads[k];
         if (thread == me) continue;
         thread->in_round = 0;
-        if (thread->tid != 0 && thread->holding == 0) shfl_free_seat(thread);
+        if (thread->tid != 0 && thread->holding == 0) shfl_lose_seat(thread);
         thread->tid = 0;
     }
+}
+
+/* Who finds its lock free says so behind that step, so a fork may have come within its call. Then the seat moves, or has a lock, and stays where it is; or it rests, and the lock is held by
+ * nobody who is there, as any of an absent thread. */
+bool shfl_rests(struct shfl_thread *thread) {
+    if (!shfl_seat_set_attr(&thread->seat, thread->attr)) return false;
+    for (uint32_t k = 0; k < shfl_fresh_locks; k++)
+        if (shfl_hold(thread, shfl_number_at(k)) != 0) return false;
+    return true;
 }
 
 /* In the child of a fork only the thread that called it goes on. The guards are free there; who held a lock, holds it for good; who

@@ -97,7 +97,7 @@ struct shfl_thread {
     struct shfl_seat seat;
     struct shfl_counted *known; /* where it looks first when it took a lock as a reader: its counts, or none while a lock is recorded */
     uint32_t mark;
-    uint32_t holding; /* how many locks it has, or is about to take: 0 says that its seat is at rest */
+    uint32_t holding; /* how many locks it has, or is about to take the longer way */
     uint32_t unusual, number; /* bits: why it looks twice when it gives a lock back; its number */
     struct shfl_counted *counts;
     struct shfl_again *again;
@@ -288,11 +288,11 @@ enum { SHFL_NOTES = 1 };
 #else
 enum { SHFL_NOTES = 0 };
 #endif
-
-/* Before the seat's first call for a lock; where the thread doesn't get it, after the last one; where it has it; and where it has it no more. */
+/* A lock is about to be taken the longer way, isn't taken, or is; is taken at once (a write before that would cost each free lock); is given back. */
 static inline void shfl_taking(struct shfl_thread *me) { me->holding++; }
 static inline void shfl_not_taken(struct shfl_thread *me) { me->holding--; }
-static inline void shfl_taken(struct shfl_thread *me, const void *lock) { if (SHFL_NOTES) shfl_note_taken(me, lock); }
+static inline void shfl_took(struct shfl_thread *me, const void *lock) { if (SHFL_NOTES) shfl_note_taken(me, lock); }
+static inline void shfl_taken(struct shfl_thread *me, const void *lock) { me->holding++; shfl_took(me, lock); }
 static inline void shfl_given(struct shfl_thread *me, const void *lock) { me->holding--; if (SHFL_NOTES) shfl_note_given(me, lock); }
 #pragma GCC visibility pop
 #endif

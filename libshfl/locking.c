@@ -69,7 +69,7 @@ static int had_not(struct shfl_thread *me, int error) {
 /* The thread has the lock. */
 static int had(struct shfl_thread *me, uint32_t *word, uint32_t lock, bool shared) {
     shfl_count_taken(me, lock + 1, shared);
-    shfl_taken(me, word);
+    shfl_took(me, word);
     return 0;
 }
 
@@ -85,6 +85,7 @@ SHFL_COLD int shfl_take_first(uint32_t *word, bool shared) {
 /* An attempt in the first arena was answered so, which knows no lock of another one; and none is known before its first use. */
 int shfl_take_after(struct shfl_thread *me, uint32_t *word, uint32_t number, bool shared, uint8_t answer, const void *caller) {
     uint32_t lock = number - 1;
+    shfl_taking(me);
     if (answer == SHFL_BAD) {
         int error = shfl_number(word, shfl_class_behind(word), &lock);
         if (error) return had_not(me, error);

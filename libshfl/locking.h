@@ -42,7 +42,6 @@ SHFL_IN_LINE int shfl_take(uint32_t *word, bool shared) {
     struct shfl_thread *me = shfl_me;
     uint32_t number = __atomic_load_n(word, __ATOMIC_ACQUIRE);
     if (!SHFL_LIKELY(me != NULL)) return shfl_take_first(word, shared);
-    shfl_taking(me);
     uint8_t answer = shfl_seat_attempt(&me->seat, number - 1, shared);
     if (!SHFL_LIKELY(answer == SHFL_DONE)) return shfl_take_after(me, word, number, shared, answer, SHFL_CALLER(me));
     shfl_taken(me, word);

@@ -17,12 +17,12 @@ shfl_guard shfl_lists;
 uint32_t shfl_seated, shfl_fresh_locks;
 pid_t shfl_owner;
 static bool is_open;
-static struct shfl_thread *free_threads;
+static struct shfl_thread *free_threads, *lost_threads;
 static uint32_t free_locks; /* the last number that came back, plus one */
 static pthread_key_t at_end;
 
 /* Has the guard of the lists. */
-void shfl_free_seat(struct shfl_thread *thread) {
+static void free_seat(struct shfl_thread *thread) {
     thread->aside = 0;
     thread->tid = 0;
     thread->caller = NULL;
@@ -36,7 +36,7 @@ void shfl_free_seat(struct shfl_thread *thread) {
 static void give_seat_back(struct shfl_thread *me) {
     shfl_me = NULL;
     if (!shfl_guard_lock_unless_forking(&shfl_lists)) return;
-    shfl_free_seat(me);
+    free_seat(me);
     shfl_guard_unlock(&shfl_lists);
 }
 
@@ -50,10 +50,26 @@ static void free_seats_of_gone(void) {
     for (uint32_t k = 0; k < shfl_process.threads_seen; k++) {
         struct shfl_thread *thread = &shfl_process.threads[k];
         bool is_gone = thread->tid != 0 && syscall(SYS_tgkill, getpid(), thread->tid, 0) != 0 && errno == ESRCH;
-        if (is_gone && __atomic_load_n(&thread->holding, __ATOMIC_RELAXED) == 0) shfl_free_seat(thread);
+        if (is_gone && __atomic_load_n(&thread->holding, __ATOMIC_RELAXED) == 0) free_seat(thread);
     }
     if (!free_threads) looked_at = now;
     errno = before;
+}
+
+void shfl_lose_seat(struct shfl_thread *thread) {
+    thread->next_free = lost_threads;
+    lost_threads = thread;
+}
+
+/* In the child of a fork, as they are needed, since it takes a look at each lock. */
+static void free_lost_seat(void) {
+    while (lost_threads && !free_threads) {
+        struct shfl_thread *thread = lost_threads;
+        lost_threads = thread->next_free;
+        if (!shfl_rests(thread)) continue;
+        shfl_seated++;
+        free_seat(thread);
+    }
 }
 
 /* What is counted at the number from now on is another lock's. In the child of a fork a number may never be used again. */
@@ -108,7 +124,7 @@ static void deal(struct shfl_seat *seats) {
 
 #define OWN(it) shfl_races_own(&(it), sizeof(it))
 static void own_statics(void) {
-    OWN(shfl_process), OWN(shfl_lists), OWN(is_open), OWN(shfl_seated), OWN(shfl_owner), OWN(free_threads), OWN(shfl_fresh_locks), OWN(free_locks), OWN(at_end);
+    OWN(shfl_process), OWN(shfl_lists), OWN(is_open), OWN(shfl_seated), OWN(shfl_owner), OWN(free_threads), OWN(lost_threads), OWN(shfl_fresh_locks), OWN(free_locks), OWN(at_end);
 }
 
 /* The process's lists begin, at once for who forks. */
@@ -180,6 +196,7 @@ bool shfl_set_attr(struct shfl_thread *me, uint16_t prio, uint16_t class_of, uin
 }
 
 static struct shfl_thread *take_free(int *error) {
+    if (!free_threads) free_lost_seat();
     if (!free_threads) free_seats_of_gone();
     struct shfl_thread *me = free_threads;
     bool is_new = me && me->number >= shfl_process.threads_seen;

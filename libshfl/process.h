@@ -5,7 +5,8 @@
 #pragma GCC visibility push(hidden)
 
 extern shfl_guard shfl_lists; /* of what is open, what is free, and how many threads have a seat */
-void shfl_free_seat(struct shfl_thread *thread); /* of who has the guard of the lists */
+void shfl_lose_seat(struct shfl_thread *thread); /* in the child of a fork, of a thread that isn't there and told of no call: it serves again where it rests */
+bool shfl_rests(struct shfl_thread *thread);
 extern uint32_t shfl_seated, shfl_fresh_locks; /* how many do, and how many numbers were given for the first time */
 
 extern pid_t shfl_owner; /* the process whose threads have the seats */

@@ -1,7 +1,7 @@
 #!/usr/bin/env bash
 # libshfl as its document says: installed into an empty prefix by its words, docs/LIBSHFL.md's programs built by its words alone, against the shared
 # library and the static one, and one that opens and closes it (opened.c); what is visible and has a manual page is what the header has. In both forms each call and each error (tests/libshfl/posix.c), each
-# argument that can't be (arguments.c), deadlines (times.c), that who waits sleeps (sleeps.c), threads' ends and cancellation (lives.c), a first lock behind them (behind.c), forks (forks.c), which seats are free in a child (seats.c), handlers of forks that are older than the library (before.c), a holder that is late (late.c), a reader that takes its lock again and again (again.c), a process's first lock (first.c), what shfl_stat counts (counts.c), policies of classes
+# argument that can't be (arguments.c), deadlines (times.c), that who waits sleeps (sleeps.c), threads' ends and cancellation (lives.c), a first lock behind them (behind.c), forks (forks.c), which seats are free in a child (seats.c, amid.c), handlers of forks that are older than the library (before.c), a holder that is late (late.c), a reader that takes its lock again and again (again.c), a process's first lock (first.c), what shfl_stat counts (counts.c), policies of classes
 # (policies.c), and one that comes while threads sleep (attached.c), that a process ends with its last thread (last.c), what a record has of a lock in each arena (records.c), that a lock may end while its last holder but one still gives it back (steps.c), that a thread of a higher priority takes no signal of another (stolen.c), that nobody sleeps beside a free lock (between.c, tries.c), nor a reader beside others that read (shares.c), that no file of the program's is taken for a client of the control socket (closes.c), the C++ classes (locks.cpp); exact counts under 16 and 64 threads (storm.c), more locks than an
 # arena has (growth.c), each message of the checked build (misuse.c). The preload library, which has each of glibc's names, under programs that know pthread alone
 # (pthreads.c, ends.c, libcs.c, errors.c, conditions.c, handlers.c, seats.c, standard.cpp), which are first run with libc's own locks, in an arena that is too small, in one that can't be, which is said, and with a malloc
@@ -66,7 +66,7 @@ run "opened by its path" "$room/opened" "$room/prefix/lib/libshfl.so.1"
 for form in rw rw-park; do run "before, $form" env SHFL_FORM="$form" SHFL_THREADS=8 "$room/before"; done
 
 tests=(posix arguments times lives forks counts policies)
-for name in "${tests[@]}" sleeps storm records steps tries stolen between shares seats closes behind attached last; do
+for name in "${tests[@]}" sleeps storm records steps tries stolen between shares seats amid closes behind attached last; do
     "$cc" -std=gnu11 -O2 -g -Wall -Wextra -Werror "$top/tests/libshfl/$name.c" "${words[@]}" -o "$room/$name" || exit 1
 done
 if command -v c++ >/dev/null; then
@@ -74,9 +74,9 @@ if command -v c++ >/dev/null; then
     tests+=(locks)
 fi
 # with few seats, where threads end and fork
-seats() { case "$1" in lives | behind) echo SHFL_THREADS=3 ;; forks) echo SHFL_THREADS=4 ;; seats) echo SHFL_THREADS=8 ;; esac; }
+seats() { case "$1" in lives | behind | amid) echo SHFL_THREADS=3 ;; forks) echo SHFL_THREADS=4 ;; seats) echo SHFL_THREADS=8 ;; esac; }
 for form in rw rw-park; do
-    for name in "${tests[@]}" sleeps records steps tries stolen between shares seats behind attached; do run "$name, $form" env SHFL_FORM="$form" $(seats "$name") "$room/$name"; done
+    for name in "${tests[@]}" sleeps records steps tries stolen between shares seats amid behind attached; do run "$name, $form" env SHFL_FORM="$form" $(seats "$name") "$room/$name"; done
 done
 run "policies, without memory" "$room/policies" memory
 run "forks, with another user's rights" env SHFL_THREADS=4 "$room/forks" changed
