@@ -7,7 +7,9 @@
  *                                       timed first
  *   cond LOCK PAIRS MS                  so many producers and as many consumers of a queue of 16 places, over the lock and two condition variables: items a
  *                                       second, and the processors used. LOCK is shfl or mutex
- * LOCK is shfl, shfl-read, mutex or rwlock-read. Status 1: two were in the section that may not be, or an item was lost. */
+ *   has LOCK                            status 0 where it was built in
+ * LOCK is shfl, shfl-read, mutex or rwlock-read, and for `crowd` also mcs, an MCS lock (Concurrency Kit, Debian's libck-dev), or shared-read, C++'s std::shared_mutex (with HAS_SHARED_MUTEX
+ * and bench/shared_mutex.cpp). Status 1: two were in the section that may not be, or an item was lost. */
 #define _GNU_SOURCE
 #include <libshfl.h>
 #include <pthread.h>
@@ -17,6 +19,15 @@
 #include <string.h>
 #include <sys/resource.h>
 #include "timing.h"
+#if __has_include(<ck_spinlock.h>)
+#include <ck_spinlock.h>
+#define HAS_MCS 1
+#else
+#define HAS_MCS 0
+#endif
+#ifndef HAS_SHARED_MUTEX
+#define HAS_SHARED_MUTEX 0
+#endif
 
 enum { LINE = 128, MOST_THREADS = 256, RUNS = 300, ROUNDS = 10000 };
 static _Alignas(LINE) shfl_mutex_t ours;
@@ -24,8 +35,39 @@ static _Alignas(LINE) shfl_rwlock_t ours_shared;
 static _Alignas(LINE) pthread_mutex_t mutex = PTHREAD_MUTEX_INITIALIZER;
 static _Alignas(LINE) pthread_rwlock_t rwlock = PTHREAD_RWLOCK_INITIALIZER;
 
-enum kind { SHFL, SHFL_READ, MUTEX, RWLOCK_READ, KINDS };
-static const char *const names[KINDS] = {"shfl", "shfl-read", "mutex", "rwlock-read"};
+/* the last two in `crowd` alone */
+enum kind { SHFL, SHFL_READ, MUTEX, RWLOCK_READ, USUAL, MCS = USUAL, SHARED_READ, KINDS };
+static const char *const names[KINDS] = {"shfl", "shfl-read", "mutex", "rwlock-read", "mcs", "shared-read"};
+static const bool is_built_in[KINDS] = {true, true, true, true, HAS_MCS, HAS_SHARED_MUTEX};
+
+#if HAS_MCS
+static _Alignas(LINE) ck_spinlock_mcs_t mcs = CK_SPINLOCK_MCS_INITIALIZER;
+static __thread _Alignas(LINE) struct ck_spinlock_mcs mcs_node;
+#endif
+#if HAS_SHARED_MUTEX
+void shared_mutex_take(void);
+void shared_mutex_give(void);
+#endif
+
+static void take_other(enum kind kind) {
+    (void)kind;
+#if HAS_MCS
+    if (kind == MCS) ck_spinlock_mcs_lock(&mcs, &mcs_node);
+#endif
+#if HAS_SHARED_MUTEX
+    if (kind == SHARED_READ) shared_mutex_take();
+#endif
+}
+
+static void give_other(enum kind kind) {
+    (void)kind;
+#if HAS_MCS
+    if (kind == MCS) ck_spinlock_mcs_unlock(&mcs, &mcs_node);
+#endif
+#if HAS_SHARED_MUTEX
+    if (kind == SHARED_READ) shared_mutex_give();
+#endif
+}
 
 static uint64_t now(void) {
     struct timespec t;
@@ -37,14 +79,16 @@ static inline void take(enum kind kind) {
     if (kind == SHFL) shfl_mutex_lock(&ours);
     else if (kind == SHFL_READ) shfl_rwlock_rdlock(&ours_shared);
     else if (kind == MUTEX) pthread_mutex_lock(&mutex);
-    else pthread_rwlock_rdlock(&rwlock);
+    else if (kind == RWLOCK_READ) pthread_rwlock_rdlock(&rwlock);
+    else take_other(kind);
 }
 
 static inline void give(enum kind kind) {
     if (kind == SHFL) shfl_mutex_unlock(&ours);
     else if (kind == SHFL_READ) shfl_rwlock_unlock(&ours_shared);
     else if (kind == MUTEX) pthread_mutex_unlock(&mutex);
-    else pthread_rwlock_unlock(&rwlock);
+    else if (kind == RWLOCK_READ) pthread_rwlock_unlock(&rwlock);
+    else give_other(kind);
 }
 
 static inline void turns(uint64_t count) {
@@ -76,7 +120,7 @@ static int beside_a_sleeper(void (*run)(uint64_t), uint64_t count) {
 }
 
 static enum kind crowded;
-static double took[KINDS][RUNS];
+static double took[USUAL][RUNS];
 
 /* (a loop of each, so that little is counted besides) */
 static void pairs(uint64_t count) {
@@ -88,12 +132,12 @@ static void pairs(uint64_t count) {
 
 static void time_runs(uint64_t count) {
     for (uint64_t run = 0; run < count; run++)
-        for (enum kind kind = 0; kind < KINDS; kind++) took[kind][run] = per_pair(kind);
+        for (enum kind kind = 0; kind < USUAL; kind++) took[kind][run] = per_pair(kind);
 }
 
 static int alone(void) {
     if (beside_a_sleeper(time_runs, RUNS)) return 2;
-    for (enum kind kind = 0; kind < KINDS; kind++) {
+    for (enum kind kind = 0; kind < USUAL; kind++) {
         qsort(took[kind], RUNS, sizeof took[kind][0], by_size);
         printf("%s %.1f %.1f\n", names[kind], took[kind][0], took[kind][RUNS / 2]);
     }
@@ -121,7 +165,7 @@ static void *work(void *at) {
         take(crowded);
         uint64_t waited = now() - came, seen = begun;
         if (seen != ended) torn = true;
-        bool writes = crowded == SHFL || crowded == MUTEX;
+        bool writes = crowded == SHFL || crowded == MUTEX || crowded == MCS;
         begun = seen + writes;
         turns(hold);
         if (begun != seen + writes) torn = true;
@@ -235,10 +279,11 @@ int main(int n, char **word) {
         return cond(pairs_of, strtoull(word[4], NULL, 10));
     }
     if (n == 2 && strcmp(word[1], "free") == 0) return alone();
+    if (n == 3 && strcmp(word[1], "has") == 0) return kind_of(word[2]) == KINDS || !is_built_in[kind_of(word[2])];
     bool counts = n == 4 && strcmp(word[1], "pairs") == 0;
     if (!counts && (n != 7 || strcmp(word[1], "crowd") != 0)) return 2;
     crowded = kind_of(word[2]);
-    if (crowded == KINDS) return 2;
+    if (crowded == KINDS || !is_built_in[crowded]) return 2;
     if (counts) return beside_a_sleeper(pairs, strtoull(word[3], NULL, 10));
     int count = atoi(word[3]);
     if (count < 1 || count > MOST_THREADS) return 2;

@@ -4,7 +4,8 @@
 # processors used. And a million locks drawn at random by one thread and by four, with what a lock takes of memory, the proved part alone too
 # (bench/many.c). The median and
 # the worst of the rounds. Words: libshfl.sh [ROUNDS [PART ..]]; a part is free, 4 (threads), 16, and these three where none is given; 256, many; cond,
-# four producers and four consumers over condition variables; park, 256 threads in the form rw-park, 20 times as many rounds, of which each has half a minute,
+# four producers and four consumers over condition variables; mcs, the mutex beside an MCS lock, which spins (Concurrency Kit, Debian's libck-dev), by 4 and 16 threads, and readers, the lock as readers
+# take it beside C++'s std::shared_mutex, by as many, each run of these within 20 seconds; park, 256 threads in the form rw-park, 20 times as many rounds, of which each has half a minute,
 # and how many didn't end or lost a count; hang, the same of 64 threads in the usual form, briefer and 200 times as many rounds; or instructions, how many valgrind counts in a free lock's lock and unlock, with the loop around them. 5 rounds where none are said. With
 # LIBSHFL_PREFIX set what libshfl/install put there is timed; else it is built first.
 set -u
@@ -18,7 +19,11 @@ prefix="${LIBSHFL_PREFIX:-$room/prefix}"
 if [ -z "${LIBSHFL_PREFIX:-}" ]; then
     "$top/libshfl/install" "$prefix" >"$room/built" 2>&1 || { tail -n 20 "$room/built" >&2; exit 1; }
 fi
-"${CC:-cc}" -std=gnu11 -O2 -Wall -Wextra -I "$prefix/include" "$top/bench/libshfl.c" -L "$prefix/lib" -lshfl -pthread -o "$room/libshfl" || exit 1
+peer=()
+if command -v c++ >/dev/null && c++ -std=c++17 -O2 -Wall -Wextra -c "$top/bench/shared_mutex.cpp" -o "$room/shared_mutex.o"; then
+    peer=(-DHAS_SHARED_MUTEX=1 "$room/shared_mutex.o" -lstdc++)
+fi
+"${CC:-cc}" -std=gnu11 -O2 -Wall -Wextra -I "$prefix/include" "$top/bench/libshfl.c" "${peer[@]}" -L "$prefix/lib" -lshfl -pthread -o "$room/libshfl" || exit 1
 export LD_LIBRARY_PATH="$prefix/lib"
 
 # the median and the worst of a column of numbers: the least is worst where the word is less, else the greatest
@@ -35,21 +40,33 @@ alone() {
     done
 }
 
+# so many threads, our lock and its peer, and what runs them; a run that doesn't end has made no hold
 crowd() {
-    local threads="$1" hold lock ours=()
-    printf '%-26s %12s %12s %12s %12s %6s   %s\n' "$threads threads, holds/s" shfl worst mutex worst ratio 'shfl: longest wait ms, Jain, processors; mutex'
+    local threads="$1" mine="$2" peer="$3" hold lock at ours=()
+    local run=("${@:4}")
+    printf '%-26s %12s %12s %12s %12s %6s   %s\n' "$threads threads, holds/s" "$mine" worst "$peer" worst ratio "$mine: longest wait ms, Jain, processors; $peer"
     for hold in 0 100 1000 10000; do
+        at="$mine.$peer.$threads.$hold"
         for ((k = 0; k < rounds; k++)); do
-            for lock in shfl mutex; do "$room/libshfl" crowd "$lock" "$threads" "$hold" "$hold" 300 >>"$room/$lock.$threads.$hold" || echo "status $?" >&2; done
+            for lock in "$mine" "$peer"; do
+                "${run[@]}" "$room/libshfl" crowd "$lock" "$threads" "$hold" "$hold" 300 >>"$room/$at.$lock" || { echo "status $?" >&2; [ "${#run[@]}" = 0 ] || echo 0 0 20000 0 >>"$room/$at.$lock"; }
+            done
         done
-        for lock in shfl mutex; do
-            for column in 1 2 3 4; do awk -v c="$column" '{ print $c }' "$room/$lock.$threads.$hold" >"$room/$lock.$column"; done
+        for lock in "$mine" "$peer"; do
+            for column in 1 2 3 4; do awk -v c="$column" '{ print $c }' "$room/$at.$lock" >"$room/$lock.$column"; done
         done
-        ours=($(told "$room/shfl.1" less) $(told "$room/mutex.1" less))
+        ours=($(told "$room/$mine.1" less) $(told "$room/$peer.1" less))
         printf '%-26s %12s %12s %12s %12s %6s   %s %s %s; %s %s %s\n' "hold and think $hold ns" "${ours[@]}" \
-            "$(awk -v a="${ours[0]}" -v b="${ours[2]}" 'BEGIN { printf "%.2f", a / b }')" \
-            $(for lock in shfl mutex; do for column in 3 2 4; do told "$room/$lock.$column" more | cut -d ' ' -f 1; done; done)
+            "$(awk -v a="${ours[0]}" -v b="${ours[2]}" 'BEGIN { printf "%.2f", b ? a / b : 0 }')" \
+            $(for lock in "$mine" "$peer"; do for column in 3 2 4; do told "$room/$lock.$column" more | cut -d ' ' -f 1; done; done)
     done
+}
+
+# the same beside a peer that may not be there
+beside() {
+    local threads
+    "$room/libshfl" has "$2" || { echo "libshfl.sh: $2 isn't there: $3" >&2; return; }
+    for threads in 4 16; do crowd "$threads" "$1" "$2" timeout -k 1 20; done
 }
 
 conds() {
@@ -110,7 +127,9 @@ many() {
 for part in "${parts[@]}"; do
     case "$part" in
     free) alone ;;
-    4 | 16 | 256) crowd "$part" ;;
+    4 | 16 | 256) crowd "$part" shfl mutex ;;
+    mcs) beside shfl mcs "it wants Debian's libck-dev" ;;
+    readers) beside shfl-read shared-read "it wants a compiler of C++" ;;
     many) many ;;
     cond) conds ;;
     park) hangs rw-park 256 "$((20 * rounds))" 200 ;;

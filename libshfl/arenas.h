@@ -36,6 +36,6 @@ static inline uint8_t shfl_hold(struct shfl_thread *me, uint32_t lock) {
 static inline void shfl_find_register(void) {}
 #endif
 
-/* Opens one more arena; who calls it has the guard of the process's lists. EAGAIN: there are as many as may be; ENOMEM. */
-int shfl_grow(void);
+/* Opens one more arena, unless there are other locks than so many by now. EAGAIN: there are as many arenas as may be; ENOMEM. */
+int shfl_grow(uint32_t had);
 #endif

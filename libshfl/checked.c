@@ -15,9 +15,9 @@ SHFL_COLD int shfl_refuse(int error, const void *lock, const char *what) {
     return error;
 }
 
-/* Where there is no memory the lock isn't noted, and the next one is where there is again. */
+/* The thread has one lock more already. Where there is no memory the lock isn't noted, and the next one is where there is again. */
 void shfl_note_taken(struct shfl_thread *me, const void *lock) {
-    if (me->holding >= me->held_room) {
+    if (me->holding > me->held_room) {
         uint32_t room = 2 * me->holding + 16;
         const void **held = realloc(me->held, room * sizeof *held);
         if (!held) return;
@@ -25,7 +25,7 @@ void shfl_note_taken(struct shfl_thread *me, const void *lock) {
         me->held = held;
         me->held_room = room;
     }
-    me->held[me->holding] = lock;
+    me->held[me->holding - 1] = lock;
 }
 
 /* The thread has one lock less already. */

@@ -102,7 +102,23 @@ int shfl_class_policy(unsigned class_of, unsigned profile, const uint8_t *should
     return error;
 }
 
-int shfl_class_detach(unsigned class_of) { return shfl_class_policy(class_of, 1, NULL, 0, NULL, 0, NULL); }
+/* Nothing of it takes memory. Before the first arena is open no class has a seat. */
+int shfl_class_detach(unsigned class_of) {
+    if (class_of >= SHFL_CLASSES) return EINVAL;
+    struct shfl_class *its = shfl_class_at(class_of);
+    bool is_open = shfl_load(&shfl_process.lock_count) > 0;
+    shfl_races_look_away();
+    shfl_guard_lock(&its->guard);
+    uint8_t *over = its->programs.bytes;
+    if (is_open) shfl_seat_detach(&its->seat);
+    its->programs = (struct shfl_programs){NULL, 0, 0, 0};
+    __atomic_fetch_add(&its->version, 1, __ATOMIC_SEQ_CST);
+    shfl_store(&its->attached, 0);
+    shfl_guard_unlock(&its->guard);
+    free(over);
+    shfl_races_look_again();
+    return 0;
+}
 
 /* Whether no thread is in a round that an older version answers. A thread says that it is in a round before it looks for the version. */
 static bool is_drained(uint32_t which, uint32_t version) {

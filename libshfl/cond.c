@@ -8,6 +8,7 @@
  * seat. Whoever destroys the condition variable waits for these, as POSIX allows a program to destroy one as soon as nobody sleeps there. The preload library
  * counts by the same functions, in a condition variable of glibc's. */
 #include "conds.h"
+#include "process.h"
 
 #define WOKEN 0x10000u
 
@@ -106,7 +107,9 @@ static int wait_on(shfl_cond_t *cond, shfl_mutex_t *mutex, clockid_t clock, cons
     uint32_t seen = shfl_load(&cond->signals);
     shfl_comes_to_wait(cond); /* there is room: who waits has the mutex, and so a seat, and whoever hasn't is refused below */
     int error = shfl_mutex_unlock(mutex);
+    bool rested = !error && shfl_fork_rests();
     int told = error ? error : sleep_on(cond, seen, clock, deadline);
+    if (rested) shfl_fork_goes_on();
     shfl_ends_to_wait(cond, told == 0 && shfl_load(&cond->signals) != seen);
     if (!error) error = lock_again(mutex);
     if (ends) __atomic_fetch_or(&shfl_me->unusual, SHFL_IS_ENDING, __ATOMIC_SEQ_CST);

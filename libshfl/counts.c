@@ -90,8 +90,9 @@ SHFL_COLD void shfl_count_hand_over(uint32_t lock, uint32_t mark) {
     struct shfl_parking *parking = shfl_parking_of(lock);
     uint32_t last = __atomic_load_n(&parking->last, __ATOMIC_RELAXED);
     if (last != mark) __atomic_store_n(&parking->last, mark, __ATOMIC_RELAXED);
-    if (last == 0 || last >> 16 == mark >> 16) return;
-    shfl_more((uint16_t)last == (uint16_t)mark ? &parking->within : &parking->across, 1);
+    uint32_t other = last ^ mark;
+    if (last == 0 || other < SHFL_MARK_SOCKETS) return;
+    shfl_more(other % SHFL_MARK_SOCKETS == 0 ? &parking->within : &parking->across, 1);
 }
 
 SHFL_COLD void shfl_count_waited(struct shfl_thread *me, uint32_t lock, uint64_t since) {

@@ -4,23 +4,47 @@
 #include "arenas.h"
 #include "locking.h"
 #include "process.h"
+#include "races.h"
 
 static uint32_t hears; /* 1 once the handlers are registered */
 
 /* This thread forks and has every guard: another handler of the fork may use locks too. */
 static __thread bool forks __attribute__((tls_model("initial-exec")));
+static uint32_t forking; /* how many threads do, or are about to */
+static pid_t forked; /* the process that does */
+
+static bool guard_at_once(shfl_guard *guard) {
+    uint32_t none = 0;
+    if (forks) shfl_child_hears();
+    return forks || __atomic_compare_exchange_n(guard, &none, 1, false, __ATOMIC_SEQ_CST, __ATOMIC_SEQ_CST);
+}
 
 void shfl_guard_lock(shfl_guard *guard) {
-    uint32_t none = 0;
-    if (forks || __atomic_compare_exchange_n(guard, &none, 1, false, __ATOMIC_SEQ_CST, __ATOMIC_SEQ_CST)) return;
+    if (guard_at_once(guard)) return;
     while (__atomic_exchange_n(guard, 2, __ATOMIC_SEQ_CST) != 0) shfl_futex(guard, FUTEX_WAIT, 2, NULL);
+}
+
+/* False: a thread forks. A handler of its fork may wait for this one to end. */
+bool shfl_guard_lock_unless_forking(shfl_guard *guard) {
+    if (guard_at_once(guard)) return true;
+    while (__atomic_exchange_n(guard, 2, __ATOMIC_SEQ_CST) != 0) {
+        if (shfl_load(&forking) > 0) return false;
+        shfl_sleep(guard, 2, 1000000);
+    }
+    return true;
 }
 
 void shfl_guard_unlock(shfl_guard *guard) {
     if (!forks && __atomic_exchange_n(guard, 0, __ATOMIC_SEQ_CST) == 2) shfl_wake_one(guard);
 }
 
+/* What it gives back as it forks it looks at twice. */
+void shfl_seated_in_fork(struct shfl_thread *me) {
+    if (forks) __atomic_fetch_or(&me->unusual, SHFL_IS_FORKING, __ATOMIC_SEQ_CST);
+}
+
 static void before_fork(void) {
+    __atomic_fetch_add(&forking, 1, __ATOMIC_SEQ_CST);
     shfl_guard_lock(&shfl_process.is_loading);
     shfl_guard_lock(&shfl_lists);
     for (int k = 0; k < SHFL_CLASSES; k++) shfl_guard_lock(&shfl_process.classes[k].guard);
@@ -28,11 +52,14 @@ static void before_fork(void) {
     shfl_guard_lock(&shfl_process.ending);
     shfl_heap_stop();
     shfl_control_stop();
+    forked = getpid();
     forks = true;
+    if (shfl_me) shfl_seated_in_fork(shfl_me);
 }
 
 static void after_fork(void) {
     forks = false;
+    if (shfl_me) __atomic_fetch_and(&shfl_me->unusual, ~(uint32_t)SHFL_IS_FORKING, __ATOMIC_SEQ_CST);
     shfl_control_go_on();
     shfl_heap_go_on();
     shfl_guard_unlock(&shfl_process.ending);
@@ -40,6 +67,31 @@ static void after_fork(void) {
     for (int k = SHFL_CLASSES; k-- > 0;) shfl_guard_unlock(&shfl_process.classes[k].guard);
     shfl_guard_unlock(&shfl_lists);
     shfl_guard_unlock(&shfl_process.is_loading);
+    __atomic_fetch_sub(&forking, 1, __ATOMIC_SEQ_CST);
+}
+
+/* Handlers that the program registered before the library was opened run while this thread has every guard. One that waits for a lock of another thread's, which may need a guard, lets go of
+ * them meanwhile. */
+bool shfl_fork_rests(void) {
+    if (forks) shfl_child_hears();
+    if (!forks) return false;
+    after_fork();
+    return true;
+}
+
+void shfl_fork_goes_on(void) { before_fork(); }
+
+static shfl_guard opening;
+
+bool shfl_begin_opening(void) {
+    bool rested = shfl_fork_rests();
+    shfl_guard_lock(&opening);
+    return rested;
+}
+
+void shfl_end_opening(bool rested) {
+    shfl_guard_unlock(&opening);
+    if (rested) shfl_fork_goes_on();
 }
 
 /* What this thread has it has by another number from now on, or it stays stale. All of it is noted first, so that none that is given here is given up for another. */
@@ -52,6 +104,27 @@ static void renumber_all(struct shfl_thread *me, uint32_t given) {
     }
 }
 
+/* Nobody else has a seat in the child. One that was at rest goes to a new thread; in the others a call stands in its midst, or a lock's words name them, so these stay. Those that were just
+ * taking a free lock are looked for later. */
+static void free_seats_of_others(struct shfl_thread *me) {
+    for (uint32_t k = 0; k < shfl_process.threads_seen; k++) {
+        struct shfl_thread *thread = &shfl_process.threads[k];
+        if (thread == me) continue;
+        thread->in_round = 0;
+        if (thread->tid != 0 && thread->holding == 0) shfl_lose_seat(thread);
+        thread->tid = 0;
+    }
+}
+
+/* Who finds its lock free says so behind that step, so a fork may have come within its call. Then the seat moves, or has a lock, and stays where it is; or it rests, and the lock is held by
+ * nobody who is there, as any of an absent thread. */
+bool shfl_rests(struct shfl_thread *thread) {
+    if (!shfl_seat_set_attr(&thread->seat, thread->attr)) return false;
+    for (uint32_t k = 0; k < shfl_fresh_locks; k++)
+        if (shfl_hold(thread, shfl_number_at(k)) != 0) return false;
+    return true;
+}
+
 /* In the child of a fork only the thread that called it goes on. The guards are free there; who held a lock, holds it for good; who
  * waited, or was in the midst of an attempt, stands so in the lock's words for good. So where this thread has a lock it has it by another number
  * from now on; or else the number isn't used again when it is given back. Where nobody waited nothing is written, so that the child has the page in
@@ -59,6 +132,8 @@ static void renumber_all(struct shfl_thread *me, uint32_t given) {
 static void in_child(void) {
     struct shfl_thread *me = shfl_me;
     int cancels;
+    forked = getpid();
+    shfl_store(&opening, 0); /* what was opened just then is lost; a lock that gets another number may open anew */
     pthread_setcancelstate(PTHREAD_CANCEL_DISABLE, &cancels);
     uint32_t given = shfl_seated > (me != NULL) ? shfl_fresh_locks : 0; /* where others had seats */
     for (uint32_t k = 0; k < given; k++) {
@@ -68,19 +143,30 @@ static void in_child(void) {
             parking->sleepers = parking->inside = parking->queued = parking->promoted = shfl_process.totals[lock].readers = 0;
     }
     if (me && me->holding > 0) renumber_all(me, given);
-    for (uint32_t k = 0; k < shfl_process.threads_seen; k++)
-        if (&shfl_process.threads[k] != me) shfl_process.threads[k].in_round = shfl_process.threads[k].tid = 0;
+    free_seats_of_others(me);
     if (me) me->tid = (uint32_t)syscall(SYS_gettid);
     shfl_seated = me != NULL;
     shfl_owner = getpid();
+    shfl_store(&forking, 1);
     after_fork();
     shfl_control_forked();
     pthread_setcancelstate(cancels, NULL);
 }
 
+/* In the child handlers of such a program come before the library's, so it is the first call there that could miss it which does what is to be done. */
+void shfl_child_hears(void) {
+    if (forks && forked != getpid()) in_child();
+}
+
+static void at_child(void) {
+    if (forks) in_child();
+}
+
 int shfl_hear_of_forks(void) {
+    shfl_races_own(&opening, sizeof opening);
+    shfl_races_own(&forking, sizeof forking);
     if (shfl_load(&hears) || __atomic_exchange_n(&hears, 1, __ATOMIC_SEQ_CST)) return 0;
-    int error = pthread_atfork(before_fork, after_fork, in_child);
+    int error = pthread_atfork(before_fork, after_fork, at_child);
     if (error) shfl_store(&hears, 0);
     return error;
 }

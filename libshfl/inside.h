@@ -86,15 +86,18 @@ struct shfl_total {
 /* A read lock that a thread took again. */
 struct shfl_again { uint32_t lock, times; };
 
-/* In the child of a fork, of the thread that forked and had locks; of all threads, while a lock is recorded; of one that took a lock again; that ends. */
-enum { SHFL_IS_STALE = 1, SHFL_IS_WATCHED = 2, SHFL_HAS_AGAIN = 4, SHFL_IS_ENDING = 8, SHFL_MARK_WATCHED = 0x8000 };
+/* In the child of a fork, of the thread that forked and had locks; of all threads, while a lock is recorded; of one that took a lock again; that ends; that forks. */
+enum { SHFL_IS_STALE = 1, SHFL_IS_WATCHED = 2, SHFL_HAS_AGAIN = 4, SHFL_IS_ENDING = 8, SHFL_IS_FORKING = 16 };
+
+/* A thread's mark: its seat's number plus one, a bit while a lock is recorded, which no lock's last has, which of 32 threads in turn has that seat, and its socket. */
+enum { SHFL_MARK_NUMBER = 16, SHFL_MARK_WATCHED = 0x8000, SHFL_MARK_TURN = 10, SHFL_MARK_TURNS = 32, SHFL_MARK_SOCKETS = 1 << SHFL_MARK_TURN };
 
 /* A thread, or a place for one. What each lock and unlock reads stands first; the last line is written by those who wake it, too. */
 struct shfl_thread {
     struct shfl_seat seat;
     struct shfl_counted *known; /* where it looks first when it took a lock as a reader: its counts, or none while a lock is recorded */
-    uint32_t mark; /* its number plus one, in the low half its socket, and while a lock is recorded SHFL_MARK_WATCHED, which no lock's last has */
-    uint32_t holding; /* how many locks it has */
+    uint32_t mark;
+    uint32_t holding; /* how many locks it has, or is about to take the longer way */
     uint32_t unusual, number; /* bits: why it looks twice when it gives a lock back; its number */
     struct shfl_counted *counts;
     struct shfl_again *again;
@@ -109,6 +112,7 @@ struct shfl_thread {
     uint64_t attr; /* its attributes, as its seat in the first arena has them */
     uint32_t tid; /* the system's number; 0: it has none, or isn't in this process */
     uint8_t aside; /* it lets others go first, once */
+    uint8_t turn; /* changes with each thread that has the seat */
     uint32_t asleep __attribute__((aligned(128))); /* 1 while it sleeps in the queue, or is about to */
 };
 
@@ -279,20 +283,16 @@ void shfl_control_go_on(void);
 int shfl_refuse(int error, const void *lock, const char *what);
 void shfl_note_taken(struct shfl_thread *me, const void *lock);
 void shfl_note_given(struct shfl_thread *me, const void *lock);
-static inline void shfl_taken(struct shfl_thread *me, const void *lock) {
 #ifdef SHFL_CHECKED
-    shfl_note_taken(me, lock);
+enum { SHFL_NOTES = 1 };
+#else
+enum { SHFL_NOTES = 0 };
 #endif
-    (void)lock;
-    me->holding++;
-}
-
-static inline void shfl_given(struct shfl_thread *me, const void *lock) {
-    me->holding--;
-#ifdef SHFL_CHECKED
-    shfl_note_given(me, lock);
-#endif
-    (void)lock;
-}
+/* A lock is about to be taken the longer way, isn't taken, or is; is taken at once (a write before that would cost each free lock); is given back. */
+static inline void shfl_taking(struct shfl_thread *me) { me->holding++; }
+static inline void shfl_not_taken(struct shfl_thread *me) { me->holding--; }
+static inline void shfl_took(struct shfl_thread *me, const void *lock) { if (SHFL_NOTES) shfl_note_taken(me, lock); }
+static inline void shfl_taken(struct shfl_thread *me, const void *lock) { me->holding++; shfl_took(me, lock); }
+static inline void shfl_given(struct shfl_thread *me, const void *lock) { me->holding--; if (SHFL_NOTES) shfl_note_given(me, lock); }
 #pragma GCC visibility pop
 #endif

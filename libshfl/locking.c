@@ -5,6 +5,7 @@
 #include <stdlib.h>
 #include "arenas.h"
 #include "locking.h"
+#include "process.h"
 #include "races.h"
 #include "waits.h"
 
@@ -59,10 +60,16 @@ void shfl_count_taken_anew(struct shfl_thread *me, uint32_t number, bool shared)
     shfl_happens(me, lock, shared ? SHFL_TAKES_SHARED : SHFL_TAKES_ALONE);
 }
 
+/* The thread doesn't get the lock that it was about to take. */
+static int had_not(struct shfl_thread *me, int error) {
+    shfl_not_taken(me);
+    return error;
+}
+
 /* The thread has the lock. */
 static int had(struct shfl_thread *me, uint32_t *word, uint32_t lock, bool shared) {
     shfl_count_taken(me, lock + 1, shared);
-    shfl_taken(me, word);
+    shfl_took(me, word);
     return 0;
 }
 
@@ -78,21 +85,24 @@ SHFL_COLD int shfl_take_first(uint32_t *word, bool shared) {
 /* An attempt in the first arena was answered so, which knows no lock of another one; and none is known before its first use. */
 int shfl_take_after(struct shfl_thread *me, uint32_t *word, uint32_t number, bool shared, uint8_t answer, const void *caller) {
     uint32_t lock = number - 1;
+    shfl_taking(me);
     if (answer == SHFL_BAD) {
         int error = shfl_number(word, shfl_class_behind(word), &lock);
-        if (error) return error;
+        if (error) return had_not(me, error);
         answer = shfl_attempt(me, lock, shared);
     }
     if (answer == SHFL_DONE) return had(me, word, lock, shared);
-    if (answer != SHFL_BUSY) return other_answer(me, word, lock, shared, answer, EDEADLK);
+    if (answer != SHFL_BUSY) return had_not(me, other_answer(me, word, lock, shared, answer, EDEADLK));
     if (shared) shfl_ring(&shfl_parking_of(lock)->head_asleep);
-    if (!caller) return EBUSY;
+    if (!caller) return had_not(me, EBUSY);
     uint64_t since = shfl_clock();
     shfl_count_contended(me, lock);
     shfl_begins_to_wait(me, lock, shared, caller);
+    bool rested = shfl_fork_rests();
     int error = shfl_wait(me, lock, shared);
+    if (rested) shfl_fork_goes_on();
     shfl_count_waited(me, lock, since);
-    return error ? error : had(me, word, lock, shared);
+    return error ? had_not(me, error) : had(me, word, lock, shared);
 }
 
 /* A reader that tries in vain is counted for a moment. Who wanted to write may have found that, and sleep now beside a free lock; so where somebody sleeps it tries again. */
@@ -110,12 +120,30 @@ int shfl_try(uint32_t *word, bool shared) {
     if (!me) return error;
     error = shfl_number(word, shfl_class_behind(word), &lock);
     if (error) return error;
+    shfl_taking(me);
     uint8_t answer = try_as(me, lock, shared);
     if (answer == SHFL_DONE) return had(me, word, lock, shared);
+    shfl_not_taken(me);
     if (answer != SHFL_BUSY) return other_answer(me, word, lock, shared, answer, EBUSY);
     shfl_count_contended(me, lock);
     if (shared) shfl_ring(&shfl_parking_of(lock)->head_asleep);
     return EBUSY;
+}
+
+/* The thread found the lock taken. */
+static int wait_until(struct shfl_thread *me, uint32_t lock, bool shared, clockid_t clock, const struct timespec *deadline) {
+    if (shared) shfl_ring(&shfl_parking_of(lock)->head_asleep);
+    if (!deadline || deadline->tv_nsec < 0 || deadline->tv_nsec > 999999999) return EINVAL;
+    if (clock != CLOCK_MONOTONIC && clock != CLOCK_REALTIME) return EINVAL;
+    uint64_t since = shfl_clock();
+    shfl_count_contended(me, lock);
+    shfl_begins_to_wait(me, lock, shared, SHFL_CALLER(me));
+    bool rested = shfl_fork_rests();
+    int error = shfl_wait_until(me, lock, shared, clock, deadline);
+    if (rested) shfl_fork_goes_on();
+    shfl_count_waited(me, lock, since);
+    if (error) shfl_happens(me, lock, SHFL_GIVES_UP);
+    return error;
 }
 
 int shfl_take_until(uint32_t *word, bool shared, clockid_t clock, const struct timespec *deadline) {
@@ -125,22 +153,11 @@ int shfl_take_until(uint32_t *word, bool shared, clockid_t clock, const struct t
     if (!me) return error;
     error = shfl_number(word, shfl_class_behind(word), &lock);
     if (error) return error;
+    shfl_taking(me);
     uint8_t answer = shfl_attempt(me, lock, shared);
-    if (answer == SHFL_BUSY) {
-        if (shared) shfl_ring(&shfl_parking_of(lock)->head_asleep);
-        if (!deadline || deadline->tv_nsec < 0 || deadline->tv_nsec > 999999999) return EINVAL;
-        if (clock != CLOCK_MONOTONIC && clock != CLOCK_REALTIME) return EINVAL;
-        uint64_t since = shfl_clock();
-        shfl_count_contended(me, lock);
-        shfl_begins_to_wait(me, lock, shared, SHFL_CALLER(me));
-        error = shfl_wait_until(me, lock, shared, clock, deadline);
-        shfl_count_waited(me, lock, since);
-        if (error) shfl_happens(me, lock, SHFL_GIVES_UP);
-        if (error) return error;
-    } else if (answer != SHFL_DONE) {
-        return other_answer(me, word, lock, shared, answer, EDEADLK);
-    }
-    return had(me, word, lock, shared);
+    if (answer == SHFL_BUSY) error = wait_until(me, lock, shared, clock, deadline);
+    else if (answer != SHFL_DONE) return had_not(me, other_answer(me, word, lock, shared, answer, EDEADLK));
+    return error ? had_not(me, error) : had(me, word, lock, shared);
 }
 
 /* Whether the lock with this number is where it was. The system looks, since the program may have given the memory away. */
@@ -247,8 +264,12 @@ static void leave_seat_at_end(struct shfl_thread *me) {
     if (me->holding == 0 && (shfl_load(&me->unusual) & SHFL_IS_ENDING)) shfl_leave_seat(me);
 }
 
-/* A lock that was taken again, or one that is stale or recorded; or another one of a thread that has such a lock, or that ends, or while one is recorded. */
+/* A lock that was taken again, or one that is stale or recorded; or another one of a thread that has such a lock, or that ends or forks, or while one is recorded. */
 int shfl_give_back_other(struct shfl_thread *me, uint32_t *word, uint32_t number) {
+    if (shfl_load(&me->unusual) & SHFL_IS_FORKING) {
+        shfl_child_hears();
+        number = __atomic_load_n(word, __ATOMIC_ACQUIRE);
+    }
     int error = give_back_looking(me, word, number - 1);
     leave_seat_at_end(me);
     return error;

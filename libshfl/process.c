@@ -17,7 +17,7 @@ shfl_guard shfl_lists;
 uint32_t shfl_seated, shfl_fresh_locks;
 pid_t shfl_owner;
 static bool is_open;
-static struct shfl_thread *free_threads;
+static struct shfl_thread *free_threads, *lost_threads;
 static uint32_t free_locks; /* the last number that came back, plus one */
 static pthread_key_t at_end;
 
@@ -25,15 +25,17 @@ static pthread_key_t at_end;
 static void free_seat(struct shfl_thread *thread) {
     thread->aside = 0;
     thread->tid = 0;
+    thread->caller = NULL;
     __atomic_fetch_and(&thread->unusual, ~(uint32_t)SHFL_IS_ENDING, __ATOMIC_SEQ_CST);
     thread->next_free = free_threads;
     free_threads = thread;
     shfl_seated--;
 }
 
+/* Where somebody forks the seat stays as it is until it is looked for as that of a thread that is gone. */
 static void give_seat_back(struct shfl_thread *me) {
     shfl_me = NULL;
-    shfl_guard_lock(&shfl_lists);
+    if (!shfl_guard_lock_unless_forking(&shfl_lists)) return;
     free_seat(me);
     shfl_guard_unlock(&shfl_lists);
 }
@@ -52,6 +54,22 @@ static void free_seats_of_gone(void) {
     }
     if (!free_threads) looked_at = now;
     errno = before;
+}
+
+void shfl_lose_seat(struct shfl_thread *thread) {
+    thread->next_free = lost_threads;
+    lost_threads = thread;
+}
+
+/* In the child of a fork, as they are needed, since it takes a look at each lock. */
+static void free_lost_seat(void) {
+    while (lost_threads && !free_threads) {
+        struct shfl_thread *thread = lost_threads;
+        lost_threads = thread->next_free;
+        if (!shfl_rests(thread)) continue;
+        shfl_seated++;
+        free_seat(thread);
+    }
 }
 
 /* What is counted at the number from now on is another lock's. In the child of a fork a number may never be used again. */
@@ -91,6 +109,7 @@ static void end_thread(void *at) {
 /* Gives each thread and class the seat of its number, and keeps the last one for loading policies. */
 static void deal(struct shfl_seat *seats) {
     struct shfl_process *all = &shfl_process;
+    free_threads = NULL;
     for (uint32_t k = 0; k < all->thread_count; k++) {
         struct shfl_thread *thread = &all->threads[all->thread_count - 1 - k];
         thread->number = all->thread_count - 1 - k;
@@ -105,9 +124,21 @@ static void deal(struct shfl_seat *seats) {
 
 #define OWN(it) shfl_races_own(&(it), sizeof(it))
 static void own_statics(void) {
-    OWN(shfl_process), OWN(shfl_lists), OWN(is_open), OWN(shfl_seated), OWN(shfl_owner), OWN(free_threads), OWN(shfl_fresh_locks), OWN(free_locks), OWN(at_end);
+    OWN(shfl_process), OWN(shfl_lists), OWN(is_open), OWN(shfl_seated), OWN(shfl_owner), OWN(free_threads), OWN(lost_threads), OWN(shfl_fresh_locks), OWN(free_locks), OWN(at_end);
 }
 
+/* The process's lists begin, at once for who forks. */
+static void begin_with(struct shfl_seat *seats) {
+    shfl_guard_lock(&shfl_lists);
+    deal(seats);
+    shfl_process.arena_count = 1;
+    shfl_store(&shfl_process.lock_count, shfl_process.arena_locks);
+    shfl_owner = getpid();
+    __atomic_store_n(&is_open, true, __ATOMIC_RELEASE);
+    shfl_guard_unlock(&shfl_lists);
+}
+
+/* Has the guard of openings. In the child of a fork that came meanwhile it is done again, from the beginning. */
 static int open_arena(void) {
     struct shfl_process *all = &shfl_process;
     if (!shfl_asked_for(all)) return EINVAL;
@@ -118,15 +149,10 @@ static int open_arena(void) {
         return ENOMEM;
     }
     uint8_t answer = shfl_seats_open(all->arena_locks, false, all->form, all->limit, seats, count);
-    if (answer == SHFL_DONE) deal(seats);
+    if (answer == SHFL_DONE) begin_with(seats);
+    else shfl_free_room(all);
     free(seats);
-    if (answer != SHFL_DONE) {
-        shfl_free_room(all);
-        return answer == SHFL_BAD ? EINVAL : ENOMEM;
-    }
-    all->arena_count = 1;
-    shfl_store(&all->lock_count, all->arena_locks);
-    return 0;
+    return answer == SHFL_DONE ? 0 : answer == SHFL_BAD ? EINVAL : ENOMEM;
 }
 
 SHFL_COLD int shfl_begin_process(void) {
@@ -147,13 +173,9 @@ SHFL_COLD int shfl_begin_process(void) {
 SHFL_COLD int shfl_open_process(void) {
     if (__atomic_load_n(&is_open, __ATOMIC_ACQUIRE)) return 0;
     int error = shfl_begin_process();
-    shfl_guard_lock(&shfl_lists);
-    if (!error && !is_open) {
-        error = open_arena();
-        shfl_owner = getpid();
-        __atomic_store_n(&is_open, !error, __ATOMIC_RELEASE);
-    }
-    shfl_guard_unlock(&shfl_lists);
+    bool rested = shfl_begin_opening();
+    if (!error && !is_open) error = open_arena();
+    shfl_end_opening(rested);
     return error;
 }
 
@@ -162,14 +184,19 @@ bool shfl_set_attr(struct shfl_thread *me, uint16_t prio, uint16_t class_of, uin
     unsigned cpu = 0, node = 0;
     if (syscall(SYS_getcpu, &cpu, &node, NULL)) node = 0;
     uint64_t attr = (uint16_t)node | (uint64_t)prio << 16 | (uint64_t)class_of << 32 | (uint64_t)kind << 48;
-    if (!shfl_seat_set_attr(&me->seat, attr)) return false;
+    shfl_taking(me);
+    bool done = shfl_seat_set_attr(&me->seat, attr);
+    shfl_not_taken(me);
+    if (!done) return false;
     me->attr = attr;
-    uint32_t before = __atomic_load_n(&me->mark, __ATOMIC_RELAXED), mark = (me->number + 1) << 16 | node % SHFL_MARK_WATCHED;
+    uint32_t before = __atomic_load_n(&me->mark, __ATOMIC_RELAXED);
+    uint32_t mark = (me->number + 1) << SHFL_MARK_NUMBER | (uint32_t)me->turn << SHFL_MARK_TURN | node % SHFL_MARK_SOCKETS;
     while (!__atomic_compare_exchange_n(&me->mark, &before, mark | (before & SHFL_MARK_WATCHED), false, __ATOMIC_SEQ_CST, __ATOMIC_RELAXED)) {}
     return true;
 }
 
 static struct shfl_thread *take_free(int *error) {
+    if (!free_threads) free_lost_seat();
     if (!free_threads) free_seats_of_gone();
     struct shfl_thread *me = free_threads;
     bool is_new = me && me->number >= shfl_process.threads_seen;
@@ -177,6 +204,7 @@ static struct shfl_thread *take_free(int *error) {
     if (is_new && !shfl_open_counts(&shfl_process, me->number + 1)) *error = ENOMEM;
     if (*error) return NULL;
     free_threads = me->next_free;
+    me->turn = (me->turn + 1) % SHFL_MARK_TURNS;
     me->tid = (uint32_t)syscall(SYS_gettid);
     shfl_seated++;
     if (is_new) shfl_store(&shfl_process.threads_seen, me->number + 1);
@@ -197,6 +225,7 @@ SHFL_COLD struct shfl_thread *shfl_take_seat(int *error) {
     }
     if (ends) __atomic_fetch_or(&me->unusual, SHFL_IS_ENDING, __ATOMIC_SEQ_CST);
     shfl_me = me;
+    shfl_seated_in_fork(me);
     shfl_set_attr(me, 0, 0, 0);
     shfl_control();
     return me;
@@ -208,17 +237,26 @@ uint32_t shfl_number_at(uint32_t k) {
     return within < 4 * quarter ? k - within + within % quarter * 4 + within / quarter : k;
 }
 
-static int take_number(uint32_t *lock) {
-    int error = 0;
+/* False: none is free of as many as `had` says. */
+static bool take_number_of(uint32_t *lock, uint32_t *had) {
+    bool is_done = true;
     shfl_guard_lock(&shfl_lists);
+    *had = shfl_process.lock_count;
     if (free_locks > 0) {
         *lock = free_locks - 1;
         free_locks = shfl_process.totals[*lock].next_free;
+    } else if (shfl_fresh_locks < *had) {
+        *lock = shfl_number_at(shfl_fresh_locks++);
     } else {
-        if (shfl_fresh_locks == shfl_process.lock_count) error = shfl_grow();
-        if (!error) *lock = shfl_number_at(shfl_fresh_locks++);
+        is_done = false;
     }
     shfl_guard_unlock(&shfl_lists);
+    return is_done;
+}
+
+static int take_number(uint32_t *lock) {
+    int error = 0;
+    for (uint32_t had; !error && !take_number_of(lock, &had);) error = shfl_grow(had);
     return error;
 }
 

@@ -160,7 +160,7 @@ bool shfl_record_next(struct shfl_reader *reader, struct shfl_happened *out) {
     }
     if (reader->next >= end) return false;
     reader->next++;
-    *out = (struct shfl_happened){it.at - since, it.about, (it.mark >> 16) - 1, it.tid, it.mark & 0xffff, (uint8_t)it.event};
+    *out = (struct shfl_happened){it.at - since, it.about, (it.mark >> SHFL_MARK_NUMBER) - 1, it.tid, it.mark % SHFL_MARK_SOCKETS, (uint8_t)it.event};
     return true;
 }
 

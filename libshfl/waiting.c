@@ -74,18 +74,26 @@ static bool is_promoted(struct shfl_parking *parking) {
 }
 
 /* Sleeps outside. True: it holds the lock instead. Who has announced itself tries once more, since the release that it waits for may
- * have come before; and what a reader's attempt counted may be what the queue's head found in its way. */
+ * have come before; and what a reader's attempt counted may be what the queue's head found in its way. A writer that was awake may have been woken in a reader's place, or have kept others from
+ * being woken, and others may read by now: so where nobody else is awake it wakes a reader, which shares with them and wakes the next one. */
 static bool sleep_outside(struct waiter *waiter, uint64_t most) {
     struct shfl_parking *parking = waiter->parking;
+    bool passes_on = waiter->inside && !waiter->shared;
     uint32_t *readers = &shfl_total_of(parking)->readers;
     __atomic_fetch_add(&parking->outside, 1, __ATOMIC_SEQ_CST);
     if (waiter->shared) __atomic_fetch_add(readers, 1, __ATOMIC_SEQ_CST);
     uint32_t seen = shfl_load(&parking->wakeups);
     leave_inside(waiter);
     bool won = try_once(waiter);
+    if (!won && passes_on && shfl_load(&parking->inside) == 0 && shfl_wake_reader(parking)) {
+        seen = shfl_load(&parking->wakeups); /* which that has changed */
+        won = try_once(waiter);
+    }
     if (!won) {
         if (waiter->shared) shfl_ring(&parking->head_asleep);
+        shfl_not_taken(waiter->me); /* meanwhile its seat is at rest */
         waiter->inside = shfl_sleep_as(&parking->wakeups, seen, most, waiter->shared ? SHFL_READER : SHFL_WRITER);
+        shfl_taking(waiter->me);
     }
     if (waiter->shared) __atomic_fetch_sub(readers, 1, __ATOMIC_SEQ_CST);
     __atomic_fetch_sub(&parking->outside, 1, __ATOMIC_SEQ_CST);
@@ -245,7 +253,7 @@ static int wait_in_queue(struct waiter *waiter) {
     return answer == SHFL_DONE ? 0 : ENOMEM;
 }
 
-/* The waiter holds the lock, or gives up. A reader that has it, while nobody else waits awake, wakes the next reader outside, though writers have slept there for longer;
+/* The waiter holds the lock, or gives up. A reader that has it, while nobody queues, wakes the next reader outside, though writers have slept there for longer;
  * where none sleeps the next one, since a holder that left meanwhile may have taken the count of one that wasn't woken for one that is awake; and so does who was
  * woken in vain, in its place. */
 static void leave(struct waiter *waiter, bool in_vain) {

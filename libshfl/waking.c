@@ -25,9 +25,9 @@ bool shfl_wake_outside(struct shfl_parking *parking) {
     return wake_one(parking, any) || (shfl_load(&parking->outside) > 0 && shfl_load(&parking->inside) == 0 && wake_one(parking, any));
 }
 
-/* Where nobody waits awake: while somebody queues, a reader that comes from outside waits behind. */
+/* Where nobody queues: else a reader that comes from outside waits behind. Who waits awake otherwise takes nothing from readers, nor wakes them. */
 bool shfl_wake_reader(struct shfl_parking *parking) {
-    return shfl_load(&shfl_total_of(parking)->readers) > 0 && shfl_load(&parking->inside) == 0 && wake_one(parking, SHFL_READER);
+    return shfl_load(&shfl_total_of(parking)->readers) > 0 && shfl_load(&parking->queued) == 0 && wake_one(parking, SHFL_READER);
 }
 
 enum wakes { WAKES_NOBODY, WAKES_ONE, WAKES_TO_QUEUE };

@@ -1,11 +1,11 @@
 #!/usr/bin/env bash
 # libshfl as its document says: installed into an empty prefix by its words, docs/LIBSHFL.md's programs built by its words alone, against the shared
 # library and the static one, and one that opens and closes it (opened.c); what is visible and has a manual page is what the header has. In both forms each call and each error (tests/libshfl/posix.c), each
-# argument that can't be (arguments.c), deadlines (times.c), that who waits sleeps (sleeps.c), threads' ends and cancellation (lives.c), a first lock behind them (behind.c), forks (forks.c), a holder that is late (late.c), a reader that takes its lock again and again (again.c), a process's first lock (first.c), what shfl_stat counts (counts.c), policies of classes
+# argument that can't be (arguments.c), deadlines (times.c), that who waits sleeps (sleeps.c), threads' ends and cancellation (lives.c), a first lock behind them (behind.c), forks (forks.c), which seats are free in a child (seats.c, amid.c), handlers of forks that are older than the library (before.c), a holder that is late (late.c), a reader that takes its lock again and again (again.c), a process's first lock (first.c), what shfl_stat counts (counts.c), policies of classes
 # (policies.c), and one that comes while threads sleep (attached.c), that a process ends with its last thread (last.c), what a record has of a lock in each arena (records.c), that a lock may end while its last holder but one still gives it back (steps.c), that a thread of a higher priority takes no signal of another (stolen.c), that nobody sleeps beside a free lock (between.c, tries.c), nor a reader beside others that read (shares.c), that no file of the program's is taken for a client of the control socket (closes.c), the C++ classes (locks.cpp); exact counts under 16 and 64 threads (storm.c), more locks than an
 # arena has (growth.c), each message of the checked build (misuse.c). The preload library, which has each of glibc's names, under programs that know pthread alone
-# (pthreads.c, ends.c, libcs.c, errors.c, conditions.c, handlers.c, standard.cpp), which are first run with libc's own locks, in an arena that is too small, in one that can't be, which is said, and with a malloc
-# that takes a mutex (heap.c); and that it passes a signal on, too (stolen.c). Under valgrind's memcheck where it is there, and with gcc's address and undefined-behaviour checks, which end a program; programs with a
+# (pthreads.c, ends.c, libcs.c, errors.c, conditions.c, handlers.c, seats.c, standard.cpp), which are first run with libc's own locks, in an arena that is too small, in one that can't be, which is said, and with a malloc
+# that takes a mutex (heap.c), also as it forks (mallocs.c, opens.c); and that it passes a signal on, too (stolen.c). Under valgrind's memcheck where it is there, and with gcc's address and undefined-behaviour checks, which end a program; programs with a
 # race and without one under ThreadSanitizer, helgrind and drd, as far as they are there (races.c). First how long the library's functions are (functions.py). An argument
 # is how many rounds each thread of a storm makes. Where there is no C compiler it says so, and passes.
 set -u
@@ -62,9 +62,11 @@ block 2 >"$room/policy.c"
 "$cc" -Wall -Wextra -Werror -I "$room/prefix/include" "$top/tests/libshfl/opened.c" -pthread -ldl -o "$room/opened" || exit 1
 run "opened" "$room/opened"
 run "opened by its path" "$room/opened" "$room/prefix/lib/libshfl.so.1"
+"$cc" -std=gnu11 -O2 -Wall -Wextra -Werror -I "$room/prefix/include" "$top/tests/libshfl/before.c" -pthread -ldl -o "$room/before" || exit 1
+for form in rw rw-park; do run "before, $form" env SHFL_FORM="$form" SHFL_THREADS=8 "$room/before"; done
 
 tests=(posix arguments times lives forks counts policies)
-for name in "${tests[@]}" sleeps storm records steps tries stolen between shares closes behind attached last; do
+for name in "${tests[@]}" sleeps storm records steps tries stolen between shares seats amid closes behind attached last; do
     "$cc" -std=gnu11 -O2 -g -Wall -Wextra -Werror "$top/tests/libshfl/$name.c" "${words[@]}" -o "$room/$name" || exit 1
 done
 if command -v c++ >/dev/null; then
@@ -72,10 +74,11 @@ if command -v c++ >/dev/null; then
     tests+=(locks)
 fi
 # with few seats, where threads end and fork
-seats() { case "$1" in lives | behind) echo SHFL_THREADS=3 ;; forks) echo SHFL_THREADS=4 ;; esac; }
+seats() { case "$1" in lives | behind | amid) echo SHFL_THREADS=3 ;; forks) echo SHFL_THREADS=4 ;; seats) echo SHFL_THREADS=8 ;; esac; }
 for form in rw rw-park; do
-    for name in "${tests[@]}" sleeps records steps tries stolen between shares behind attached; do run "$name, $form" env SHFL_FORM="$form" $(seats "$name") "$room/$name"; done
+    for name in "${tests[@]}" sleeps records steps tries stolen between shares seats amid behind attached; do run "$name, $form" env SHFL_FORM="$form" $(seats "$name") "$room/$name"; done
 done
+run "policies, without memory" "$room/policies" memory
 run "forks, with another user's rights" env SHFL_THREADS=4 "$room/forks" changed
 run "closes" env SHFL_CONTROL="$room/control" "$room/closes" "$top/libshfl/install"
 # (whoever is left then takes no signal)
@@ -144,6 +147,16 @@ run "preloaded threads' ends" env LD_PRELOAD="$preload" "$room/ends"
 run "preloaded errors" env LD_PRELOAD="$preload" "$room/errors" preloaded
 "$cc" -std=gnu11 -O2 -Wall -Wextra -Werror -DPTHREAD -rdynamic "$top/tests/libshfl/stolen.c" -pthread -o "$room/stolenpthread" || exit 1
 run "preloaded signals" env LD_PRELOAD="$preload" "$room/stolenpthread"
+"$cc" -std=gnu11 -O2 -Wall -Wextra -Werror -DPTHREAD "$top/tests/libshfl/seats.c" -pthread -o "$room/seatspthread" || exit 1
+run "libc's seats" "$room/seatspthread"
+run "preloaded seats" env SHFL_THREADS=8 LD_PRELOAD="$preload" "$room/seatspthread"
+"$cc" -std=gnu11 -O2 -Wall -Wextra -Werror "$top/tests/libshfl/mallocs.c" -pthread -o "$room/mallocs" || exit 1
+"$cc" -std=gnu11 -O2 -Wall -Wextra -Werror "$top/tests/libshfl/opens.c" "${words[@]}" -o "$room/opens" || exit 1
+for block in 0 1 300; do
+    "$cc" -std=gnu11 -O2 -fno-builtin -Wall -Wextra -Werror -shared -fPIC -DAT_BLOCK="$block" "$top/tests/libshfl/heap.c" -pthread -o "$room/heap$block.so" || exit 1
+    run "forks as arenas open, $block" env SHFL_LOCKS=1 SHFL_ARENAS=256 LD_PRELOAD="$room/heap$block.so" "$room/opens"
+    for both in "$room/heap$block.so:$preload" "$preload:$room/heap$block.so"; do run "forks with a malloc that hears of them, $block" env LD_PRELOAD="$both" "$room/mallocs"; done
+done
 # what can't be asked for is said in one line, and then the locks are libc's
 while read -r asked said; do
     env "$asked" LD_PRELOAD="$preload" timeout 100 "$room/errors" >/dev/null 2>"$room/got" && [ "$(cat "$room/got")" = "libshfl_preload: $asked is $said; the program has libc's locks" ] || complain "preloaded, $asked: $(cat "$room/got")"

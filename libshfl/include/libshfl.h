@@ -107,7 +107,7 @@ struct shfl_fault { uint32_t slot; uint8_t fault, hook, reg; };
  * then `fault`, unless null, says for what; ENOMEM. Threads that take a lock of a class with a policy queue after one attempt. */
 int shfl_class_policy(unsigned class_of, unsigned profile, const uint8_t *should, size_t should_length, const uint8_t *skip,
                       size_t skip_length, struct shfl_fault *fault);
-int shfl_class_detach(unsigned class_of); /* the class has no policy from now on */
+int shfl_class_detach(unsigned class_of); /* the class has no policy from now on. EINVAL: no such class. It takes no memory */
 
 /* What was counted at a lock since its first use. Each thread counts on cache lines of its own, and the reader adds up: while threads
  * use the lock each number is one that was right between the call's beginning and its end, but they may be of different moments. */

@@ -76,6 +76,15 @@ static void few(void) {
     IS(of(&m).taken, 1);
 }
 
+/* One thread after another has the same seat. */
+static void in_one_seat(void) {
+    static shfl_mutex_t m;
+    for (int k = 0; k < 70; k++) beside(takes, &m);
+    IS(of(&m).taken, 70);
+    IS(of(&m).within + of(&m).across, 69);
+    IS(shfl_mutex_destroy(&m), 0);
+}
+
 static void *holds(void *at) {
     IS(shfl_mutex_lock(at), 0);
     while (of(at).contended == 0) usleep(100);
@@ -147,6 +156,7 @@ static void more_locks_than_places(void) {
 int main(int count, char **words) {
     rounds = count > 1 ? atoi(words[1]) : 20;
     few();
+    in_one_seat();
     waits();
     more_locks_than_places();
     puts("counts are exact");

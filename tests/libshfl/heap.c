@@ -1,5 +1,6 @@
 /* A malloc that takes a pthread mutex for each block, as some do: put before libshfl_preload.so it shows that the library opens, and gives
- * locks and threads their numbers, without malloc. What is given back is lost. */
+ * locks and threads their numbers, without malloc. What is given back is lost. With AT_BLOCK it has handlers of forks, too, which it registers with its block of this number, or, where that is 0,
+ * as it begins. */
 #include <errno.h>
 #include <pthread.h>
 #include <stddef.h>
@@ -11,9 +12,21 @@ static pthread_mutex_t mutex = PTHREAD_MUTEX_INITIALIZER;
 static char *fresh;
 static size_t left;
 
+#ifdef AT_BLOCK
+static void before_fork(void) { pthread_mutex_lock(&mutex); }
+static void after_fork(void) { pthread_mutex_unlock(&mutex); }
+static void hears_of_forks(int block) {
+    if (block == AT_BLOCK) pthread_atfork(before_fork, after_fork, after_fork);
+}
+#else
+static void hears_of_forks(int block) { (void)block; }
+#endif
+
 void *malloc(size_t size) {
     size_t whole = (size + 31) / 16 * 16;
+    static int blocks;
     if (size > (size_t)1 << 40) return NULL;
+    hears_of_forks(__atomic_add_fetch(&blocks, 1, __ATOMIC_SEQ_CST));
     pthread_mutex_lock(&mutex);
     if (left < whole) {
         left = whole > (1u << 20) ? whole : 1u << 20;
@@ -59,6 +72,7 @@ int posix_memalign(void **at, size_t align, size_t size) {
 }
 
 __attribute__((constructor)) static void before_main(void) {
+    hears_of_forks(0);
     pthread_mutex_lock(&mutex);
     pthread_mutex_unlock(&mutex);
 }

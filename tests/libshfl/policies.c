@@ -6,6 +6,7 @@
 #include <pthread.h>
 #include <signal.h>
 #include <stdbool.h>
+#include <sys/resource.h>
 #include <unistd.h>
 #include "answers.h"
 
@@ -155,9 +156,36 @@ static void is_busy(void) {
     IS(shfl_class_detach(CLASS), 0);
 }
 
-int main(void) {
+/* A class gets rid of its policy where there is no memory, for a new one neither. */
+static void without_memory(void) {
+    struct rlimit most, none = {1 << 20, 1 << 20};
+    struct shfl_class_stat it;
+    void **blocks = NULL;
+    IS(attach(0) || getrlimit(RLIMIT_AS, &most), 0);
+    none.rlim_max = most.rlim_max;
+    IS(setrlimit(RLIMIT_AS, &none), 0);
+    for (size_t size = 1 << 16; size >= 16; size -= 16)
+        for (void **block; (block = malloc(size)); blocks = block) *block = blocks;
+    int attached = attach(0), detached = shfl_class_detach(CLASS);
+    IS(setrlimit(RLIMIT_AS, &most), 0);
+    while (blocks) {
+        void **block = blocks;
+        blocks = *block;
+        free(block);
+    }
+    IS(attached, ENOMEM);
+    IS(detached, 0);
+    IS(shfl_class_stat(CLASS, &it) || it.attached, 0);
+}
+
+int main(int words, char **word) {
     alarm(280);
     mallopt(M_ARENA_MAX, 1);
+    if (words > 1 && strcmp(word[1], "memory") == 0) {
+        without_memory();
+        puts("a class needs no memory to have no policy");
+        return 0;
+    }
     IS(shfl_mutex_init(&m, CLASS), 0);
     doesnt_queue();
     go_over();
