@@ -14,7 +14,7 @@ ghost use Rattle.shfl_laws.specs.Stealing.{disable_plan};
 
 use crate::performing::perform;
 use crate::plays::{AttemptPlay, AttemptTerms, StepPlay, StepTerms, StillPlay};
-use crate::shape::{Shape, place};
+use crate::shape::{Shape, lock_place};
 use crate::view::{LawfulArena, Opening, SeatView};
 use atomic_table::{Seat, Shared};
 use shfl_core::asks::attempt_access;
@@ -65,6 +65,21 @@ pub fn operate<V, M: StepTerms>(
     perform::<Option<V>, SeatView, Opening, LawfulArena, StepPlay<M>>(
         shared, seat, shape, lock, access,
     )
+}
+
+/// Looks at a lock's word, and forgets what it found. A processor begins an operation that may change a word only when all before it
+/// is over, and a load at once: so the word is on its way while what stands before is still under way, of several locks at a time.
+#[inline(always)]
+pub fn look_once<V>(
+    shared: &Shared<Option<V>, SeatView, Opening, LawfulArena>,
+    shape: Shape,
+    lock: u32,
+)
+    requires table { shared.now.key.shape ≡ shape }
+    requires lock { lock < shape.locks }
+    requires place { words.first_node shape < shared.now.table_id.words }
+{
+    let _ = shared.peek(lock_place(shape.spread, lock));
 }
 
 /// The one operation of an attempt of a seat that has no step to make.

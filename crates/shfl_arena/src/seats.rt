@@ -12,7 +12,7 @@ ghost use Rattle.shfl_arena.specs.Waits.{Frees};
 
 use crate::arena::Arena;
 use crate::leaving::leave_once;
-use crate::operation::{attempt_once, disable_once, operate, store_attribute};
+use crate::operation::{attempt_once, disable_once, look_once, operate, store_attribute};
 use crate::shape::Shape;
 use crate::view::SeatView;
 use atomic_table::Seat;
@@ -178,7 +178,7 @@ impl<V: Drop> ArenaSeat<V> {
         true
     }
 
-    // The first operation of an attempt.
+    // The first operation of an attempt, behind a look that changes nothing.
     #[inline(always)]
     fn attempt_first(&mut self, arena: &Arena<V>, lock: u32, mode: Mode) -> u64
         requires arena { self.old.arena ≡ arena.now.id }
@@ -189,6 +189,7 @@ impl<V: Drop> ArenaSeat<V> {
         ensures { TriesOnce lock mode result self.old self.new }
     {
         let shared = &arena.table.shared;
+        look_once(shared, self.shape, lock);
         let found = attempt_once::<V, Brand>(
             shared,
             &mut self.seat,
@@ -206,6 +207,7 @@ impl<V: Drop> ArenaSeat<V> {
 
     /// Takes a lock that it doesn't hold by one operation, or finds a word that refuses it: under `Write` any but 0, under `Read` one
     /// that a writer has or whose stealing is disabled. A refused reader takes its count back, by a second operation. It waits for nobody.
+    /// Before the first operation it looks at the word, which changes nothing, and by which nothing is decided.
     #[inline(always)]
     pub fn attempt(&mut self, arena: &Arena<V>, lock: u32, mode: Mode) -> Result<(), u64>
         requires arena { self.old.arena ≡ arena.now.id }

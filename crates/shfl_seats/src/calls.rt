@@ -28,7 +28,7 @@ impl SeatTicket {
             && (matches!(mode, Mode::Write) || shares(self.seat.form()))
     }
 
-    /// Takes a lock by one operation, or finds a word that refuses it. It waits for nobody.
+    /// Takes a lock by one operation, behind a look at its word that changes nothing, or finds a word that refuses it. It waits for nobody.
     pub fn attempt(&mut self, lock: u32, mode: Mode) -> Answer
         ensures bad { (result ≡ Bad) ↔ ¬ (MayUseLock lock mode self.old) }
         ensures held { result ≡ Held → IsSome (mode_held lock self.old.seat.holds) }

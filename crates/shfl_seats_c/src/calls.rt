@@ -32,9 +32,9 @@ fn hold_told(hold: Option<Mode>) -> u8
     }
 }
 
-/// Takes a lock, as a reader where it is shared, by one operation. 0: it is held. 1: a word was found that refuses it. 2: the seat holds it already.
-/// 4: there is no such lock, its form has no readers, or the seat has a step to make. 5: there is no memory. Unless the answer is 0 the seat
-/// holds what it held.
+/// Takes a lock, as a reader where it is shared, by one operation, behind a look at its word that changes nothing. 0: it is held. 1: a word
+/// was found that refuses it. 2: the seat holds it already. 4: there is no such lock, its form has no readers, or the seat has a step to make.
+/// 5: there is no memory. Unless the answer is 0 the seat holds what it held.
 #[unsafe(no_mangle)]
 pub extern "C" fn shfl_seat_attempt(seat: &mut ShflSeat, lock: u32, shared: bool) -> u8
     ghost x: { TicketModel }
