@@ -105,11 +105,7 @@ impl SeatTicket {
         if !self.may_use(lock, Mode::Write) {
             return Answer::Bad;
         }
-        if self.seat.release(&self.share.arena, lock) {
-            Answer::Done
-        } else {
-            Answer::NotHeld
-        }
+        self.seat.release(&self.share.arena, lock)
     }
 
     /// Disables stealing at a lock, beside the steps: for the queue's head, which looked in vain. False where there is no such lock.

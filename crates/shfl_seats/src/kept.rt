@@ -8,7 +8,7 @@ ghost use Rattle.shfl_arena.specs.SeatModels.{entering};
 ghost use Rattle.shfl_arena.specs.SeatSteps.{TakesStep, WinsAttempt, LosesAttempt};
 ghost use Rattle.shfl_arena.specs.Threads.{mode_held};
 ghost use Rattle.shfl_arena.specs.Waits.{Frees};
-ghost use Rattle.shfl_seats.specs.declared.answers.Answer.TheVariants.{Done, Busy, Held, NotHeld, Bad};
+ghost use Rattle.shfl_seats.specs.declared.answers.Answer.TheVariants.{Done, Busy, Held, NotHeld, Bad, NoMemory as NoRoom};
 
 use crate::answers::Answer;
 use crate::held::{add, forget, holds_none, make_room, mode_of, note};
@@ -198,35 +198,37 @@ impl KeptSeat {
     // Gives back a lock that doesn't stand by itself.
     #[cold]
     #[inline(never)]
-    fn release_other(&mut self, arena: &Arena<()>, lock: u32) -> bool
+    fn release_other(&mut self, arena: &Arena<()>, lock: u32) -> Answer
         requires arena { self.old.arena ≡ arena.now.id }
         requires no_values { self.old.arena.table.slots ≡ 0 }
         requires rests { plan.moving self.old.own ≡ false }
         requires lock { lock < self.old.arena.shape.locks }
-        ensures not_held { result ≡ false
-            → (mode_held lock self.old.holds ≡ None) × (self.new ≡ self.old) }
-        ensures held { result ≡ true → (mode : HeldMode)
+        ensures not_held { result ≡ NotHeld → mode_held lock self.old.holds ≡ None }
+        ensures held { result ≡ Done → (mode : HeldMode)
             × (mode_held lock self.old.holds ≡ Some mode) × Frees lock mode self.old self.new }
+        ensures others { (result ≢ Busy) × (result ≢ Held) × (result ≢ Bad) × (result ≢ NoRoom) }
+        ensures refused { result ≢ Done → self.new ≡ self.old }
     {
         let Some(mode) = self.hold(lock) else {
-            return false;
+            return Answer::NotHeld;
         };
         self.seat.leave(arena, lock, mode);
         forget(&mut self.first, &mut self.others, lock);
-        true
+        Answer::Done
     }
 
-    /// Gives back a lock in the mode in which it holds it. False, and nothing changes, where it doesn't.
+    /// Gives back a lock in the mode in which it holds it, or doesn't hold it, and then nothing changes.
     #[inline(always)]
-    pub(crate) fn release(&mut self, arena: &Arena<()>, lock: u32) -> bool
+    pub(crate) fn release(&mut self, arena: &Arena<()>, lock: u32) -> Answer
         requires arena { self.old.arena ≡ arena.now.id }
         requires no_values { self.old.arena.table.slots ≡ 0 }
         requires rests { plan.moving self.old.own ≡ false }
         requires lock { lock < self.old.arena.shape.locks }
-        ensures not_held { result ≡ false
-            → (mode_held lock self.old.holds ≡ None) × (self.new ≡ self.old) }
-        ensures held { result ≡ true → (mode : HeldMode)
+        ensures not_held { result ≡ NotHeld → mode_held lock self.old.holds ≡ None }
+        ensures held { result ≡ Done → (mode : HeldMode)
             × (mode_held lock self.old.holds ≡ Some mode) × Frees lock mode self.old self.new }
+        ensures others { (result ≢ Busy) × (result ≢ Held) × (result ≢ Bad) × (result ≢ NoRoom) }
+        ensures refused { result ≢ Done → self.new ≡ self.old }
     {
         let Some(kept) = self.first else {
             return self.release_other(arena, lock);
@@ -236,7 +238,7 @@ impl KeptSeat {
         }
         self.seat.leave(arena, lock, kept.1);
         self.first = None;
-        true
+        Answer::Done
     }
 
     /// Disables stealing at a lock, beside the steps.
