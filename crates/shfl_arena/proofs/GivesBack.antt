@@ -1,5 +1,5 @@
 -- Who holds a lock as a writer has its word's held bit set. So clearing the bit and taking it away are the same, and either gives the lock back.
-use Rattle.std.proofs.Common.{◌≡◌, ℕ, ◌+◌, ◌-◌, ◌%◌, ◌^◌, ◌<◌, Bool, true, false, List, sym, ap, ◌∙◌, subst, arith}
+use Rattle.std.proofs.Common.{◌≡◌, ℕ, ◌+◌, ◌-◌, ◌%◌, ◌^◌, ◌<◌, Bool, true, false, List, refl, sym, ap, ◌∙◌, subst, arith}
 use Rattle.std.specs.Prelude.{Option, Some, None, bit_and}
 use mathlib.Core.Option.{some}
 use lib.ListN.{get_elem?}
@@ -21,12 +21,11 @@ use Rattle.shfl_arena.specs.declared.view.SeatView.{SeatView}
 use Rattle.shfl_arena.specs.declared.view.ThreadView.{ThreadView}
 use Rattle.shfl_arena.specs.ArenaRule.{ArenaTerms, ArenaRule, world_at}
 use Rattle.shfl_arena.specs.ArenaTable.{told_arena, LawfulTable}
-use Rattle.shfl_arena.specs.ArenaWords.{first_node, place, word_at}
+use Rattle.shfl_arena.specs.ArenaWords.{place, word_at}
 use Rattle.shfl_arena.specs.Operations.{LockTerms, Permits, gives_back, step_play}
 use Rattle.shfl_arena.specs.SeatModels.{leaving}
 use Rattle.shfl_arena.specs.SeatViews.{threads_of}
 use Rattle.shfl_arena.specs.Threads.{mode_held, pass_at, pass_at_rest, resting, thread_at}
-use Rattle.shfl_arena.proofs.Places.{lock-room}
 use Rattle.shfl_arena.proofs.Headlines.{arena-headline}
 use Rattle.shfl_arena.proofs.SeatViews.{threads-at}
 use Rattle.shfl_arena.proofs.Threads.{at-none, off-at}
@@ -42,10 +41,10 @@ cleared-or-taken n w held =
     m.0 ∙ ((λ j. packed_lock (s.held j) (s.closed j) (s.readers j)) ∙ (taken-away (closed_of n) (readers_of n) k.1
     ∙ ap (λ z. (z + (2 ^ 64 - 1)) % 2 ^ 64) (sym (k.0 ∙ ap (λ h. packed_lock h (closed_of n) (readers_of n)) held))))
 
--- its word is there
-pub gives-word : (shape : Shape) (l words : ℕ) → l < shape.locks → first_node shape < words → (m : Mode) → place shape l (site (gives_back m)) < words
-gives-word shape l words below room Write = let a = (lock-room shape.spread l shape.locks below).0 in omega arith
-gives-word shape l words below room Read = let a = (lock-room shape.spread l shape.locks below).0 in omega arith
+-- its word is the lock word
+pub gives-site : (m : Mode) → site (gives_back m) ≡ Lock
+gives-site Write = refl
+gives-site Read = refl
 
 module _ (shape : Shape) (rules : Rules) (n l : ℕ) (below : l < shape.locks) where
   abbrev A : List ℕ → ArenaTerms

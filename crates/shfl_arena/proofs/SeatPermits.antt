@@ -45,7 +45,7 @@ told-attempt : (mode : Mode) (n : ℕ) → told (attempt_plan mode) n ≡ n
 told-attempt Write n = refl
 told-attempt Read n = refl
 
-attempt-site : (mode : Mode) → site (attempt_plan mode) ≡ Lock
+pub attempt-site : (mode : Mode) → site (attempt_plan mode) ≡ Lock
 attempt-site Write = refl
 attempt-site Read = refl
 

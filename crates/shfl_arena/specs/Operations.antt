@@ -38,17 +38,25 @@ abbrev pub second_of : Access → ℕ
 second_of (CompareSwap w old new) = new
 second_of _ = 0
 
+-- at this place, and at the place of its word of the lock l
+abbrev pub step_at : {S : Type 0} → ℕ → ℕ → Access → Step S
+step_at slots w a = step slots w (first_of a) (second_of a) none
+
 abbrev pub step_of : {S : Type 0} → ℕ → Shape → ℕ → Access → Step S
-step_of slots shape l a = step slots (place shape l (site a)) (first_of a) (second_of a) none
+step_of slots shape l a = step_at slots (place shape l (site a)) a
 
 -- by this a holder gives its lock back: what it had put into the lock word is taken away
 abbrev pub gives_back : Mode → Access
 gives_back Write = Sub Lock HELD
 gives_back Read = Sub Lock READER
 
--- the seat may make the operation at the lock l, and the play holds of it
+-- the seat may make the operation at this place, and the play holds of it
+abbrev pub PermitsAt : {S V : Type 0} → (TableState S V → Type 0) → ℕ → ℕ → Me S V → (Step S → Me S V → ℕ → Me S V → Type 0) → ℕ → Access → Type 0
+PermitsAt holds slots id me then w a = Allows holds slots id me w (put a) (λ n. then (step_at slots w a) me (told a n))
+
+-- and at the place of its word of the lock l
 abbrev pub Permits : {S V : Type 0} → (TableState S V → Type 0) → ℕ → ℕ → Me S V → (Step S → Me S V → ℕ → Me S V → Type 0) → Shape → ℕ → Access → Type 0
-Permits holds slots id me then shape l a = Allows holds slots id me (place shape l (site a)) (put a) (λ n. then (step_of slots shape l a) me (told a n))
+Permits holds slots id me then shape l a = PermitsAt holds slots id me then (place shape l (site a)) a
 
 -- the table and the lock for which an operation is made
 pub record LockTerms : Type 0 where

@@ -24,6 +24,7 @@ fn table_seat<V>(seat: ArenaSeat<V>) -> Seat<Option<V>, SeatView>
         lock: _,
         rules: _,
         shape: _,
+        stride: _,
         seat,
     } = seat;
     seat

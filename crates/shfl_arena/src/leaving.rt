@@ -10,7 +10,7 @@ ghost use Rattle.shfl_core.specs.Plan.{plan};
 ghost use Rattle.shfl_core.specs.Take.{take};
 ghost use Rattle.shfl_line.specs.declared.events.Mode.TheVariants.{Write};
 
-use crate::performing::perform;
+use crate::performing::perform_at;
 use crate::plays::{StepPlay, StepTerms};
 use crate::shape::Shape;
 use crate::view::{LawfulArena, Opening, SeatView};
@@ -32,7 +32,8 @@ fn leave_access(mode: Mode) -> Access
     Access::Sub { w: Word::Lock, v }
 }
 
-/// The step of a seat that holds a lock at rest in this mode, and leaves. `rules` serves the proof alone.
+/// The step of a seat that holds a lock at rest in this mode, and leaves, on the word at this place. `shape`, `rules` and `lock` serve
+/// the proof alone.
 #[inline(always)]
 pub fn leave_once<V, M: StepTerms>(
     shared: &Shared<Option<V>, SeatView, Opening, LawfulArena>,
@@ -40,6 +41,7 @@ pub fn leave_once<V, M: StepTerms>(
     shape: Shape,
     rules: Rules,
     lock: u32,
+    at: usize,
     mode: Mode,
 ) -> u64
     requires made { (M.terms ≡ record {
@@ -51,7 +53,8 @@ pub fn leave_once<V, M: StepTerms>(
     requires table { (seat.old.table_id ≡ shared.now.table_id) × (shared.now.key.rules ≡ rules)
         × (shared.now.key.shape ≡ shape) }
     requires lock { lock < shape.locks }
-    requires place { words.first_node shape < shared.now.table_id.words }
+    requires at { at ≡ words.lock_place shape.spread lock }
+    requires place { at < shared.now.table_id.words }
     requires one { seat.old.me.0.seats ≡ 1 }
     requires rests { seat.old.me.0.thread.at ≡ None }
     requires holds { mode_held lock seat.old.me.0.thread.holds ≡ Some mode }
@@ -68,7 +71,5 @@ pub fn leave_once<V, M: StepTerms>(
         (step_decisions rules own false) seat.old.table_id.slots seat.old.me result seat.new.me }
 {
     let access = leave_access(mode);
-    perform::<Option<V>, SeatView, Opening, LawfulArena, StepPlay<M>>(
-        shared, seat, shape, lock, access,
-    )
+    perform_at::<Option<V>, SeatView, Opening, LawfulArena, StepPlay<M>>(shared, seat, at, access)
 }

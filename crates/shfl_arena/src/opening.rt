@@ -10,7 +10,7 @@ ghost use Rattle.shfl_core.specs.Words.{most_passes};
 
 use crate::arena::Arena;
 use crate::seats::ArenaSeat;
-use crate::shape::{Shape, first_node};
+use crate::shape::{Shape, first_node, stride};
 use crate::view::{LawfulArena, NextSeat, Opening, SeatView};
 use atomic_table::{Seat, Shared, Table};
 use shfl_core::Rules;
@@ -56,6 +56,7 @@ fn seated<V: Drop>(
         lock: 0,
         rules,
         shape,
+        stride: stride(shape.spread),
         seat,
     }
 }

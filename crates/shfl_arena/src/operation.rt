@@ -12,9 +12,9 @@ ghost use Rattle.shfl_core.specs.Words.{site};
 ghost use Rattle.shfl_laws.specs.Seen.{SeenAs};
 ghost use Rattle.shfl_laws.specs.Stealing.{disable_plan};
 
-use crate::performing::perform;
+use crate::performing::{perform, perform_at};
 use crate::plays::{AttemptPlay, AttemptTerms, StepPlay, StepTerms, StillPlay};
-use crate::shape::{Shape, place};
+use crate::shape::Shape;
 use crate::view::{LawfulArena, Opening, SeatView};
 use atomic_table::{Seat, Shared};
 use shfl_core::asks::attempt_access;
@@ -67,7 +67,17 @@ pub fn operate<V, M: StepTerms>(
     )
 }
 
-/// The one operation of an attempt of a seat that has no step to make.
+/// Looks at the word at this place, and forgets what it found. A processor begins an operation that may change a word only when all before
+/// it is over, and a load at once: so the word is on its way while what stands before is still under way, of several locks at a time.
+#[inline(always)]
+pub fn look_once<V>(shared: &Shared<Option<V>, SeatView, Opening, LawfulArena>, at: usize)
+    requires place { at < shared.now.table_id.words }
+{
+    let _ = shared.peek(at);
+}
+
+/// The one operation of an attempt of a seat that has no step to make, on the word at this place. `shape`, `rules` and `lock` serve the
+/// proof alone.
 #[inline(always)]
 pub fn attempt_once<V, M: AttemptTerms>(
     shared: &Shared<Option<V>, SeatView, Opening, LawfulArena>,
@@ -75,6 +85,7 @@ pub fn attempt_once<V, M: AttemptTerms>(
     shape: Shape,
     rules: Rules,
     lock: u32,
+    at: usize,
     mode: Mode,
 ) -> u64
     requires made { (M.goal ≡ record {
@@ -86,7 +97,8 @@ pub fn attempt_once<V, M: AttemptTerms>(
     requires table { (seat.old.table_id ≡ shared.now.table_id) × (shared.now.key.rules ≡ rules)
         × (shared.now.key.shape ≡ shape) }
     requires lock { lock < shape.locks }
-    requires place { words.first_node shape < shared.now.table_id.words }
+    requires at { at ≡ words.lock_place shape.spread lock }
+    requires place { at < shared.now.table_id.words }
     requires one { seat.old.me.0.seats ≡ 1 }
     requires rests { seat.old.me.0.thread.at ≡ None }
     requires free { mode_held lock seat.old.me.0.thread.holds ≡ None }
@@ -102,8 +114,8 @@ pub fn attempt_once<V, M: AttemptTerms>(
         seat.old.table_id.slots seat.old.me result seat.new.me }
 {
     let access = attempt_access(mode);
-    perform::<Option<V>, SeatView, Opening, LawfulArena, AttemptPlay<M>>(
-        shared, seat, shape, lock, access,
+    perform_at::<Option<V>, SeatView, Opening, LawfulArena, AttemptPlay<M>>(
+        shared, seat, at, access,
     )
 }
 

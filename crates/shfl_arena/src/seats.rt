@@ -12,8 +12,8 @@ ghost use Rattle.shfl_arena.specs.Waits.{Frees};
 
 use crate::arena::Arena;
 use crate::leaving::leave_once;
-use crate::operation::{attempt_once, disable_once, operate, store_attribute};
-use crate::shape::Shape;
+use crate::operation::{attempt_once, disable_once, look_once, operate, store_attribute};
+use crate::shape::{Shape, lock_place_by};
 use crate::view::SeatView;
 use atomic_table::Seat;
 use shfl_core::asks::{attempt_row_in_place, idle_pass, is_moving};
@@ -29,10 +29,14 @@ pub struct ArenaSeat<V> {
     pub(crate) lock: u32,
     pub(crate) rules: Rules,
     pub(crate) shape: Shape,
+    // How many words it is from one lock's word to the next one's: each attempt is spared asking the shape.
+    pub(crate) stride: u32,
     pub(crate) seat: Seat<Option<V>, SeatView>,
 }
 
 impl<V> Model for ArenaSeat<V> {
+    ghost use Rattle.std.specs.Prelude.{◌≡◌};
+    ghost use Rattle.shfl_arena.specs.ArenaWords.{lock_place};
     ghost use Rattle.shfl_arena.specs.SeatModels.{SeatInvariant, SeatModel};
 
     ghost Value = { SeatModel V };
@@ -47,7 +51,8 @@ impl<V> Model for ArenaSeat<V> {
       values = s.seat.me.1;
     } };
 
-    ghost invariant = { λ s. SeatInvariant s.shape s.rules s.own s.lock s.seat.table_id s.seat.me };
+    ghost invariant = { λ s. SeatInvariant s.shape s.rules s.own s.lock s.seat.table_id s.seat.me
+        × (s.stride ≡ lock_place s.shape.spread 1) };
 }
 
 // The first phase of a way in.
@@ -178,7 +183,7 @@ impl<V: Drop> ArenaSeat<V> {
         true
     }
 
-    // The first operation of an attempt.
+    // The first operation of an attempt, behind a look that changes nothing.
     #[inline(always)]
     fn attempt_first(&mut self, arena: &Arena<V>, lock: u32, mode: Mode) -> u64
         requires arena { self.old.arena ≡ arena.now.id }
@@ -189,12 +194,15 @@ impl<V: Drop> ArenaSeat<V> {
         ensures { TriesOnce lock mode result self.old self.new }
     {
         let shared = &arena.table.shared;
+        let at = lock_place_by(self.shape.spread, self.stride, lock);
+        look_once(shared, at);
         let found = attempt_once::<V, Brand>(
             shared,
             &mut self.seat,
             self.shape,
             self.rules,
             lock,
+            at,
             mode,
         );
         // (not before, since the operation would wait for what is written first)
@@ -206,6 +214,7 @@ impl<V: Drop> ArenaSeat<V> {
 
     /// Takes a lock that it doesn't hold by one operation, or finds a word that refuses it: under `Write` any but 0, under `Read` one
     /// that a writer has or whose stealing is disabled. A refused reader takes its count back, by a second operation. It waits for nobody.
+    /// Before the first operation it looks at the word, which changes nothing, and by which nothing is decided.
     #[inline(always)]
     pub fn attempt(&mut self, arena: &Arena<V>, lock: u32, mode: Mode) -> Result<(), u64>
         requires arena { self.old.arena ≡ arena.now.id }
@@ -237,7 +246,16 @@ impl<V: Drop> ArenaSeat<V> {
         ensures { Frees lock mode self.old self.new }
     {
         let shared = &arena.table.shared;
-        let _ = leave_once::<V, Brand>(shared, &mut self.seat, self.shape, self.rules, lock, mode);
+        let at = lock_place_by(self.shape.spread, self.stride, lock);
+        let _ = leave_once::<V, Brand>(
+            shared,
+            &mut self.seat,
+            self.shape,
+            self.rules,
+            lock,
+            at,
+            mode,
+        );
         self.own.phase = Phase::Idle;
         self.lock = lock;
     }

@@ -13,7 +13,6 @@ ghost use Rattle.shfl_seats.specs.declared.answers.Answer.TheVariants.{Done, Bus
 ghost use Rattle.shfl_seats.specs.declared.answers.Progress.TheVariants.{Rests};
 
 use crate::answers::{Answer, Progress, came_of};
-use crate::kept::Tried;
 use crate::ticket::SeatTicket;
 use shfl_core::found::shares;
 use shfl_line::{Attr, Mode};
@@ -28,7 +27,8 @@ impl SeatTicket {
             && (matches!(mode, Mode::Write) || shares(self.seat.form()))
     }
 
-    /// Takes a lock by one operation, or finds a word that refuses it. It waits for nobody.
+    /// Takes a lock by one operation, behind a look at its word that changes nothing, or finds a word that refuses it. It waits for nobody.
+    #[inline(always)]
     pub fn attempt(&mut self, lock: u32, mode: Mode) -> Answer
         ensures bad { (result ≡ Bad) ↔ ¬ (MayUseLock lock mode self.old) }
         ensures held { result ≡ Held → IsSome (mode_held lock self.old.seat.holds) }
@@ -42,12 +42,7 @@ impl SeatTicket {
         if !self.may_use(lock, mode) {
             return Answer::Bad;
         }
-        match self.seat.attempt(&self.share.arena, lock, mode) {
-            Tried::Won => Answer::Done,
-            Tried::Lost => Answer::Busy,
-            Tried::Held => Answer::Held,
-            Tried::NoMemory => Answer::NoMemory,
-        }
+        self.seat.attempt(&self.share.arena, lock, mode)
     }
 
     /// Begins to take a lock: steps follow until it is held.
@@ -110,11 +105,7 @@ impl SeatTicket {
         if !self.may_use(lock, Mode::Write) {
             return Answer::Bad;
         }
-        if self.seat.release(&self.share.arena, lock) {
-            Answer::Done
-        } else {
-            Answer::NotHeld
-        }
+        self.seat.release(&self.share.arena, lock)
     }
 
     /// Disables stealing at a lock, beside the steps: for the queue's head, which looked in vain. False where there is no such lock.

@@ -8,7 +8,9 @@ ghost use Rattle.shfl_arena.specs.SeatModels.{entering};
 ghost use Rattle.shfl_arena.specs.SeatSteps.{TakesStep, WinsAttempt, LosesAttempt};
 ghost use Rattle.shfl_arena.specs.Threads.{mode_held};
 ghost use Rattle.shfl_arena.specs.Waits.{Frees};
+ghost use Rattle.shfl_seats.specs.declared.answers.Answer.TheVariants.{Done, Busy, Held, NotHeld, Bad, NoMemory as NoRoom};
 
+use crate::answers::Answer;
 use crate::held::{add, forget, holds_none, make_room, mode_of, note};
 use shfl_arena::{Arena, ArenaSeat};
 use shfl_core::{Ask, Nap, Phase, Watch};
@@ -38,15 +40,6 @@ impl Model for KeptSeat {
     ghost invariant = { λ k. Agree (listed k.first k.others.items) k.seat.holds
         × StandsAlone k.first k.others.items
         × (moving k.seat.own ≡ true → vec_len k.others < vec_capacity k.others) };
-}
-
-/// What came of an attempt.
-#[derive(Clone, Copy, Debug, PartialEq, Eq, Drop)]
-pub(crate) enum Tried {
-    Won,
-    Lost,
-    Held,
-    NoMemory,
 }
 
 impl KeptSeat {
@@ -114,55 +107,55 @@ impl KeptSeat {
         mode_of(self.first, self.others.as_slice(), lock)
     }
 
-    // The same beside other locks that it holds.
+    // Attempts a lock beside others that the seat holds.
     #[cold]
     #[inline(never)]
-    fn attempt_beside(&mut self, arena: &Arena<()>, lock: u32, mode: Mode) -> Tried
+    fn attempt_beside(&mut self, arena: &Arena<()>, lock: u32, mode: Mode) -> Answer
         requires arena { self.old.arena ≡ arena.now.id }
         requires rests { plan.moving self.old.own ≡ false }
         requires lock { lock < self.old.arena.shape.locks }
         requires mode { MayUse self.old.arena.rules.form mode }
-        ensures held { result ≡ Tried.Held → IsSome (mode_held lock self.old.holds) }
-        ensures won { result ≡ Tried.Won → WinsAttempt lock mode self.old self.new }
-        ensures lost { result ≡ Tried.Lost
-            → (word : ℕ) × LosesAttempt lock mode word self.old self.new }
-        ensures same { result ≢ Tried.Won → result ≢ Tried.Lost → self.new ≡ self.old }
+        ensures held { result ≡ Held → IsSome (mode_held lock self.old.holds) }
+        ensures won { result ≡ Done → WinsAttempt lock mode self.old self.new }
+        ensures lost { result ≡ Busy → (word : ℕ) × LosesAttempt lock mode word self.old self.new }
+        ensures others { (result ≢ NotHeld) × (result ≢ Bad) }
+        ensures same { result ≢ Done → result ≢ Busy → self.new ≡ self.old }
     {
         if self.hold(lock).is_some() {
-            return Tried::Held;
+            return Answer::Held;
         }
         if !make_room(self.first, &mut self.others) {
-            return Tried::NoMemory;
+            return Answer::NoMemory;
         }
         if self.seat.attempt(arena, lock, mode).is_err() {
-            return Tried::Lost;
+            return Answer::Busy;
         }
         add(&mut self.first, &mut self.others, lock, mode);
-        Tried::Won
+        Answer::Done
     }
 
     /// Takes a lock by one operation, or finds a word that refuses it, or holds it already, or finds no memory to note the hold. Who holds none
     /// goes the shorter way.
     #[inline(always)]
-    pub(crate) fn attempt(&mut self, arena: &Arena<()>, lock: u32, mode: Mode) -> Tried
+    pub(crate) fn attempt(&mut self, arena: &Arena<()>, lock: u32, mode: Mode) -> Answer
         requires arena { self.old.arena ≡ arena.now.id }
         requires rests { plan.moving self.old.own ≡ false }
         requires lock { lock < self.old.arena.shape.locks }
         requires mode { MayUse self.old.arena.rules.form mode }
-        ensures held { result ≡ Tried.Held → IsSome (mode_held lock self.old.holds) }
-        ensures won { result ≡ Tried.Won → WinsAttempt lock mode self.old self.new }
-        ensures lost { result ≡ Tried.Lost
-            → (word : ℕ) × LosesAttempt lock mode word self.old self.new }
-        ensures same { result ≢ Tried.Won → result ≢ Tried.Lost → self.new ≡ self.old }
+        ensures held { result ≡ Held → IsSome (mode_held lock self.old.holds) }
+        ensures won { result ≡ Done → WinsAttempt lock mode self.old self.new }
+        ensures lost { result ≡ Busy → (word : ℕ) × LosesAttempt lock mode word self.old self.new }
+        ensures others { (result ≢ NotHeld) × (result ≢ Bad) }
+        ensures same { result ≢ Done → result ≢ Busy → self.new ≡ self.old }
     {
         if !holds_none(self.first, self.others.as_slice()) {
             return self.attempt_beside(arena, lock, mode);
         }
-        if self.seat.attempt(arena, lock, mode).is_err() {
-            return Tried::Lost;
+        if self.seat.attempt(arena, lock, mode).is_ok() {
+            self.first = Some((lock, mode));
+            return Answer::Done;
         }
-        self.first = Some((lock, mode));
-        Tried::Won
+        Answer::Busy
     }
 
     /// Begins to take a lock; or nothing changes, where there is no memory to note the hold.
@@ -202,38 +195,40 @@ impl KeptSeat {
         true
     }
 
-    // The same of a lock that doesn't stand by itself.
+    // Gives back a lock that doesn't stand by itself.
     #[cold]
     #[inline(never)]
-    fn release_other(&mut self, arena: &Arena<()>, lock: u32) -> bool
+    fn release_other(&mut self, arena: &Arena<()>, lock: u32) -> Answer
         requires arena { self.old.arena ≡ arena.now.id }
         requires no_values { self.old.arena.table.slots ≡ 0 }
         requires rests { plan.moving self.old.own ≡ false }
         requires lock { lock < self.old.arena.shape.locks }
-        ensures not_held { result ≡ false
-            → (mode_held lock self.old.holds ≡ None) × (self.new ≡ self.old) }
-        ensures held { result ≡ true → (mode : HeldMode)
+        ensures not_held { result ≡ NotHeld → mode_held lock self.old.holds ≡ None }
+        ensures held { result ≡ Done → (mode : HeldMode)
             × (mode_held lock self.old.holds ≡ Some mode) × Frees lock mode self.old self.new }
+        ensures others { (result ≢ Busy) × (result ≢ Held) × (result ≢ Bad) × (result ≢ NoRoom) }
+        ensures refused { result ≢ Done → self.new ≡ self.old }
     {
         let Some(mode) = self.hold(lock) else {
-            return false;
+            return Answer::NotHeld;
         };
         self.seat.leave(arena, lock, mode);
         forget(&mut self.first, &mut self.others, lock);
-        true
+        Answer::Done
     }
 
-    /// Gives back a lock in the mode in which it holds it. False, and nothing changes, where it doesn't.
+    /// Gives back a lock in the mode in which it holds it, or doesn't hold it, and then nothing changes.
     #[inline(always)]
-    pub(crate) fn release(&mut self, arena: &Arena<()>, lock: u32) -> bool
+    pub(crate) fn release(&mut self, arena: &Arena<()>, lock: u32) -> Answer
         requires arena { self.old.arena ≡ arena.now.id }
         requires no_values { self.old.arena.table.slots ≡ 0 }
         requires rests { plan.moving self.old.own ≡ false }
         requires lock { lock < self.old.arena.shape.locks }
-        ensures not_held { result ≡ false
-            → (mode_held lock self.old.holds ≡ None) × (self.new ≡ self.old) }
-        ensures held { result ≡ true → (mode : HeldMode)
+        ensures not_held { result ≡ NotHeld → mode_held lock self.old.holds ≡ None }
+        ensures held { result ≡ Done → (mode : HeldMode)
             × (mode_held lock self.old.holds ≡ Some mode) × Frees lock mode self.old self.new }
+        ensures others { (result ≢ Busy) × (result ≢ Held) × (result ≢ Bad) × (result ≢ NoRoom) }
+        ensures refused { result ≢ Done → self.new ≡ self.old }
     {
         let Some(kept) = self.first else {
             return self.release_other(arena, lock);
@@ -243,7 +238,7 @@ impl KeptSeat {
         }
         self.seat.leave(arena, lock, kept.1);
         self.first = None;
-        true
+        Answer::Done
     }
 
     /// Disables stealing at a lock, beside the steps.

@@ -3,6 +3,7 @@ ghost use Rattle.std.specs.Prelude.{◌≡◌, ◌≢◌, [], ◌∷◌, true, f
 ghost use Rattle.shfl_core.specs.Plan as plan;
 ghost use Rattle.shfl_core.specs.Waiting as waiting;
 ghost use Rattle.shfl_line.specs.Words.{attr_of};
+ghost use Rattle.shfl_line.specs.declared.events.Mode.TheVariants.{Read};
 ghost use Rattle.shfl_arena.specs.Threads.{mode_held};
 ghost use Rattle.shfl_ticket.specs.Told.{ask_told, watch_told};
 ghost use Rattle.shfl_seats.specs.Tickets.{TicketModel};
@@ -11,7 +12,7 @@ ghost use Rattle.shfl_seats_c.specs.Calls.{TellsAttempt, TellsAcquire, TellsStep
 use crate::handle::ShflSeat;
 use crate::lent::ticket_of;
 use shfl_line::{Attr, Mode};
-use shfl_seats::{answer_told, progress_told};
+use shfl_seats::{SeatTicket, answer_told, progress_told};
 use shfl_ticket::{ShflAsk, ShflWatch, ask_told, watch_told};
 
 #[inline(always)]
@@ -32,9 +33,17 @@ fn hold_told(hold: Option<Mode>) -> u8
     }
 }
 
-/// Takes a lock, as a reader where it is shared, by one operation. 0: it is held. 1: a word was found that refuses it. 2: the seat holds it already.
-/// 4: there is no such lock, its form has no readers, or the seat has a step to make. 5: there is no memory. Unless the answer is 0 the seat
-/// holds what it held.
+// A reader's attempt, apart: so a writer's, which comes oftener, asks for the mode but once.
+#[inline(never)]
+fn attempt_shared(ticket: &mut SeatTicket, lock: u32) -> u8
+    ensures { TellsAttempt lock Read ticket.old result ticket.new }
+{
+    answer_told(ticket.attempt(lock, Mode::Read))
+}
+
+/// Takes a lock, as a reader where it is shared, by one operation, behind a look at its word that changes nothing. 0: it is held. 1: a word
+/// was found that refuses it. 2: the seat holds it already. 4: there is no such lock, its form has no readers, or the seat has a step to make.
+/// 5: there is no memory. Unless the answer is 0 the seat holds what it held.
 #[unsafe(no_mangle)]
 pub extern "C" fn shfl_seat_attempt(seat: &mut ShflSeat, lock: u32, shared: bool) -> u8
     ghost x: { TicketModel }
@@ -43,7 +52,10 @@ pub extern "C" fn shfl_seat_attempt(seat: &mut ShflSeat, lock: u32, shared: bool
         × TellsAttempt lock (mode_of shared) x result y }
 {
     let ticket = ticket_of(seat);
-    answer_told(ticket.attempt(lock, mode_of(shared)))
+    if shared {
+        return attempt_shared(ticket, lock);
+    }
+    answer_told(ticket.attempt(lock, Mode::Write))
 }
 
 /// Begins to take a lock. 0: steps follow until it is held. 2, 4 and 5 as `shfl_seat_attempt`, and then nothing changes.

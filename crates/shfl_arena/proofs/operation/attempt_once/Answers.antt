@@ -1,15 +1,16 @@
-use Rattle.std.proofs.Common.{ℕ, sym, subst}
+use Rattle.std.proofs.Common.{ℕ, sym, ap, ◌∙◌, subst}
 use Rattle.shfl_line.specs.declared.events.Mode.{Mode}
 use Rattle.shfl_core.specs.declared.phase.Rules.{Rules}
 use Rattle.shfl_core.specs.declared.words.Access.{Access}
 use Rattle.shfl_arena.specs.declared.shape.Shape.{Shape}
 use Rattle.shfl_arena.specs.ArenaTable.{LawfulTable}
-use Rattle.shfl_arena.specs.Operations.{LockTerms, Permits, attempt_play}
-use Rattle.shfl_arena.proofs.SeatPermits.{attempt-permits}
+use Rattle.shfl_arena.specs.ArenaWords.{place}
+use Rattle.shfl_arena.specs.Operations.{LockTerms, PermitsAt, attempt_play}
+use Rattle.shfl_arena.proofs.SeatPermits.{attempt-permits, attempt-site}
 use Rattle.shfl_arena.proofs.operation.attempt_once.Goals as goal
 
-pub perform-requires-clause-permits : goal.perform-requires-clause-permits
-perform-requires-clause-permits g c = let a = c.args in let k = a.shared.now.key in let m = c.requires.made in
-    subst (λ (z : Shape × Rules × LockTerms × ℕ × Mode × Access). Permits (LawfulTable z.0 z.1 k.threads) a.shared.now.table_id.slots a.seat.now.id a.seat.now.me (attempt_play z.2 z.3 z.4) a.shape a.lock z.5)
-    (λ j. (sym c.requires.table.2 j, sym c.requires.table.1 j, sym m.0 j, sym m.1 j, sym m.2 j, sym c.attempt_access-access.ensures j))
+pub perform_at-requires-clause-permits : goal.perform_at-requires-clause-permits
+perform_at-requires-clause-permits g c = let a = c.args in let k = a.shared.now.key in let m = c.requires.made in
+    subst (λ (z : Shape × Rules × LockTerms × ℕ × Mode × ℕ × Access). PermitsAt (LawfulTable z.0 z.1 k.threads) a.shared.now.table_id.slots a.seat.now.id a.seat.now.me (attempt_play z.2 z.3 z.4) z.5 z.6)
+    (λ j. (sym c.requires.table.2 j, sym c.requires.table.1 j, sym m.0 j, sym m.1 j, sym m.2 j, (ap (place a.shape a.lock) (attempt-site a.mode) ∙ sym c.requires.at) j, sym c.attempt_access-access.ensures j))
     (attempt-permits a.shape a.rules k.threads a.lock c.requires.lock a.shared.now.table_id.slots a.seat.now.id a.seat.now.me c.requires.one a.mode c.requires.rests c.requires.free c.requires.mode)
