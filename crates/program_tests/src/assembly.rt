@@ -121,7 +121,7 @@ fn is_bad(rt: &impl Abort, alloc: Global, text: &[u8], line: u32, what: u8) {
 }
 
 /// Texts, and the first bad line of each with its lowest fault.
-const BAD: [(&[u8], u32, u8); 29] = [
+const BAD: &[(&[u8], u32, u8)] = &[
     (b"exit", 1, 1),
     (b"exit\n\texit\n", 2, 1),
     (b"exit \n", 1, 2),
@@ -156,7 +156,7 @@ const BAD: [(&[u8], u32, u8); 29] = [
 #[test]
 fn the_first_bad_line_is_named_with_its_lowest_fault(rt: HostRuntime) {
     for (text, line, what) in BAD {
-        is_bad(&rt, rt.alloc(), text, line, what);
+        is_bad(&rt, rt.alloc(), text, *line, *what);
     }
 }
 
