@@ -1,5 +1,5 @@
 /// Where a run goes on after an instruction.
-#[derive(Clone, Copy, Debug, PartialEq, Eq)]
+#[derive(Clone, Copy)]
 pub enum Flow {
     /// Past so many slots.
     Past(u32),

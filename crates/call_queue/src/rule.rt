@@ -4,7 +4,7 @@ use crossbeam_queue::protocol::{Join, Lesson, Outcome, Protocol, Split};
 use std::collections::LinkedList;
 
 /// A call at its place in the list of calls. Behind the calls stand the ends, which have no call.
-#[derive(Clone, Copy, Debug, PartialEq, Eq)]
+#[derive(Clone, Copy)]
 pub struct Ticket<C: Copy> {
     pub at: u32,
     pub call: Option<C>,

@@ -35,7 +35,7 @@ fn listed(rt: &impl Abort, alloc: Global, profile: Profile, digits: &str) -> Out
 }
 
 /// Texts and their slots.
-const TEXTS: [(Profile, &str, &str); 5] = [
+const TEXTS: &[(Profile, &str, &str)] = &[
     (Profile::One, SAME_SOCKET, SAME_SOCKET_SLOTS),
     (Profile::One, SAME_SOCKET_NAMED, SAME_SOCKET_SLOTS),
     (Profile::Two, SAME_SOCKET_NAMED, SAME_SOCKET_SLOTS),
@@ -54,12 +54,12 @@ const TEXTS: [(Profile, &str, &str); 5] = [
 #[test]
 fn a_text_becomes_its_slots(rt: HostRuntime) {
     for (profile, text, slots) in TEXTS {
-        assembled(&rt, rt.alloc(), profile, text).reports(&rt, slots);
+        assembled(&rt, rt.alloc(), *profile, text).reports(&rt, slots);
     }
 }
 
 /// Other texts, and the line of each.
-const BAD_TEXTS: [(Profile, &str, &str); 10] = [
+const BAD_TEXTS: &[(Profile, &str, &str)] = &[
     (
         Profile::One,
         SAME_SOCKET_UNNAMED,
@@ -91,12 +91,12 @@ const BAD_TEXTS: [(Profile, &str, &str); 10] = [
 #[test]
 fn other_texts_are_refused_with_the_first_bad_line(rt: HostRuntime) {
     for (profile, text, message) in BAD_TEXTS {
-        assembled(&rt, rt.alloc(), profile, text).refuses(&rt, 1, message);
+        assembled(&rt, rt.alloc(), *profile, text).refuses(&rt, 1, message);
     }
 }
 
 /// Digits and their text.
-const DIGITS: [(Profile, &str, &str); 4] = [
+const DIGITS: &[(Profile, &str, &str)] = &[
     (Profile::One, SAME_SOCKET_SLOTS, SAME_SOCKET),
     (
         Profile::Two,
@@ -114,12 +114,12 @@ const DIGITS: [(Profile, &str, &str); 4] = [
 #[test]
 fn digits_become_their_text(rt: HostRuntime) {
     for (profile, digits, text) in DIGITS {
-        listed(&rt, rt.alloc(), profile, digits).reports(&rt, text);
+        listed(&rt, rt.alloc(), *profile, digits).reports(&rt, text);
     }
 }
 
 /// Digits of no program, and the status and the line of each.
-const BAD_DIGITS: [(Profile, &str, u8, &str); 9] = [
+const BAD_DIGITS: &[(Profile, &str, u8, &str)] = &[
     (Profile::One, "9x", 1, "syncord: line 1: fault 1\n"),
     (Profile::One, "95\n0\n", 1, "syncord: line 3: fault 2\n"),
     (Profile::One, "", 6, "syncord: refused 1\n"),
@@ -159,7 +159,7 @@ const BAD_DIGITS: [(Profile, &str, u8, &str); 9] = [
 #[test]
 fn digits_of_no_program_are_refused(rt: HostRuntime) {
     for (profile, digits, status, message) in BAD_DIGITS {
-        listed(&rt, rt.alloc(), profile, digits).refuses(&rt, status, message);
+        listed(&rt, rt.alloc(), *profile, digits).refuses(&rt, *status, message);
     }
 }
 

@@ -45,7 +45,7 @@ fn a_report_is_written(rt: HostRuntime) {
 }
 
 /// Refusals, and the status and the line of each.
-const REFUSALS: [(Refusal, u8, &str); 5] = [
+const REFUSALS: &[(Refusal, u8, &str)] = &[
     (
         Refusal::Line { line: 12, what: 3 },
         1,
@@ -75,7 +75,8 @@ const REFUSALS: [(Refusal, u8, &str); 5] = [
 #[test]
 fn each_refusal_has_its_line(rt: HostRuntime) {
     for (refusal, status, message) in REFUSALS {
-        performed(&rt, rt.alloc(), &Only { refusal }, b"").refuses(&rt, status, message);
+        let only = Only { refusal: *refusal };
+        performed(&rt, rt.alloc(), &only, b"").refuses(&rt, *status, message);
     }
 }
 

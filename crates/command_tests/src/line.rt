@@ -108,7 +108,7 @@ fn a_cut_schedule_is_named_with_its_line(rt: HostRuntime) {
 }
 
 /// Other documents, and the line and the fault of each.
-const BAD_DOCUMENTS: [(&str, u32, u8); 12] = [
+const BAD_DOCUMENTS: &[(&str, u32, u8)] = &[
     ("shfl-line 3\n", 1, 2),
     ("shfl-line 2\n", 2, 10),
     ("shfl-line 2\nprofile 3\n", 2, 10),
@@ -149,7 +149,7 @@ fn is_named(rt: &impl Abort, alloc: Global, document: &str, line: u32, what: u8)
 #[test]
 fn other_bytes_are_named_with_the_lowest_fault(rt: HostRuntime) {
     for (document, line, what) in BAD_DOCUMENTS {
-        is_named(&rt, rt.alloc(), document, line, what);
+        is_named(&rt, rt.alloc(), document, *line, *what);
     }
 }
 

@@ -121,7 +121,7 @@ const LEAST: BulkWords = BulkWords {
     calls: 0,
 };
 
-const NO_WORDS: [[&str; 3]; 11] = [
+const NO_WORDS: &[[&str; 3]] = &[
     ["7", "17", "5"],
     ["07", "1", "5"],
     ["7", "0", "5"],
@@ -141,7 +141,7 @@ fn other_words_are_refused(rt: HostRuntime) {
     let largest = ["18446744073709551615", "16", "65000"];
     is_asked(&rt, alloc, &largest, Some(LARGEST));
     for words in NO_WORDS {
-        is_asked(&rt, alloc, &words, None);
+        is_asked(&rt, alloc, words, None);
     }
     is_asked(&rt, alloc, &[], None);
     is_asked(&rt, alloc, &["0", "1", "0"], Some(LEAST));

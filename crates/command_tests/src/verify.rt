@@ -17,7 +17,7 @@ fn verified(rt: &impl Abort, alloc: Global, profile: Profile, digits: &[u8]) -> 
 }
 
 /// Programs and their reports.
-const PROGRAMS: [(Profile, &str, &str); 3] = [
+const PROGRAMS: &[(Profile, &str, &str)] = &[
     (Profile::One, SAME_SOCKET, "accepted slots 6\n"),
     (Profile::Two, SAME_SOCKET, "accepted slots 6\n"),
     (
@@ -30,12 +30,12 @@ const PROGRAMS: [(Profile, &str, &str); 3] = [
 #[test]
 fn a_program_is_accepted_with_its_slots(rt: HostRuntime) {
     for (profile, digits, report) in PROGRAMS {
-        verified(&rt, rt.alloc(), profile, digits.as_bytes()).reports(&rt, report);
+        verified(&rt, rt.alloc(), *profile, digits.as_bytes()).reports(&rt, report);
     }
 }
 
 /// Other programs, and the fault of each.
-const BAD_PROGRAMS: [(Profile, &str, &str); 16] = [
+const BAD_PROGRAMS: &[(Profile, &str, &str)] = &[
     (Profile::One, "", "1"),
     (Profile::One, "95", "2"),
     (Profile::One, "8500000001000000", "4 at slot 0"),
@@ -103,12 +103,12 @@ fn is_refused(rt: &impl Abort, alloc: Global, profile: Profile, digits: &str, fa
 #[test]
 fn other_programs_are_refused_with_the_first_fault(rt: HostRuntime) {
     for (profile, digits, fault) in BAD_PROGRAMS {
-        is_refused(&rt, rt.alloc(), profile, digits, fault);
+        is_refused(&rt, rt.alloc(), *profile, digits, fault);
     }
 }
 
 /// Other bytes than digits, and the line of each.
-const NO_DIGITS: [(&str, &str); 3] = [
+const NO_DIGITS: &[(&str, &str)] = &[
     ("9", "syncord: line 1: fault 2\n"),
     ("95\n0\n", "syncord: line 3: fault 2\n"),
     ("95\n0x\n", "syncord: line 2: fault 1\n"),

@@ -49,7 +49,7 @@ fn called<R: Abort + Threads + Wait + Sync>(
 }
 
 /// Words of no command.
-const NO_COMMANDS: [&[&str]; 19] = [
+const NO_COMMANDS: &[&[&str]] = &[
     &["line", "x"],
     &["help"],
     &[],
@@ -111,7 +111,7 @@ const MOVE: &str = "bf00080000000000\n9500000000000000\n";
 const ACCEPTED: &str = "b700000001000000\n9500000000000000\n";
 
 /// The words of commands, what they read, and the status, the report and the line of each.
-const COMMANDS: [(&[&str], &str, u8, &str, &str); 20] = [
+const COMMANDS: &[(&[&str], &str, u8, &str, &str)] = &[
     (&["line"], FAST_PATH, 0, FAST_PATH_REPORT, ""),
     (&["line"], "", 1, "", "syncord: line 1: fault 2\n"),
     (&["verify"], ACCEPTED, 0, "accepted slots 2\n", ""),
@@ -144,7 +144,7 @@ const COMMANDS: [(&[&str], &str, u8, &str, &str); 20] = [
 fn the_words_of_a_command_lead_to_it(rt: HostRuntime) {
     for (words, input, status, report, message) in COMMANDS {
         let end = called(&rt, rt.alloc(), words, input);
-        end.is(&rt, status, report.as_bytes(), message.as_bytes());
+        end.is(&rt, *status, report.as_bytes(), message.as_bytes());
     }
 }
 

@@ -15,7 +15,7 @@ fn fault(alloc: Global, bytes: &[u8]) -> Option<(u32, u8)> {
 }
 
 /// The lines of a schedule, and what is due in front of each.
-const FOUR_EVENTS: [(u32, &str, Option<(u32, u8)>); 10] = [
+const FOUR_EVENTS: &[(u32, &str, Option<(u32, u8)>)] = &[
     (1, "shfl-line 1", Some((1, 2))),
     (2, "form spin", Some((2, 3))),
     (3, "limit 1024", Some((3, 4))),
@@ -42,8 +42,8 @@ fn a_prefix_is_whole_behind_the_line_events_alone(rt: HostRuntime) {
     let alloc = rt.alloc();
     let mut text: Vec<u8> = Vec::new(alloc);
     for (line, says, due) in FOUR_EVENTS {
-        same(&rt, &fault(alloc, text.as_slice()), &due);
-        push_line(&rt, alloc, &mut text, line, says);
+        same(&rt, &fault(alloc, text.as_slice()), due);
+        push_line(&rt, alloc, &mut text, *line, says);
     }
     let schedule = read_schedule(alloc, text.as_slice()).expect(&rt, "a schedule");
     same(&rt, &schedule.version, &1);
@@ -52,7 +52,7 @@ fn a_prefix_is_whole_behind_the_line_events_alone(rt: HostRuntime) {
 }
 
 /// The faults of the lines up to the policy.
-const BAD_FRONTS: [(&str, u32, u8); 15] = [
+const BAD_FRONTS: &[(&str, u32, u8)] = &[
     ("shfl-line 1\nform\tspin\n", 2, 1),
     ("shfl-line 3\n", 1, 2),
     ("shfl-line  1\n", 1, 2),
@@ -71,7 +71,7 @@ const BAD_FRONTS: [(&str, u32, u8); 15] = [
 ];
 
 /// The faults of the lines from the policy on, behind a form of readers and writers.
-const BAD_LINES: [(&str, u32, u8); 19] = [
+const BAD_LINES: &[(&str, u32, u8)] = &[
     ("policy some\n", 4, 5),
     ("policy never -\n", 4, 5),
     ("policy program -\n", 4, 5),
@@ -101,7 +101,7 @@ const BAD_LINES: [(&str, u32, u8); 19] = [
 const SHARED: &[u8] = b"shfl-line 1\nform rw\nlimit 1\n";
 
 /// Where writers are alone, nobody reads.
-const READS: [&str; 2] = [
+const READS: &[&str] = &[
     "shfl-line 1\nform spin\nlimit 1\npolicy always\npass 0 0 0 0\nevents\nread 0\n",
     "shfl-line 1\nform park\nlimit 1\npolicy always\npass 0 0 0 0\nevents\nread 0\n",
 ];
@@ -123,10 +123,10 @@ fn is_bad(rt: &impl Abort, alloc: Global, front: &[u8], rest: &[u8], line: u32, 
 fn the_first_bad_line_has_its_lowest_fault(rt: HostRuntime) {
     let alloc = rt.alloc();
     for (text, line, what) in BAD_FRONTS {
-        same(&rt, &fault(alloc, text.as_bytes()), &Some((line, what)));
+        same(&rt, &fault(alloc, text.as_bytes()), &Some((*line, *what)));
     }
     for (lines, line, what) in BAD_LINES {
-        is_bad(&rt, alloc, SHARED, lines.as_bytes(), line, what);
+        is_bad(&rt, alloc, SHARED, lines.as_bytes(), *line, *what);
     }
     for text in READS {
         same(&rt, &fault(alloc, text.as_bytes()), &Some((7, 8)));

@@ -29,7 +29,7 @@ const TEXT: &[u8] = b"0 next 1";
 
 const UNPLAIN: &[u8] = b"\t";
 
-const UNENDED: [&[u8]; 4] = [b"0 next 1", b"0\tnext 1\n", b"0 next\x7f1\n", b"\r\n"];
+const UNENDED: &[&[u8]] = &[b"0 next 1", b"0\tnext 1\n", b"0 next\x7f1\n", b"\r\n"];
 
 #[test]
 fn a_text_is_read_up_to_the_first_byte_that_is_not_plain(rt: HostRuntime) {
@@ -64,7 +64,7 @@ fn is_capped(rt: &impl Abort, word: &[u8], due: Option<u64>) {
     same(rt, &capped(64, word), &due);
 }
 
-const NO_NUMBERS: [&[u8]; 7] = [b"", b"00", b"07", b"-1", b"+1", b"1x", b"0x1"];
+const NO_NUMBERS: &[&[u8]] = &[b"", b"00", b"07", b"-1", b"+1", b"1x", b"0x1"];
 
 #[test]
 fn a_number_has_no_sign_and_no_leading_zero(rt: HostRuntime) {

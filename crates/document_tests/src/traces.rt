@@ -113,7 +113,7 @@ fn a_trace_is_read_and_written_back(rt: HostRuntime) {
 }
 
 /// Documents with their first bad line and its fault. The first four end after a line of a good document.
-const FIRST_BAD: [(&[u8], u32, u8); 16] = [
+const FIRST_BAD: &[(&[u8], u32, u8)] = &[
     (b"", 1, 2),
     (b"syncord-trace 1\n", 2, 3),
     (b"syncord-trace 1\nworker 0 0 0 0\n", 3, 5),
@@ -151,7 +151,7 @@ const FIRST_BAD: [(&[u8], u32, u8); 16] = [
 #[test]
 fn the_first_bad_line_has_its_lowest_fault(rt: HostRuntime) {
     for (bytes, line, what) in FIRST_BAD {
-        same(&rt, &fault(rt.alloc(), bytes), &Some((line, what)));
+        same(&rt, &fault(rt.alloc(), bytes), &Some((*line, *what)));
     }
 }
 
@@ -169,7 +169,7 @@ fn is_bad(
 }
 
 /// Calls, and the fault of each.
-const BAD_CALLS: [(&[u8], u8); 9] = [
+const BAD_CALLS: &[(&[u8], u8)] = &[
     (b"0 make 0 a", 1),
     (b"0 make 0 \t\n", 1),
     (b"0 make 00 a\n", 10),
@@ -184,7 +184,7 @@ const BAD_CALLS: [(&[u8], u8); 9] = [
 #[test]
 fn calls_are_judged_in_their_order(rt: HostRuntime) {
     for (call, what) in BAD_CALLS {
-        is_bad(&rt, rt.alloc(), NO_CALLS, call, 1, Some((5, what)));
+        is_bad(&rt, rt.alloc(), NO_CALLS, call, 1, Some((5, *what)));
     }
 }
 

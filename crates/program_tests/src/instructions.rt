@@ -1,5 +1,5 @@
 //! Instructions and their slots, each written as the sixteen digits of a listing.
-use crate::checks::{holds, same};
+use crate::checks::{holds, is_told, same};
 use bpf_isa::*;
 use std::alloc::Global;
 use std::process::Abort;
@@ -237,27 +237,20 @@ fn a_move_does_not_read_its_destination(rt: HostRuntime) {
     holds(&rt, Insn::Half.is_half() && !Insn::Exit.is_wide());
 }
 
-fn is_told(rt: &impl Abort, alloc: Global, fault: IsaError, due: &str) {
-    let told = format!(in alloc; "{fault}").expect(rt, "memory");
-    same(rt, &told.as_str(), &due);
-}
-
 #[test]
 fn each_fault_is_told(rt: HostRuntime) {
     let alloc = rt.alloc();
-    is_told(&rt, alloc, IsaError::Empty, "no instructions");
-    is_told(&rt, alloc, IsaError::OddLength, "an unfinished slot");
-    is_told(&rt, alloc, IsaError::TooLong, "more than 512 slots");
+    is_told(&rt, alloc, &IsaError::Empty, "no instructions");
+    is_told(&rt, alloc, &IsaError::OddLength, "an unfinished slot");
+    is_told(&rt, alloc, &IsaError::TooLong, "more than 512 slots");
     let opcode = IsaError::BadOpcode { slot: 3 };
-    is_told(&rt, alloc, opcode, "unknown opcode at slot 3");
+    is_told(&rt, alloc, &opcode, "unknown opcode at slot 3");
     let register = IsaError::BadRegister { slot: 3 };
-    is_told(&rt, alloc, register, "register above 9 at slot 3");
+    is_told(&rt, alloc, &register, "register above 9 at slot 3");
     let reserved = IsaError::Reserved { slot: 3 };
-    is_told(&rt, alloc, reserved, "reserved field at slot 3");
+    is_told(&rt, alloc, &reserved, "reserved field at slot 3");
     let half = IsaError::HalfWide { slot: 3 };
-    is_told(&rt, alloc, half, "half a wide load at slot 3");
-    is_told(&rt, alloc, IsaError::NoMemory, "out of memory");
-    let error = NoMemory;
-    let told = format!(in alloc; "{error}").expect(&rt, "memory");
-    same(&rt, &told.as_str(), &"out of memory");
+    is_told(&rt, alloc, &half, "half a wide load at slot 3");
+    is_told(&rt, alloc, &IsaError::NoMemory, "out of memory");
+    is_told(&rt, alloc, &NoMemory, "out of memory");
 }

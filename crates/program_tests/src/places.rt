@@ -1,8 +1,7 @@
 //! What a try to read a place finds.
 use crate::checks::{holds, same};
-use crate::versions::policies;
-use policy_versions::{Lost, Place, Registry, Right, SlotTurns, Turns};
-use std::test::Fail;
+use crate::versions::opened;
+use policy_versions::{Lost, Place, Right, SlotTurns, Turns};
 
 /// The word that was loaded, and the one that an exchange found.
 type Words = Option<(u64, u64)>;
@@ -43,18 +42,17 @@ impl Turns for Looking {
 
 // The place is empty, and then taken by the one that publishes.
 #[test]
-fn a_place_that_shows_nothing_is_told_with_its_word(rt: HostRuntime) -> Result<(), Fail> {
+fn a_place_that_shows_nothing_is_told_with_its_word(rt: HostRuntime) {
     let alloc = rt.alloc();
-    let (registry, mut publisher, _passes) = Registry::open(alloc, policies(alloc, 1)?, 1)?;
+    let (registry, mut publisher, _passes) = opened(&rt, alloc, 1, 1);
     let mut looking = Looking {
         turns: SlotTurns::new(),
         before: None,
         after: None,
     };
-    let instance = registry.instance(alloc, 0)?;
+    let instance = registry.instance(alloc, 0).expect(&rt, "memory");
     let published = publisher.try_publish(&registry, &mut looking, instance);
     holds(&rt, published.is_ok());
     same(&rt, &looking.before, &Some((0, 0)));
     same(&rt, &looking.after, &Some((3, 3)));
-    Ok(())
 }

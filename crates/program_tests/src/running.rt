@@ -1,14 +1,13 @@
 //! Programs in assembly with their values, from RFC 9669's rules worked by hand.
 ghost use Rattle.bpf_run.specs.Examples.{WorkedPrograms, WorkedExtensions};
 
-use crate::assembled::instructions;
+use crate::assembled::{instructions, repeated};
 use crate::checks::same;
 use bpf_isa::{Profile, decode};
 use bpf_run::value;
 use bpf_verifier::{Program, verify};
 use std::alloc::Global;
 use std::process::Abort;
-use std::test::Fail;
 
 /// The definitions give the values and the numbers of instructions that were worked by hand.
 fn worked_by_hand()
@@ -34,13 +33,12 @@ fn gives(rt: &impl Abort, alloc: Global, lines: &[u8], due: u64) {
 }
 
 #[test]
-fn a_program_gives_its_number(rt: HostRuntime) -> Result<(), Fail> {
+fn a_program_gives_its_number(rt: HostRuntime) {
     let alloc = rt.alloc();
     let bytes = [0xb7, 0, 0, 0, 7, 0, 0, 0, 0x95, 0, 0, 0, 0, 0, 0, 0];
-    let insns = decode(alloc, Profile::One, &bytes)?;
-    let program = verify(alloc, insns)?;
+    let insns = decode(alloc, Profile::One, &bytes).expect(&rt, "instructions");
+    let program = verify(alloc, insns).expect(&rt, "accepted");
     same(&rt, &value(&program, &[0; 40]), &7);
-    Ok(())
 }
 
 #[test]
@@ -143,12 +141,7 @@ fn the_same_socket(rt: HostRuntime) {
 #[test]
 fn the_longest_program(rt: HostRuntime) {
     let alloc = rt.alloc();
-    let mut lines = Vec::new(alloc);
-    for _ in 0..511u32 {
-        lines
-            .extend_from_slice(b"mov64 r0 1\n")
-            .expect(&rt, "memory");
-    }
+    let lines = repeated(&rt, alloc, b"", b"mov64 r0 1\n", 511);
     let program = program_of(&rt, alloc, &lines);
     same(&rt, &program.slots(), &512);
     same(&rt, &value(&program, &[0; 40]), &1);

@@ -1,11 +1,10 @@
 //! Programs, in assembly, and what the verifier says of them.
 
-use crate::assembled::instructions;
-use crate::checks::{holds, same};
+use crate::assembled::{instructions, repeated};
+use crate::checks::{holds, is_told, same};
 use bpf_verifier::{NoMemory, Refusal, verify};
 use std::alloc::Global;
 use std::process::Abort;
-use std::test::Fail;
 
 /// Whether two sockets are the same, the first two fields of the context.
 const SAME_SOCKET: &[u8] =
@@ -97,51 +96,39 @@ fn slots_that_nothing_reaches_have_good_edges(rt: HostRuntime) {
 #[test]
 fn the_longest_program_is_accepted(rt: HostRuntime) {
     let alloc = rt.alloc();
-    let mut text = Vec::new(alloc);
-    for _ in 0..511u32 {
-        text.extend_from_slice(b"mov64 r0 1\n")
-            .expect(&rt, "memory");
-    }
+    let mut text = repeated(&rt, alloc, b"", b"mov64 r0 1\n", 511);
     text.extend_from_slice(b"exit\n").expect(&rt, "memory");
     is_accepted(&rt, alloc, &text, 512);
 }
 
-fn is_told(rt: &impl Abort, alloc: Global, refusal: Refusal, due: &str) {
-    let told = format!(in alloc; "{refusal}").expect(rt, "memory");
-    same(rt, &told.as_str(), &due);
-}
-
 #[test]
-fn each_fault_is_told(rt: HostRuntime) -> Result<(), Fail> {
+fn each_fault_is_told(rt: HostRuntime) {
     let alloc = rt.alloc();
     let back = Refusal::Back { slot: 3 };
-    is_told(&rt, alloc, back, "the jump in slot 3 doesn't lead forward");
+    is_told(&rt, alloc, &back, "the jump in slot 3 doesn't lead forward");
     let outside = Refusal::OutOfProgram { slot: 3 };
-    is_told(&rt, alloc, outside, "slot 3 leads out of the program");
+    is_told(&rt, alloc, &outside, "slot 3 leads out of the program");
     let unset = Refusal::NoValue { slot: 3, reg: 2 };
     is_told(
         &rt,
         alloc,
-        unset,
+        &unset,
         "slot 3 reads register 2, which has no value",
     );
     let pointer = Refusal::PointerUse { slot: 3, reg: 2 };
     is_told(
         &rt,
         alloc,
-        pointer,
+        &pointer,
         "slot 3 reads the pointer in register 2 as a number",
     );
     let load = Refusal::BadLoad { slot: 3 };
     is_told(
         &rt,
         alloc,
-        load,
+        &load,
         "the load in slot 3 doesn't read the context",
     );
-    is_told(&rt, alloc, Refusal::NoMemory, "out of memory");
-    let error = NoMemory;
-    let told = format!(in alloc; "{error}")?;
-    same(&rt, &told.as_str(), &"out of memory");
-    Ok(())
+    is_told(&rt, alloc, &Refusal::NoMemory, "out of memory");
+    is_told(&rt, alloc, &NoMemory, "out of memory");
 }

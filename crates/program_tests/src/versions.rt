@@ -2,35 +2,70 @@
 mod staying;
 mod threads;
 
-ghost use Rattle.std.specs.Prelude.{◌≡◌, ◌+◌, ◌<◌, ◌≤◌, length, vec_len, IfOk};
+ghost use Rattle.std.specs.Prelude.{◌≡◌, ◌+◌, ◌<◌, ◌≤◌, [], All, length, vec_len};
 ghost use Rattle.policy_versions.specs.Models.{IsClosed, next_version};
 
-use crate::checks::{holds, same};
+use crate::checks::{is_told, same};
 use bpf_isa::Profile;
 use policy_versions::{Lost, Place, Publisher, Registry, Right, SlotTurns, Turns, VersionPass};
 use shfl_policy::{Policy, PolicySource, load};
 use std::alloc::Global;
-use std::fmt::Write;
 use std::process::Abort;
 use std::sync::Wait;
-use std::test::Fail;
 
 /// The word of an instance that one user has entered.
 const ONE_USER: u64 = 5;
 
-/// Policies without programs, named by their places.
-pub(crate) fn policies(alloc: Global, count: u32) -> Result<Vec<Policy>, Fail>
-    ensures { IfOk result (λ v. vec_len v ≡ count) }
+/// A policy without programs.
+fn policy(rt: &impl Abort, alloc: Global, name: u32) -> Policy {
+    let source = PolicySource {
+        should: None,
+        skip: None,
+    };
+    load(alloc, name, Profile::One, &source).expect(rt, "a policy")
+}
+
+/// Policies that are named by their places.
+fn policies(rt: &impl Abort, alloc: Global, count: u32) -> Vec<Policy>
+    ensures { vec_len result ≡ count }
 {
     let mut policies = Vec::new(alloc);
     for name in 0..count {
-        let source = PolicySource {
-            should: None,
-            skip: None,
-        };
-        policies.push(load(alloc, name, Profile::One, &source)?)?;
+        let policy = policy(rt, alloc, name);
+        policies.push(policy).ok().expect(rt, "memory");
     }
-    Ok(policies)
+    policies
+}
+
+/// A registry of so many policies, its publisher, and the passes of so many users.
+pub(crate) fn opened(
+    rt: &impl Abort,
+    alloc: Global,
+    count: u32,
+    users: u32,
+) -> (Registry, Publisher, Vec<VersionPass>)
+    requires policies { (0 < count) × (count ≤ 64) }
+    requires users { (0 < users) × (users ≤ 64) }
+    ensures declared { length result.0.declared ≡ count }
+    ensures registry { result.1.registry ≡ result.0 }
+    ensures rows { result.1.rows ≡ [] }
+    ensures passes { All (IsClosed result.0) result.2.items }
+{
+    let policies = policies(rt, alloc, count);
+    let Ok((registry, publisher, passes)) = Registry::open(alloc, policies, users) else {
+        panic!(rt; "memory")
+    };
+    (registry, publisher, passes)
+}
+
+/// The pass of the last user that is left.
+fn next_pass(rt: &impl Abort, registry: &Registry, passes: &mut Vec<VersionPass>) -> VersionPass
+    requires { All (IsClosed registry.now) passes.old.items }
+    ensures pass { IsClosed registry.now result }
+    ensures passes { All (IsClosed registry.now) passes.new.items }
+{
+    let _ = registry;
+    passes.pop().expect(rt, "a pass")
 }
 
 /// One publication of the first policy, with one turn.
@@ -117,15 +152,11 @@ fn one_user_stays<R: Abort + Wait>(
 }
 
 #[test]
-fn a_place_in_use_is_not_filled(rt: HostRuntime) -> Result<(), Fail> {
+fn a_place_in_use_is_not_filled(rt: HostRuntime) {
     let alloc = rt.alloc();
-    let (registry, mut publisher, passes) = Registry::open(alloc, policies(alloc, 1)?, 1)?;
-    let mut passes = passes;
-    let Some(mut pass) = passes.pop() else {
-        panic!(rt; "no pass")
-    };
+    let (registry, mut publisher, mut passes) = opened(&rt, alloc, 1, 1);
+    let mut pass = next_pass(&rt, &registry, &mut passes);
     one_user_stays(&rt, alloc, &registry, &mut publisher, &mut pass);
-    Ok(())
 }
 
 /// Loses each turn, with words of its own.
@@ -153,34 +184,37 @@ impl Turns for Loser {
     }
 }
 
-#[test]
-fn a_refusal_has_the_words_of_the_turn_that_was_lost(rt: HostRuntime) -> Result<(), Fail> {
-    let alloc = rt.alloc();
-    let (registry, mut publisher, _passes) = Registry::open(alloc, policies(alloc, 1)?, 1)?;
+/// What is told of a place in use.
+const IN_USE: &str = "the place of the next version is in use";
+
+/// A publication whose turn is lost is refused with the words of that turn.
+fn lose_one(rt: &impl Abort, alloc: Global, registry: &Registry, publisher: &mut Publisher)
+    requires registry { publisher.old.registry ≡ registry.now }
+    requires declared { 0 < length registry.now.declared }
+    requires room { length publisher.old.rows < 4096 }
+    ensures { publisher.new ≡ publisher.old }
+{
     let mut turns = Loser {
         count: 0,
         last: None,
     };
-    let instance = registry.instance(alloc, 0)?;
-    match publisher.try_publish(&registry, &mut turns, instance) {
+    let instance = registry.instance(alloc, 0).expect(rt, "memory");
+    match publisher.try_publish(registry, &mut turns, instance) {
         Ok(_) => panic!(rt; "published without a turn"),
         Err(refused) => {
-            same(
-                &rt,
-                &(refused.loaded, refused.word),
-                &(0x5_0000_0001, 0x6_0000_0009),
-            );
-            let mut told = String::new(alloc);
-            write!(told, "{refused}")?;
-            same(
-                &rt,
-                &told.as_str(),
-                &"the place of the next version is in use",
-            );
+            let words = (refused.loaded, refused.word);
+            same(rt, &words, &(0x5_0000_0001, 0x6_0000_0009));
+            is_told(rt, alloc, &refused, IN_USE);
         }
     }
+}
+
+#[test]
+fn a_refusal_has_the_words_of_the_turn_that_was_lost(rt: HostRuntime) {
+    let alloc = rt.alloc();
+    let (registry, mut publisher, _passes) = opened(&rt, alloc, 1, 1);
+    lose_one(&rt, alloc, &registry, &mut publisher);
     publish_one(&rt, alloc, &registry, &mut publisher, 1);
-    Ok(())
 }
 
 /// Publishes the declared policies 2, 0 and 1 in turn: the user finds each under its own version.
@@ -208,12 +242,9 @@ fn follow<R: Abort + Wait>(
 }
 
 #[test]
-fn a_use_names_its_version_and_its_policy(rt: HostRuntime) -> Result<(), Fail> {
+fn a_use_names_its_version_and_its_policy(rt: HostRuntime) {
     let alloc = rt.alloc();
-    let (registry, mut publisher, mut passes) = Registry::open(alloc, policies(alloc, 3)?, 1)?;
-    let Some(mut pass) = passes.pop() else {
-        panic!(rt; "no pass")
-    };
+    let (registry, mut publisher, mut passes) = opened(&rt, alloc, 3, 1);
+    let mut pass = next_pass(&rt, &registry, &mut passes);
     follow(&rt, alloc, &registry, &mut publisher, &mut pass);
-    Ok(())
 }

@@ -1,5 +1,5 @@
 //! A schedule's run over a lock, event by event, and its report.
-ghost use Rattle.std.specs.Prelude.{◌≡◌, ℕ, ◌<◌, length, IfErr, OnOk, OnErr};
+ghost use Rattle.std.specs.Prelude.{◌≡◌, ◌<◌, ◌≤◌, ℕ, length, IfErr, OnOk, OnErr, vec_capacity};
 ghost use Rattle.shfl_core.specs.Runner as runner;
 ghost use Rattle.shfl_core.specs.Runner.{opened};
 ghost use Rattle.shfl_core.specs.ShownLine.{shown_line};
@@ -7,7 +7,7 @@ ghost use Rattle.shfl_core.specs.Worlds.{admitted};
 ghost use Rattle.shfl_sched.specs.Choices.{answers};
 ghost use Rattle.shfl_sched.specs.Schedules.{IsWithin, IsEventOf};
 ghost use Rattle.shfl_sched.specs.Run.{is_step, rules_of, setup_of, choice_at, move_in, lock_after};
-ghost use Rattle.shfl_sched.specs.Report.{line_report};
+ghost use Rattle.shfl_sched.specs.Report.{line_report, heading_text};
 ghost use Rattle.shfl_sched.specs.Handing.{Stops};
 ghost use Rattle.syn_outer.specs.Bytes.{Took};
 
@@ -102,6 +102,56 @@ fn make_and_show<B: Board>(
 // Room for a text that isn't handed on yet, and a row.
 const ROOM: usize = 40_000;
 
+// Runs the events on a lock at its opening that the state shows, behind a text that is the heading. It owns nothing: what it had to drop
+// at each place where it may stop would make its proof long.
+fn run_events<B: Board, W: Sink>(
+    schedule: &Schedule,
+    board: &mut B,
+    out: &mut W,
+    text: &mut Vec<u8>,
+    state: &mut LineState,
+    texts: &mut RowTexts,
+) -> Result<(), RunError>
+    requires within { IsWithin schedule.now }
+    requires opened { B.meaning board.old ≡ opened (rules_of schedule.now) schedule.now.passes }
+    requires heading { text.old.items ≡ heading_text schedule.now }
+    requires room { 40000 ≤ vec_capacity text.old }
+    requires shown { state.old ≡ shown_line (B.meaning board.old).world }
+    ensures report { OnOk result
+        (Took (W.held out.old) (W.held out.new) (line_report schedule.now)) }
+    ensures stopped { IfErr result (λ e. Stops e (W.held out.old) (W.held out.new)
+        (W.faults out.old) (W.faults out.new) (line_report schedule.now)) }
+    ensures after { OnOk result (B.meaning board.new
+        ≡ lock_after schedule.now (length schedule.now.events)) }
+    ensures part { OnErr result ((n : ℕ) × (B.meaning board.new ≡ lock_after schedule.now n)) }
+{
+    let mut sent = 0;
+    let mut yes: u32 = 0;
+    let mut no: u32 = 0;
+    for event in &schedule.events {
+        make_room(text, &mut sent, out)?;
+        let admitted = make_and_show(schedule, board, *event, state);
+        put_row(
+            text,
+            schedule.form,
+            yes + no + 1,
+            *event,
+            admitted,
+            board,
+            state,
+            texts,
+        );
+        if admitted {
+            yes += 1;
+        } else {
+            no += 1;
+        }
+    }
+    make_room(text, &mut sent, out)?;
+    put_totals(text, yes, no);
+    hand_on(text, &mut sent, out)
+}
+
 /// Runs the events on a lock at its opening, and writes the line report in pieces. All memory that it needs is taken before the first
 /// byte. It waits for nobody.
 pub fn run_schedule<B: Board, W: Sink>(
@@ -128,29 +178,5 @@ pub fn run_schedule<B: Board, W: Sink>(
     let mut texts = RowTexts::open(alloc)?;
     let mut state = LineState::open(alloc, schedule.passes.len() as u32)?;
     board.show(&mut state);
-    let mut sent = 0;
-    let mut yes: u32 = 0;
-    let mut no: u32 = 0;
-    for event in &schedule.events {
-        make_room(&mut text, &mut sent, out)?;
-        let admitted = make_and_show(schedule, board, *event, &mut state);
-        put_row(
-            &mut text,
-            schedule.form,
-            yes + no + 1,
-            *event,
-            admitted,
-            board,
-            &state,
-            &mut texts,
-        );
-        if admitted {
-            yes += 1;
-        } else {
-            no += 1;
-        }
-    }
-    make_room(&mut text, &mut sent, out)?;
-    put_totals(&mut text, yes, no);
-    hand_on(&mut text, &mut sent, out)
+    run_events(schedule, board, out, &mut text, &mut state, &mut texts)
 }

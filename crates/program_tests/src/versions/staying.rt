@@ -2,13 +2,12 @@
 ghost use Rattle.std.specs.Prelude.{◌≡◌, ◌<◌, All, length, true};
 ghost use Rattle.policy_versions.specs.Models.{IsClosed};
 
-use super::{policies, publish_one, refuse_one};
+use super::{next_pass, opened, publish_one, refuse_one};
 use crate::checks::same;
 use policy_versions::{Publisher, Registry, Using, VersionPass};
 use std::alloc::Global;
 use std::process::Abort;
 use std::sync::Wait;
-use std::test::Fail;
 
 /// A user that stays in its version.
 struct Staying<'r> {
@@ -67,9 +66,7 @@ fn stay<'r, R: Abort + Wait>(
     ensures passes { All (IsClosed registry.now) passes.new.items }
     ensures held { result.held.registry ≡ registry.now }
 {
-    let Some(mut pass) = passes.pop() else {
-        panic!(rt; "no pass")
-    };
+    let mut pass = next_pass(rt, registry, passes);
     let held = pass.enter(rt, registry);
     same(rt, &held.version(), &version);
     Staying { pass, held }
@@ -132,11 +129,10 @@ fn hold_each<R: Abort + Wait>(
 }
 
 #[test]
-fn all_eight_places_in_use(rt: HostRuntime) -> Result<(), Fail> {
+fn all_eight_places_in_use(rt: HostRuntime) {
     let alloc = rt.alloc();
-    let (registry, mut publisher, mut passes) = Registry::open(alloc, policies(alloc, 1)?, 8)?;
+    let (registry, mut publisher, mut passes) = opened(&rt, alloc, 1, 8);
     hold_each(&rt, alloc, &registry, &mut publisher, &mut passes);
-    Ok(())
 }
 
 /// Two users are in one version at once.
@@ -151,9 +147,7 @@ fn share_one<R: Abort + Wait>(rt: &R, registry: &Registry, passes: &mut Vec<Vers
 }
 
 #[test]
-fn two_users_are_in_one_version(rt: HostRuntime) -> Result<(), Fail> {
-    let alloc = rt.alloc();
-    let (registry, _publisher, mut passes) = Registry::open(alloc, policies(alloc, 1)?, 2)?;
+fn two_users_are_in_one_version(rt: HostRuntime) {
+    let (registry, _publisher, mut passes) = opened(&rt, rt.alloc(), 1, 2);
     share_one(&rt, &registry, &mut passes);
-    Ok(())
 }

@@ -2,13 +2,12 @@
 ghost use Rattle.std.specs.Prelude.{◌≡◌, All, length};
 ghost use Rattle.policy_versions.specs.Models.{IsClosed};
 
-use super::policies;
+use super::opened;
 use crate::checks::{holds, same};
 use policy_versions::{Publisher, Registry, VersionPass};
 use std::alloc::Global;
 use std::process::Abort;
 use std::sync::Wait;
-use std::test::Fail;
 use std::thread;
 use std::thread::Threads;
 
@@ -84,9 +83,8 @@ fn run_all<R: Abort + Threads + Wait + Sync>(
 }
 
 #[test]
-fn versions_never_fall(rt: HostRuntime) -> Result<(), Fail> {
+fn versions_never_fall(rt: HostRuntime) {
     let alloc = rt.alloc();
-    let (registry, mut publisher, mut passes) = Registry::open(alloc, policies(alloc, 2)?, 4)?;
+    let (registry, mut publisher, mut passes) = opened(&rt, alloc, 2, 4);
     run_all(&rt, alloc, &registry, &mut publisher, passes.as_mut_slice());
-    Ok(())
 }

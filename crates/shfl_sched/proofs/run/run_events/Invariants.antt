@@ -3,7 +3,7 @@ use Rattle.shfl_core.specs.ShownLine.{shown_line}
 use Rattle.shfl_sched.specs.Report.{heading_text, rows_from, count_admitted, count_refused}
 use Rattle.shfl_sched.specs.Run.{setup_of, moments, moments_of, lock_after}
 use Rattle.shfl_sched.proofs.Pieces.{Handed}
-use Rattle.shfl_sched.proofs.run.run_schedule.Given as goal
+use Rattle.shfl_sched.proofs.run.run_events.Given as goal
 
 abbrev pub invariant-loop-event : goal.invariant-loop-event
 invariant-loop-event g l =

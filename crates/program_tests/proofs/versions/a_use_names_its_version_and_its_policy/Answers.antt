@@ -1,8 +1,0 @@
-use Rattle.std.proofs.Common.{sym, ◌∙◌}
-use Rattle.policy_versions.proofs.Indexed.{fresh_closed, closed_last}
-use Rattle.program_tests.proofs.versions.a_use_names_its_version_and_its_policy.Goals as goal
-
-pub follow-requires-clause-pass : goal.follow-requires-clause-pass
-follow-requires-clause-pass g c =
-    let e = c.in_ok-registry.ensures in let ok = c.in_ok-registry.passes.ok.0 in
-    closed_last c.in_ok-registry.registry _ _ _ (fresh_closed c.in_ok-registry.registry _ _ e.passes (sym ok ∙ e.users)) c.in-Some.ensures.items
