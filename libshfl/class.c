@@ -106,9 +106,9 @@ int shfl_class_policy(unsigned class_of, unsigned profile, const uint8_t *should
 int shfl_class_detach(unsigned class_of) {
     if (class_of >= SHFL_CLASSES) return EINVAL;
     struct shfl_class *its = shfl_class_at(class_of);
-    bool is_open = shfl_load(&shfl_process.lock_count) > 0;
     shfl_races_look_away();
     shfl_guard_lock(&its->guard);
+    bool is_open = shfl_load(&shfl_process.lock_count) > 0; /* as it is when this policy ends: another thread may have opened it and given one */
     uint8_t *over = its->programs.bytes;
     if (is_open) shfl_seat_detach(&its->seat);
     its->programs = (struct shfl_programs){NULL, 0, 0, 0};

@@ -107,7 +107,7 @@ static int wait_on(shfl_cond_t *cond, shfl_mutex_t *mutex, clockid_t clock, cons
     uint32_t seen = shfl_load(&cond->signals);
     shfl_comes_to_wait(cond); /* there is room: who waits has the mutex, and so a seat, and whoever hasn't is refused below */
     int error = shfl_mutex_unlock(mutex);
-    bool rested = !error && shfl_fork_rests();
+    bool rested = !error && shfl_fork_rests(0);
     int told = error ? error : sleep_on(cond, seen, clock, deadline);
     if (rested) shfl_fork_goes_on();
     shfl_ends_to_wait(cond, told == 0 && shfl_load(&cond->signals) != seen);

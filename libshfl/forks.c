@@ -13,6 +13,10 @@ static __thread bool forks __attribute__((tls_model("initial-exec")));
 static uint32_t forking; /* how many threads do, or are about to */
 static pid_t forked; /* the process that does */
 
+static shfl_guard turn; /* of those that fork, also while one rests */
+static __thread bool has_turn __attribute__((tls_model("initial-exec")));
+static uint32_t rests_for; /* the lock for which the one rests whose turn it is, plus one, or 0 */
+
 static bool guard_at_once(shfl_guard *guard) {
     uint32_t none = 0;
     if (forks) shfl_child_hears();
@@ -43,7 +47,23 @@ void shfl_seated_in_fork(struct shfl_thread *me) {
     if (forks) __atomic_fetch_or(&me->unusual, SHFL_IS_FORKING, __ATOMIC_SEQ_CST);
 }
 
-static void before_fork(void) {
+/* While one rests in a handler another one that forks would have the guards, and its handler wait for what this one's has; so it waits here. But one that has the lock for which this one rests goes
+ * before, since this one can't. */
+static void take_turn(void) {
+    while (!has_turn && __atomic_exchange_n(&turn, 2, __ATOMIC_SEQ_CST) != 0) {
+        uint32_t number = shfl_load(&rests_for);
+        if (number != 0 && shfl_me && shfl_hold(shfl_me, number - 1) != 0) return;
+        shfl_sleep(&turn, 2, 1000000);
+    }
+    has_turn = true;
+}
+
+static void give_turn(void) {
+    if (has_turn) shfl_guard_unlock(&turn);
+    has_turn = false;
+}
+
+static void take_guards(void) {
     __atomic_fetch_add(&forking, 1, __ATOMIC_SEQ_CST);
     shfl_guard_lock(&shfl_process.is_loading);
     shfl_guard_lock(&shfl_lists);
@@ -57,7 +77,12 @@ static void before_fork(void) {
     if (shfl_me) shfl_seated_in_fork(shfl_me);
 }
 
-static void after_fork(void) {
+static void before_fork(void) {
+    take_turn();
+    take_guards();
+}
+
+static void give_guards(void) {
     forks = false;
     if (shfl_me) __atomic_fetch_and(&shfl_me->unusual, ~(uint32_t)SHFL_IS_FORKING, __ATOMIC_SEQ_CST);
     shfl_control_go_on();
@@ -70,21 +95,38 @@ static void after_fork(void) {
     __atomic_fetch_sub(&forking, 1, __ATOMIC_SEQ_CST);
 }
 
+static void after_fork(void) {
+    give_guards();
+    give_turn();
+}
+
 /* Handlers that the program registered before the library was opened run while this thread has every guard. One that waits for a lock of another thread's, which may need a guard, lets go of
- * them meanwhile. */
-bool shfl_fork_rests(void) {
+ * them meanwhile. It stays the one that forks. */
+bool shfl_fork_rests(uint32_t number) {
     if (forks) shfl_child_hears();
     if (!forks) return false;
-    after_fork();
+    if (has_turn) shfl_store(&rests_for, number);
+    give_guards();
     return true;
 }
 
-void shfl_fork_goes_on(void) { before_fork(); }
+void shfl_fork_goes_on(void) {
+    if (has_turn) shfl_store(&rests_for, 0);
+    take_guards();
+}
+
+/* Who tries again and again until the lock is free would keep its holder from a guard, so others have the guards for as long as a thread takes to wake and come to one. */
+SHFL_COLD void shfl_fork_pauses(uint32_t number) {
+    static uint32_t never;
+    if (!shfl_fork_rests(number)) return;
+    shfl_sleep(&never, 0, 100000);
+    shfl_fork_goes_on();
+}
 
 static shfl_guard opening;
 
 bool shfl_begin_opening(void) {
-    bool rested = shfl_fork_rests();
+    bool rested = shfl_fork_rests(0);
     shfl_guard_lock(&opening);
     return rested;
 }
@@ -143,17 +185,21 @@ static void in_child(void) {
             parking->sleepers = parking->inside = parking->queued = parking->promoted = shfl_process.totals[lock].readers = 0;
     }
     if (me && me->holding > 0) renumber_all(me, given);
+    shfl_free_left_seats(); /* before it is counted anew how many have seats */
     free_seats_of_others(me);
     if (me) me->tid = (uint32_t)syscall(SYS_gettid);
     shfl_seated = me != NULL;
     shfl_owner = getpid();
     shfl_store(&forking, 1);
+    shfl_store(&rests_for, 0);
+    if (!has_turn) shfl_store(&turn, 0);
     after_fork();
     shfl_control_forked();
     pthread_setcancelstate(cancels, NULL);
 }
 
-/* In the child handlers of such a program come before the library's, so it is the first call there that could miss it which does what is to be done. */
+/* In the child handlers of such a program come before the library's, so it is the first call there that could miss it which does what is to be done.
+ * It knows the child by its number, which is its parent's where either is the first one of a namespace of processes: there it learns it from the library's handler alone. */
 void shfl_child_hears(void) {
     if (forks && forked != getpid()) in_child();
 }
@@ -165,6 +211,8 @@ static void at_child(void) {
 int shfl_hear_of_forks(void) {
     shfl_races_own(&opening, sizeof opening);
     shfl_races_own(&forking, sizeof forking);
+    shfl_races_own(&turn, sizeof turn);
+    shfl_races_own(&rests_for, sizeof rests_for);
     if (shfl_load(&hears) || __atomic_exchange_n(&hears, 1, __ATOMIC_SEQ_CST)) return 0;
     int error = pthread_atfork(before_fork, after_fork, at_child);
     if (error) shfl_store(&hears, 0);

@@ -98,7 +98,7 @@ int shfl_take_after(struct shfl_thread *me, uint32_t *word, uint32_t number, boo
     uint64_t since = shfl_clock();
     shfl_count_contended(me, lock);
     shfl_begins_to_wait(me, lock, shared, caller);
-    bool rested = shfl_fork_rests();
+    bool rested = shfl_fork_rests(lock + 1);
     int error = shfl_wait(me, lock, shared);
     if (rested) shfl_fork_goes_on();
     shfl_count_waited(me, lock, since);
@@ -127,6 +127,7 @@ int shfl_try(uint32_t *word, bool shared) {
     if (answer != SHFL_BUSY) return other_answer(me, word, lock, shared, answer, EBUSY);
     shfl_count_contended(me, lock);
     if (shared) shfl_ring(&shfl_parking_of(lock)->head_asleep);
+    shfl_fork_pauses(lock + 1);
     return EBUSY;
 }
 
@@ -138,7 +139,7 @@ static int wait_until(struct shfl_thread *me, uint32_t lock, bool shared, clocki
     uint64_t since = shfl_clock();
     shfl_count_contended(me, lock);
     shfl_begins_to_wait(me, lock, shared, SHFL_CALLER(me));
-    bool rested = shfl_fork_rests();
+    bool rested = shfl_fork_rests(lock + 1);
     int error = shfl_wait_until(me, lock, shared, clock, deadline);
     if (rested) shfl_fork_goes_on();
     shfl_count_waited(me, lock, since);

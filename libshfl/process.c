@@ -1,5 +1,4 @@
-/* The process's first arena: its opening, the numbers of locks, the seats of threads. Proved is what a seat does; that each thread has one of its
- * own, and no two locks in use one number, is this file's. */
+/* The process's first arena: its opening, the seats of threads. Proved is what a seat does; that each thread has one of its own is this file's. */
 #include <pthread.h>
 #include <stdlib.h>
 #include "arenas.h"
@@ -14,11 +13,10 @@ __thread struct shfl_thread *shfl_me;
 static __thread bool ends __attribute__((tls_model("initial-exec")));
 
 shfl_guard shfl_lists;
-uint32_t shfl_seated, shfl_fresh_locks;
+uint32_t shfl_seated;
 pid_t shfl_owner;
 static bool is_open;
-static struct shfl_thread *free_threads, *lost_threads;
-static uint32_t free_locks; /* the last number that came back, plus one */
+static struct shfl_thread *free_threads, *lost_threads, *left_threads;
 static pthread_key_t at_end;
 
 /* Has the guard of the lists. */
@@ -26,16 +24,32 @@ static void free_seat(struct shfl_thread *thread) {
     thread->aside = 0;
     thread->tid = 0;
     thread->caller = NULL;
-    __atomic_fetch_and(&thread->unusual, ~(uint32_t)SHFL_IS_ENDING, __ATOMIC_SEQ_CST);
+    __atomic_fetch_and(&thread->unusual, SHFL_IS_WATCHED, __ATOMIC_SEQ_CST); /* all else was its thread's */
     thread->next_free = free_threads;
     free_threads = thread;
     shfl_seated--;
 }
 
-/* Where somebody forks the seat stays as it is until it is looked for as that of a thread that is gone. */
+/* It isn't looked for any more as that of a thread that is gone, nor as one that rests: it would be free twice. */
+static void leave_behind(struct shfl_thread *me) {
+    shfl_store(&me->tid, 0);
+    me->next_free = __atomic_load_n(&left_threads, __ATOMIC_SEQ_CST);
+    while (!__atomic_compare_exchange_n(&left_threads, &me->next_free, me, false, __ATOMIC_SEQ_CST, __ATOMIC_SEQ_CST)) {}
+}
+
+/* Has the guard of the lists. The whole list is taken at once, so nobody meets there who comes back to it. */
+void shfl_free_left_seats(void) {
+    struct shfl_thread *left = __atomic_exchange_n(&left_threads, NULL, __ATOMIC_SEQ_CST), *next;
+    for (; left; left = next) {
+        next = left->next_free;
+        free_seat(left);
+    }
+}
+
+/* Who ends while somebody forks doesn't wait, and leaves the seat to whom it will be given next, or to the child. */
 static void give_seat_back(struct shfl_thread *me) {
     shfl_me = NULL;
-    if (!shfl_guard_lock_unless_forking(&shfl_lists)) return;
+    if (!shfl_guard_lock_unless_forking(&shfl_lists)) return leave_behind(me);
     free_seat(me);
     shfl_guard_unlock(&shfl_lists);
 }
@@ -49,8 +63,11 @@ static void free_seats_of_gone(void) {
     if (shfl_owner != getpid() || now - looked_at < 100000000) return;
     for (uint32_t k = 0; k < shfl_process.threads_seen; k++) {
         struct shfl_thread *thread = &shfl_process.threads[k];
-        bool is_gone = thread->tid != 0 && syscall(SYS_tgkill, getpid(), thread->tid, 0) != 0 && errno == ESRCH;
-        if (is_gone && __atomic_load_n(&thread->holding, __ATOMIC_RELAXED) == 0) free_seat(thread);
+        uint32_t tid = shfl_load(&thread->tid);
+        bool is_gone = tid != 0 && syscall(SYS_tgkill, getpid(), tid, 0) != 0 && errno == ESRCH;
+        if (!is_gone || __atomic_load_n(&thread->holding, __ATOMIC_RELAXED) > 0) continue;
+        /* one that left its seat behind meanwhile has taken its number away */
+        if (__atomic_compare_exchange_n(&thread->tid, &tid, 0, false, __ATOMIC_SEQ_CST, __ATOMIC_SEQ_CST)) free_seat(thread);
     }
     if (!free_threads) looked_at = now;
     errno = before;
@@ -71,22 +88,6 @@ static void free_lost_seat(void) {
         free_seat(thread);
     }
 }
-
-/* What is counted at the number from now on is another lock's. In the child of a fork a number may never be used again. */
-static void leave_number(uint32_t lock, bool comes_back) {
-    shfl_count_end(lock);
-    shfl_guard_lock(&shfl_lists);
-    __atomic_store_n(&shfl_process.totals[lock].address, NULL, __ATOMIC_SEQ_CST);
-    shfl_record_end(lock);
-    if (comes_back) {
-        shfl_process.totals[lock].next_free = free_locks;
-        free_locks = lock + 1;
-    }
-    shfl_guard_unlock(&shfl_lists);
-}
-
-void shfl_leave_number(uint32_t lock) { leave_number(lock, false); }
-void shfl_take_number_back(uint32_t lock) { leave_number(lock, true); }
 
 void shfl_leave_seat(struct shfl_thread *me) {
     pthread_setspecific(at_end, NULL);
@@ -124,7 +125,8 @@ static void deal(struct shfl_seat *seats) {
 
 #define OWN(it) shfl_races_own(&(it), sizeof(it))
 static void own_statics(void) {
-    OWN(shfl_process), OWN(shfl_lists), OWN(is_open), OWN(shfl_seated), OWN(shfl_owner), OWN(free_threads), OWN(lost_threads), OWN(shfl_fresh_locks), OWN(free_locks), OWN(at_end);
+    OWN(shfl_process), OWN(shfl_lists), OWN(is_open), OWN(shfl_seated), OWN(shfl_owner), OWN(free_threads), OWN(lost_threads), OWN(left_threads), OWN(at_end);
+    OWN(shfl_fresh_locks), OWN(shfl_free_locks);
 }
 
 /* The process's lists begin, at once for who forks. */
@@ -196,6 +198,7 @@ bool shfl_set_attr(struct shfl_thread *me, uint16_t prio, uint16_t class_of, uin
 }
 
 static struct shfl_thread *take_free(int *error) {
+    if (!free_threads) shfl_free_left_seats();
     if (!free_threads) free_lost_seat();
     if (!free_threads) free_seats_of_gone();
     struct shfl_thread *me = free_threads;
@@ -229,66 +232,4 @@ SHFL_COLD struct shfl_thread *shfl_take_seat(int *error) {
     shfl_set_attr(me, 0, 0, 0);
     shfl_control();
     return me;
-}
-
-/* The k-th number that is given. Four locks stand on one cache line, so neighbours in time stand on lines of their own. */
-uint32_t shfl_number_at(uint32_t k) {
-    uint32_t locks = shfl_process.arena_locks, quarter = locks / 4, within = k % locks;
-    return within < 4 * quarter ? k - within + within % quarter * 4 + within / quarter : k;
-}
-
-/* False: none is free of as many as `had` says. */
-static bool take_number_of(uint32_t *lock, uint32_t *had) {
-    bool is_done = true;
-    shfl_guard_lock(&shfl_lists);
-    *had = shfl_process.lock_count;
-    if (free_locks > 0) {
-        *lock = free_locks - 1;
-        free_locks = shfl_process.totals[*lock].next_free;
-    } else if (shfl_fresh_locks < *had) {
-        *lock = shfl_number_at(shfl_fresh_locks++);
-    } else {
-        is_done = false;
-    }
-    shfl_guard_unlock(&shfl_lists);
-    return is_done;
-}
-
-static int take_number(uint32_t *lock) {
-    int error = 0;
-    for (uint32_t had; !error && !take_number_of(lock, &had);) error = shfl_grow(had);
-    return error;
-}
-
-uint32_t shfl_numbers_given(void) {
-    shfl_guard_lock(&shfl_lists);
-    uint32_t given = shfl_fresh_locks;
-    shfl_guard_unlock(&shfl_lists);
-    return given;
-}
-
-/* Puts the lock at this address, if it has this number still, into a class. Those that wait for it already stay as they are. */
-int shfl_put_into(uint32_t lock, const void *address, uint32_t class_of) {
-    if (class_of >= SHFL_CLASSES || !address || lock >= shfl_load(&shfl_process.lock_count)) return EINVAL;
-    shfl_guard_lock(&shfl_lists);
-    bool there = shfl_process.totals[lock].address == address;
-    if (there) shfl_store(&shfl_parking_of(lock)->class_of, class_of);
-    shfl_guard_unlock(&shfl_lists);
-    return there ? 0 : ENOENT;
-}
-
-/* Of several threads that use a lock first, one gives it its number. */
-SHFL_COLD int shfl_give_number(uint32_t *word, uint32_t class_of, uint32_t *lock) {
-    int error = shfl_open_process();
-    if (error) return error;
-    error = take_number(lock);
-    if (error) return error;
-    shfl_store(&shfl_parking_of(*lock)->class_of, class_of % SHFL_CLASSES);
-    __atomic_store_n(&shfl_process.totals[*lock].address, word, __ATOMIC_SEQ_CST);
-    uint32_t none = 0;
-    if (!__atomic_compare_exchange_n(word, &none, *lock + 1, false, __ATOMIC_SEQ_CST, __ATOMIC_SEQ_CST)) {
-        shfl_take_number_back(*lock);
-        *lock = none - 1;
-    }
-    return 0;
 }

@@ -75,7 +75,8 @@ static bool is_promoted(struct shfl_parking *parking) {
 
 /* Sleeps outside. True: it holds the lock instead. Who has announced itself tries once more, since the release that it waits for may
  * have come before; and what a reader's attempt counted may be what the queue's head found in its way. A writer that was awake may have been woken in a reader's place, or have kept others from
- * being woken, and others may read by now: so where nobody else is awake it wakes a reader, which shares with them and wakes the next one. */
+ * being woken, and others may read by now: so where nobody else is awake it wakes a reader, which shares with them and wakes the next one. So does each that looked by itself, or came while others
+ * slept; where a writer has the lock that is in vain. */
 static bool sleep_outside(struct waiter *waiter, uint64_t most) {
     struct shfl_parking *parking = waiter->parking;
     bool passes_on = waiter->inside && !waiter->shared;

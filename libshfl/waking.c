@@ -25,7 +25,8 @@ bool shfl_wake_outside(struct shfl_parking *parking) {
     return wake_one(parking, any) || (shfl_load(&parking->outside) > 0 && shfl_load(&parking->inside) == 0 && wake_one(parking, any));
 }
 
-/* Where nobody queues: else a reader that comes from outside waits behind. Who waits awake otherwise takes nothing from readers, nor wakes them. */
+/* Where nobody queues: else a reader that comes from outside waits behind. Threads that are awake outside the queue aren't asked about: they
+ * neither keep a reader out nor wake one. */
 bool shfl_wake_reader(struct shfl_parking *parking) {
     return shfl_load(&shfl_total_of(parking)->readers) > 0 && shfl_load(&parking->queued) == 0 && wake_one(parking, SHFL_READER);
 }

@@ -116,7 +116,8 @@ struct shfl_stat {
     uint64_t contended; /* how often a call found it taken, or others waiting; those that a deadline ended and tries in vain, too */
     uint64_t queued; /* how often a thread queued */
     uint64_t waited_ns, longest_ns; /* by calls that found it taken, but for tries: all together, and the longest */
-    uint64_t within, across; /* how often one thread took it alone after another one had: of the same socket, and of another */
+    /* how often one thread took it alone after another one had: of the same socket, and of another. A thread counts as the one that had its seat 32 threads before */
+    uint64_t within, across;
     uint64_t questions, yes; /* to the class's policy, and how many it answered with yes */
     uint64_t skipped; /* rounds that the policy skipped */
 };

@@ -1,8 +1,9 @@
 /* In the child of a fork the seats of the parent's other threads serve new threads, but for those of threads that had a lock or were about to take one: with the library's calls, or
- * with pthread's (PTHREAD), for the preload library: seats, with SHFL_THREADS=8. */
+ * with pthread's (PTHREAD), for the preload library. With the library's, one that goes back while another thread forks serves the next thread at once: seats, with SHFL_THREADS=8. */
 #include <errno.h>
 #include <pthread.h>
 #include <stdbool.h>
+#include <sys/mman.h>
 #include <sys/wait.h>
 #include <unistd.h>
 #include "answers.h"
@@ -173,9 +174,71 @@ static void amid_calls(void) {
     for (int k = 0; k < 4; k++) IS(pthread_join(threads[k], NULL), 0);
 }
 
+#ifndef PTHREAD
+static pthread_key_t later;
+static bool has_left;
+
+static void *forks_on(void *none) {
+    while (!__atomic_load_n(&is_over, __ATOMIC_RELAXED)) {
+        pid_t child = fork();
+        if (child == 0) _exit(0);
+        is_well(child);
+    }
+    return none;
+}
+
+/* Its key is younger than the library's, so the seat has gone back; the thread itself is there yet. */
+static void stays_on(void *none) {
+    (void)none;
+    __atomic_store_n(&has_left, true, __ATOMIC_SEQ_CST);
+    usleep(10000);
+}
+
+static void *takes_and_ends(void *number) {
+    mutex its = SHFL_MUTEX_INIT;
+    IS(use(&its) || pthread_setspecific(later, number), 0);
+    usleep((unsigned)(*(int *)number * 137 % 3000));
+    return number;
+}
+
+static void *comes_next(void *none) {
+    mutex its = SHFL_MUTEX_INIT;
+    while (!__atomic_load_n(&has_left, __ATOMIC_SEQ_CST)) usleep(50);
+    IS(use(&its), 0);
+    return none;
+}
+
+/* All seats but one are taken. A fork copies so much that threads end meanwhile. */
+static void ends_while_another_forks(void) {
+    size_t size = 64 << 20;
+    char *copied = mmap(NULL, size, PROT_READ | PROT_WRITE, MAP_PRIVATE | MAP_ANONYMOUS, -1, 0);
+    pthread_t others[SEATS - 2], forker, two[2];
+    IS(copied == MAP_FAILED, 0);
+    madvise(copied, size, MADV_NOHUGEPAGE);
+    memset(copied, 1, size);
+    is_over = false;
+    IS(pthread_key_create(&later, stays_on) || pthread_barrier_init(&all_sit, NULL, SEATS - 1) || pthread_barrier_init(&may_end, NULL, SEATS - 1), 0);
+    for (int k = 0; k < SEATS - 2; k++) IS(pthread_create(&others[k], NULL, sits, NULL), 0);
+    pthread_barrier_wait(&all_sit);
+    IS(pthread_create(&forker, NULL, forks_on, NULL), 0);
+    for (int k = 0; k < 50; k++) {
+        __atomic_store_n(&has_left, false, __ATOMIC_SEQ_CST);
+        IS(pthread_create(&two[0], NULL, takes_and_ends, &k) || pthread_create(&two[1], NULL, comes_next, NULL), 0);
+        for (int j = 0; j < 2; j++) IS(pthread_join(two[j], NULL), 0);
+    }
+    __atomic_store_n(&is_over, true, __ATOMIC_RELAXED);
+    pthread_barrier_wait(&may_end);
+    for (int k = 0; k < SEATS - 2; k++) IS(pthread_join(others[k], NULL), 0);
+    IS(pthread_join(forker, NULL) || munmap(copied, size), 0);
+}
+#endif
+
 int main(void) {
     alarm(200);
     IS(use(&counted), 0);
+#ifndef PTHREAD
+    ends_while_another_forks();
+#endif
     at_rest_and_not();
     amid_calls();
     puts("in the child of a fork the seats that were at rest serve new threads");
