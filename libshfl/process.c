@@ -198,7 +198,7 @@ bool shfl_set_attr(struct shfl_thread *me, uint16_t prio, uint16_t class_of, uin
 }
 
 static struct shfl_thread *take_free(int *error) {
-    if (!free_threads) shfl_free_left_seats();
+    shfl_free_left_seats(); /* before one is taken that nobody had yet, and its memory */
     if (!free_threads) free_lost_seat();
     if (!free_threads) free_seats_of_gone();
     struct shfl_thread *me = free_threads;
