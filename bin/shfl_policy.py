@@ -70,6 +70,11 @@ def with_line(file):
         raise Failed(failed.status, f"{failed}{line_of(file, failed.slot)}", failed.slot) from None
 
 
+def assemblers():
+    """The programs that read assembly, where they are built."""
+    return [f"{TOP}/crates/{it}/out/{it}" for it in ("syncord", "syncord_single")]
+
+
 def digits_of(file, profile):
     """The digits of a program in a file."""
     try:
@@ -80,9 +85,9 @@ def digits_of(file, profile):
     if file.endswith(".c"):
         return compiled(file)
     if file.endswith(".asm"):
-        built = f"{TOP}/crates/syncord/out/syncord"
-        if not os.access(built, os.X_OK):
-            raise Failed(70, "assembly is read by bin/shfl of the sources, where bin/build-program syncord has been run; or give what bin/syncord asm makes of it")
+        built = next((it for it in assemblers() if os.access(it, os.X_OK)), None)
+        if not built:
+            raise Failed(70, "assembly is read by bin/shfl of the sources, where bin/build-program syncord_single has been run; or give what bin/syncord asm makes of it")
         # (a line for each slot)
         return "".join(made_by([built, "asm"] + (["2"] if profile == "2" else []), input=text).decode().split())
     digits = re.sub(rb"\s", b"", text).decode("ascii", "replace").lower()

@@ -5,6 +5,7 @@
 # is written, nothing is said, and the status is 0. What `replay` and `shards` write of several workers, and what `pool` writes, is judged by
 # tests/judge.sh, as is the report that stands beside such a trace, since two runs may order their calls differently. Then the forms of each policy in examples/policies are compared (the C where a clang for BPF is
 # there), and that each example is in the index and each output belongs to one. NAME.trace.rounds is what bin/syncord-rounds writes of a trace of one worker by `replay`.
+# What `line`, `verify`, `asm` and `disasm` do is the same, byte for byte, by the program that has these alone, which refuses all other words.
 set -u
 top="$(cd "$(dirname "$(readlink -f "${BASH_SOURCE[0]}")")/.." && pwd)"
 got="$(mktemp -d)"
@@ -16,13 +17,30 @@ failed=0
 [ "$?" = 2 ] || exit 1
 "$top/bin/syncord-rounds" </dev/null >/dev/null 2> >(grep -v '^syncord-rounds: words$' >&2)
 [ "$?" = 2 ] || exit 1
+"$top/bin/build-program" syncord_single syncord || exit 1
+single="$top/crates/syncord_single/out/syncord_single"
+
+# Runs a command on a document, and leaves what it writes, what it says and its status; where it starts no thread, by both programs that have it.
+run() {
+    local document="$1" part
+    shift
+    "$top/bin/syncord" "$@" <"$document" >"$got/out" 2>"$got/err"
+    echo "$?" >"$got/status"
+    case "$1" in line | verify | asm | disasm) ;; *) return ;; esac
+    "$single" "$@" <"$document" >"$got/single.out" 2>"$got/single.err"
+    echo "$?" >"$got/single.status"
+    for part in out err status; do
+        cmp -s "$got/single.$part" "$got/$part" && continue
+        echo "$document: by syncord_single another $part than by syncord, with the words $*" >&2
+        failed=1
+    done
+}
 
 compare() {
-    local document="$1" name status=0 part due
-    shift
+    local document="$1" name part due
     name="$(basename "$document")"
-    "$top/bin/syncord" "$@" <"$document" >"$got/out" 2>"$got/err" || status=$?
-    echo "$status" >"$got/status"
+    run "$@"
+    shift
     for part in out err status; do
         due="$document.$part"
         if [ ! -e "$due" ]; then
@@ -102,13 +120,18 @@ done
 # The three forms of a policy say one program: the assembly and the listing of the digits have the digits' slots, and the C
 # compiles to them, where a clang for BPF stands ready.
 compare_forms() {
-    local form="${1%.asm}" name digits
+    local form="${1%.asm}" name digits slots
     name="examples/policies/$(basename "$form")"
     digits="$(tr -d '\n' <"$form.hex")"
-    if [ "$("$top/bin/syncord" asm <"$form.asm" | tr -d '\n')" != "$digits" ]; then
+    run "$form.asm" asm
+    slots="$(tr -d '\n' <"$got/out")"
+    run "$form.hex" disasm
+    mv "$got/out" "$got/listing"
+    run "$got/listing" asm
+    if [ "$slots" != "$digits" ]; then
         echo "$name.asm: other slots than $name.hex" >&2
         failed=1
-    elif [ "$("$top/bin/syncord" disasm <"$form.hex" | "$top/bin/syncord" asm | tr -d '\n')" != "$digits" ]; then
+    elif [ "$(tr -d '\n' <"$got/out")" != "$digits" ]; then
         echo "$name.hex: its listing has other slots" >&2
         failed=1
     elif clang -target bpf -O2 -c "$form.c" -o "$got/policy.o" 2>/dev/null \
@@ -144,6 +167,28 @@ ends_with 2 syncord line $'\xff'
 ends_with 2 syncord "$long"
 ends_with 2 syncord bulk 1 1 1 1 1
 ends_with 2 syncord bulk 1 1 1 1 1 1 1
+
+# The program of the commands that start no thread takes no other words, and reads nothing then.
+while read -r -a words; do
+    {
+        status=0
+        "$single" "${words[@]}" >"$got/out" 2>"$got/err" || status=$?
+        cat >"$got/left"
+    } <"$top/examples/fast-path.line"
+    [ "$status $(cat "$got/err")" = '2 syncord: words' ] && [ ! -s "$got/out" ] && cmp -s "$got/left" "$top/examples/fast-path.line" && continue
+    echo "syncord_single with the words '${words[*]}': status $status" >&2
+    failed=1
+done <<'END'
+
+replay
+shards
+pool
+bulk 7 8 2000
+help
+line x
+verify 1
+disasm 2 2
+END
 
 # what belongs to no example
 for part in "$top"/examples/*.{out,err,status,rounds} "$top"/examples/policies/*.{out,err,status}; do

@@ -1,7 +1,7 @@
 """What bin/shfl shows of a program, how it starts one and what it does to it, and how bash completes its words: uses.py PROGRAM."""
 import json, os, re, shutil, signal, socket, subprocess, sys, tempfile, time, unittest.mock
 from target import TOP, must, shfl, until, with_target
-import shfl_locks
+import shfl_locks, shfl_policy
 from shfl_places import Places
 
 
@@ -29,7 +29,7 @@ def the_tool(target):
 def files(target):
     """A policy as digits, in assembly and in C comes to be the same bytes, as far as those are there that make them; a text that is none changes nothing."""
     pid, its = str(target.pid), f"{TOP}/examples/policies/socket"
-    has = {"hex": True, "asm": os.access(f"{TOP}/crates/syncord/out/syncord", os.X_OK), "c": all(map(shutil.which, ("clang", "llvm-objcopy", "llvm-objdump")))}
+    has = {"hex": True, "asm": any(os.access(it, os.X_OK) for it in shfl_policy.assemblers()), "c": all(map(shutil.which, ("clang", "llvm-objcopy", "llvm-objdump")))}
     with open(f"{its}.hex", encoding="ascii") as at:
         digits = "".join(at.read().split())
     for form, there in has.items():

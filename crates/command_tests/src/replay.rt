@@ -5,6 +5,7 @@ use crate::checks::same;
 use crate::outcomes::{CutOutcome, Outcome, bytes_of, failing_sink, sink};
 use crate::serial::{Serially, run_serially};
 use crate::words::words_of;
+use command_words::{BulkWords, bulk_words};
 use std::alloc::Global;
 use std::process::Abort;
 use syn_outer::{MemSink, SureSink, SureSource};

@@ -1,3 +1,2 @@
 pub mod Takers
-pub mod Commands
 pub mod Outcomes

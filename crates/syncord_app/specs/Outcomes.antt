@@ -1,10 +1,9 @@
 -- What a command does with its input, its output and the error stream, and the status that it answers.
-use Rattle.std.specs.Prelude.{◌≡◌, ◌⊎◌, ℕ, List}
-use Rattle.syncord_endings.specs.declared.ending.Refusal.{Refusal}
+use Rattle.std.specs.Prelude.{◌≡◌, ◌⊎◌, ℕ}
 use Rattle.syncord_endings.specs.Traffic.{Traffic, Failed}
-use Rattle.syncord_endings.specs.Endings.{Answers, Decides}
+use Rattle.syncord_endings.specs.Endings.{Performs}
 use Rattle.shfl_workers.specs.LockRuns.{RanByThreads, RanByShards}
-use Rattle.syncord_replay.specs.declared.words.BulkWords.{BulkWords}
+use Rattle.command_words.specs.declared.numbers.BulkWords.{BulkWords}
 use Rattle.syncord_replay.specs.Sums.{Summarizes, Concludes}
 use Rattle.syncord_line.specs.Reports as line
 use Rattle.syncord_verify.specs.Verdicts as verify
@@ -12,16 +11,9 @@ use Rattle.syncord_asm.specs.Assemblies as assembly
 use Rattle.syncord_asm.specs.Listings as listing
 use Rattle.syncord_replay.specs.Replays as replay
 use Rattle.syncord_pool.specs.Reports as pool
-use Rattle.syncord_app.specs.declared.commands.Command.{Command}
-use Rattle.syncord_app.specs.declared.commands.Command.TheVariants.{Line, Verify, Replay, Shards, Pool, Bulk, Assemble, Disassemble}
+use Rattle.command_words.specs.declared.commands.Command.{Command}
+use Rattle.command_words.specs.declared.commands.Command.TheVariants.{Line, Verify, Replay, Shards, Pool, Bulk, Assemble, Disassemble}
 use Rattle.syncord_app.specs.Takers.{RanByTakers}
-
--- a command with these reports and refusals is done, or ends otherwise with its cause; and where nothing fails and memory
--- is found, the input is reported or refused
-pub record Performs (reports : List ℕ → List ℕ → Type 0) (refuses : List ℕ → Refusal → Type 0)
-    (input output error : Traffic) (status : ℕ) : Type 0 where
-  pub answer : Answers reports refuses input output error status
-  pub complete : Decides refuses input output status
 
 -- a history of the trace that these numbers make, run by threads, is summed up, or the command ends otherwise with its cause
 pub record SumsUp (numbers : BulkWords) (output error : Traffic) (status : ℕ) : Type 0 where

@@ -4,18 +4,18 @@ ghost use Rattle.syn_outer.specs.Causes.{CallsAtMost};
 ghost use Rattle.syncord_endings.specs.Endings.{most_bytes};
 ghost use Rattle.syncord_endings.specs.Traffic.{through, Takes};
 ghost use Rattle.shfl_workers.specs.LockRuns.{RanByThreads, RanByShards};
-ghost use Rattle.syncord_replay.specs.declared.words.BulkWords.{BulkWords as Numbers};
+ghost use Rattle.command_words.specs.declared.numbers.BulkWords.{BulkWords as Numbers};
 ghost use Rattle.syncord_replay.specs.Runnable.{IsRunnable, IsRunOf};
 ghost use Rattle.syncord_pool.specs.Runs as pooled;
-ghost use Rattle.syncord_app.specs.declared.commands.Command.TheVariants.{Bulk};
-ghost use Rattle.syncord_app.specs.Commands.{IsPossible};
+ghost use Rattle.command_words.specs.declared.commands.Command.TheVariants.{Bulk};
+ghost use Rattle.command_words.specs.Commands.{IsPossible};
 ghost use Rattle.syncord_app.specs.Outcomes.{Does};
 ghost use Rattle.syncord_app.specs.Takers.{RanByTakers};
 
-use crate::commands::Command;
 use crate::manners::{ByShards, ByTakers, ByThreads};
 use crate::takers::run_by_takers;
 use crate::threads::{run_by_shards, run_by_threads};
+use command_words::{BulkWords, Command};
 use std::alloc::Global;
 use std::sync::Wait;
 use std::thread::Threads;
@@ -23,12 +23,12 @@ use syn_outer::{Gate, Sink, Source};
 use syncord_asm::{run_asm, run_disasm};
 use syncord_line::run_line;
 use syncord_pool::{PoolRun, run_pool};
-use syncord_replay::{BulkWords, Run, run_bulk, run_replay};
+use syncord_replay::{Run, run_bulk, run_replay};
 use syncord_verify::run_verify;
 use trace_text::{NoMemory, Trace};
 
 /// Does what a command says, and answers the status.
-#[tactic(auto, using(crate::proofs::Unread::calls_stay))]
+#[tactic(auto, using(syncord_endings::proofs::Unread::calls_stay))]
 pub(crate) fn do_command<Rt: Threads + Wait + Sync, R: Source, W: Sink, E: Sink, G: Gate + Sync>(
     rt: &Rt,
     alloc: Global,

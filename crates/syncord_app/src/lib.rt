@@ -1,7 +1,6 @@
 //! The program `syncord` as one call: words and bytes in, a status, a report and an error line out.
 #![tactic(auto)]
 
-mod commands;
 mod doing;
 mod manners;
 mod takers;

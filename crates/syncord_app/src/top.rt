@@ -1,24 +1,24 @@
 //! The top call: words and bytes in, a status, a report and an error line out.
 ghost use Rattle.std.specs.Prelude.{◌≡◌, ◌≢◌, ◌+◌, [], map, string_bytes, codes, Some, None};
-ghost use Rattle.syncord_app.specs.declared.commands.Command.TheVariants.{Line, Verify, Replay, Shards, Pool, Bulk, Assemble, Disassemble};
+ghost use Rattle.command_words.specs.declared.commands.Command.TheVariants.{Line, Verify, Replay, Shards, Pool, Bulk, Assemble, Disassemble};
+ghost use Rattle.command_words.specs.Commands.{command_in};
 ghost use Rattle.bpf_isa.specs.declared.insn.Profile.{Profile as ProfileValue};
 ghost use Rattle.syn_outer.specs.Causes.{CallsAtMost};
-ghost use Rattle.syncord_endings.specs.Endings.{most_bytes};
+ghost use Rattle.syncord_endings.specs.Endings.{Performs, most_bytes};
 ghost use Rattle.syncord_endings.specs.Traffic.{through, Takes, Told};
 ghost use Rattle.syncord_line.specs.Reports as line;
 ghost use Rattle.syncord_verify.specs.Verdicts as verify;
 ghost use Rattle.syncord_asm.specs.Assemblies as assembly;
 ghost use Rattle.syncord_asm.specs.Listings as listing;
 ghost use Rattle.shfl_workers.specs.LockRuns.{RanByThreads, RanByShards};
-ghost use Rattle.syncord_replay.specs.declared.words.BulkWords.{BulkWords as Numbers};
+ghost use Rattle.command_words.specs.declared.numbers.BulkWords.{BulkWords as Numbers};
 ghost use Rattle.syncord_replay.specs.Replays as replay;
 ghost use Rattle.syncord_pool.specs.Reports as pool;
-ghost use Rattle.syncord_app.specs.Outcomes.{Performs, SumsUp};
+ghost use Rattle.syncord_app.specs.Outcomes.{SumsUp};
 ghost use Rattle.syncord_app.specs.Takers.{RanByTakers};
-ghost use Rattle.syncord_app.specs.Commands.{command_in};
 
-use crate::commands::Command;
 use crate::doing::do_command;
+use command_words::Command;
 use std::alloc::Global;
 use std::sync::Wait;
 use std::thread::Threads;
@@ -28,7 +28,7 @@ use syncord_endings::tell;
 /// Does what the words behind the program's name say, and answers the status. `replay`, `shards`, `pool` and `bulk` run a thread for
 /// each worker of their trace and wait for them all: what is said of them here is said if the call returns. `gate` is where a test can
 /// hold a worker.
-#[tactic(auto, using(crate::proofs::Unread::calls_stay))]
+#[tactic(auto, using(syncord_endings::proofs::Unread::calls_stay))]
 pub fn syncord<Rt: Threads + Wait + Sync, R: Source, W: Sink, E: Sink, G: Gate + Sync>(
     rt: &Rt,
     alloc: Global,

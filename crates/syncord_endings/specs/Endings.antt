@@ -108,3 +108,10 @@ abbrev pub Decides : (List ℕ → Refusal → Type 0) → Traffic → Traffic �
 Decides refuses input output status = (bytes : List ℕ) → input.before ≡ Some bytes → length bytes ≤ most_bytes
     → ¬ (Failed input) → ¬ (Failed output)
     → (status ≡ 0) ⊎ (status ≡ 5) ⊎ ((r : Refusal) × (status ≡ status_of_refusal r) × refuses bytes r)
+
+-- a command with these reports and refusals is done, or ends otherwise with its cause; and where nothing fails and memory
+-- is found, the input is reported or refused
+pub record Performs (reports : List ℕ → List ℕ → Type 0) (refuses : List ℕ → Refusal → Type 0)
+    (input output error : Traffic) (status : ℕ) : Type 0 where
+  pub answer : Answers reports refuses input output error status
+  pub complete : Decides refuses input output status

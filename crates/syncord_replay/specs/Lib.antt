@@ -2,4 +2,3 @@ pub mod Runnable
 pub mod Replays
 pub mod Serial
 pub mod Sums
-pub mod Numbers

@@ -6,10 +6,8 @@ mod manner;
 mod outcome;
 mod replay;
 mod run;
-mod words;
 
 pub use bulk::run_bulk;
 pub use manner::Manner;
 pub use outcome::Run;
 pub use run::run_replay;
-pub use words::{BulkWords, bulk_words};

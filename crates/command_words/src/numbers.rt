@@ -1,6 +1,6 @@
 //! The words behind `bulk`.
 ghost use Rattle.std.specs.Prelude.{◌≡◌, [], ◌∷◌, map, string_bytes, IfSome};
-ghost use Rattle.syncord_replay.specs.Numbers.{AreInRange, spelled, numbers_in, words_in};
+ghost use Rattle.command_words.specs.Numbers.{AreInRange, spelled, numbers_in, words_in};
 
 use doc_text::number;
 

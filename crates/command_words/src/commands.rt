@@ -1,9 +1,9 @@
-//! The words of the program.
+//! The words of a command.
 ghost use Rattle.std.specs.Prelude.{◌≡◌, map, string_bytes, IfSome};
 
+use crate::numbers::{BulkWords, bulk_words};
 use bpf_isa::Profile;
 use doc_text::is_same;
-use syncord_replay::{BulkWords, bulk_words};
 
 /// What the program can do.
 #[derive(Clone, Copy)]
@@ -27,7 +27,7 @@ pub enum Command {
 }
 
 impl Command {
-    ghost use Rattle.syncord_app.specs.Commands.{IsPossible, word_in, words_in, bulk_in, command_in};
+    ghost use Rattle.command_words.specs.Commands.{IsPossible, word_in, words_in, bulk_in, command_in};
 
     fn of_word(word: &[u8]) -> Option<Command>
         ensures exact { result ≡ word_in word.now }

@@ -3,7 +3,7 @@ use Rattle.std.specs.Prelude.{◌<◌, ◌≤◌, ℕ, List, [], ◌∷◌, Opti
 use Rattle.std.specs.Fmt.{decimal}
 use Rattle.doc_text.specs.Numbers.{number_in}
 use Rattle.doc_text.specs.Words.{◌>>?◌}
-use Rattle.syncord_replay.specs.declared.words.BulkWords.{BulkWords}
+use Rattle.command_words.specs.declared.numbers.BulkWords.{BulkWords}
 
 -- a seed of 64 bits, 1 to 16 workers, and at most 65,000 calls
 pub record AreInRange (b : BulkWords) : Type 0 where

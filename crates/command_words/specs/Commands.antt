@@ -1,10 +1,10 @@
--- The words of the program.
+-- The words of a command.
 use Rattle.std.specs.Prelude.{ℕ, List, [], ◌∷◌, Option, Some, None, codes, if◌then◌else◌}
 use Rattle.doc_text.specs.Words.{same, ◌>>?◌}
 use Rattle.bpf_isa.specs.declared.insn.Profile.TheVariants.{One, Two}
-use Rattle.syncord_replay.specs.Numbers.{AreInRange, words_in as bulk_words_in}
-use Rattle.syncord_app.specs.declared.commands.Command.{Command}
-use Rattle.syncord_app.specs.declared.commands.Command.TheVariants.{Line, Verify, Replay, Shards, Pool, Bulk, Assemble, Disassemble}
+use Rattle.command_words.specs.Numbers.{AreInRange, words_in as bulk_words_in}
+use Rattle.command_words.specs.declared.commands.Command.{Command}
+use Rattle.command_words.specs.declared.commands.Command.TheVariants.{Line, Verify, Replay, Shards, Pool, Bulk, Assemble, Disassemble}
 
 -- the numbers of `bulk` are in range
 abbrev pub IsPossible : Command → Type 0
