@@ -6,11 +6,11 @@ use lib.ListN.{get_elem?}
 use Rattle.atomic_table.specs.Table.{Me, stepped}
 use Rattle.shfl_line.specs.declared.events.Mode.{Mode}
 use Rattle.shfl_line.specs.declared.events.Mode.TheVariants.{Write, Read}
-use Rattle.shfl_line.specs.Words.{bit, packed_lock, held_of, closed_of, readers_of, IsLockWord}
+use Rattle.shfl_line.specs.Words.{packed_lock, held_of, closed_of, readers_of, IsLockWord}
 use Rattle.shfl_core.specs.declared.phase.PassState.{PassState}
 use Rattle.shfl_core.specs.declared.phase.Rules.{Rules}
 use Rattle.shfl_core.specs.declared.words.Word.TheVariants.{Lock}
-use Rattle.shfl_core.specs.Words.{look, site}
+use Rattle.shfl_core.specs.Words.{site}
 use Rattle.shfl_core.specs.Phases.{is_holding}
 use Rattle.shfl_core.specs.Plan.{plan}
 use Rattle.shfl_core.specs.Worlds.{World, known}
@@ -25,7 +25,7 @@ use Rattle.shfl_arena.specs.ArenaWords.{place, word_at}
 use Rattle.shfl_arena.specs.Operations.{LockTerms, Permits, gives_back, step_play}
 use Rattle.shfl_arena.specs.SeatModels.{leaving}
 use Rattle.shfl_arena.specs.SeatViews.{threads_of}
-use Rattle.shfl_arena.specs.Threads.{mode_held, pass_at, pass_at_rest, resting, thread_at}
+use Rattle.shfl_arena.specs.Threads.{mode_held, pass_at, pass_at_rest, resting}
 use Rattle.shfl_arena.proofs.Headlines.{arena-headline}
 use Rattle.shfl_arena.proofs.SeatViews.{threads-at}
 use Rattle.shfl_arena.proofs.Threads.{at-none, off-at}

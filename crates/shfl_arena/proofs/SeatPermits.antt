@@ -1,14 +1,18 @@
 -- What each call of a seat is permitted, by what the seat knows.
-use Rattle.std.proofs.Common.{◌≡◌, ℕ, ◌<◌, Bool, true, false, List, [], length, set, length-set, refl, sym, ap, ◌∙◌, subst, inl, arith}
+use Rattle.std.proofs.Common.{◌≡◌, ℕ, ◌<◌, ◌==◌, Bool, true, false, List, [], length, set, length-set, refl, sym, ap, ◌∙◌, subst, inl, arith, eq-eqb}
+use Rattle.std.proofs.lemmas.Bool.{eqb-true}
+use Rattle.std.proofs.lemmas.List.{set-get_or}
 use Rattle.std.specs.Prelude.{Option, None}
 use mathlib.Core.Option.{some}
 use lib.ListN.{get_elem?}
-use Rattle.atomic_table.specs.Table.{Me, keeps}
+use Rattle.atomic_table.specs.Table.{Me, Act, Valid, stepped, carried_after, keeps}
+use prog.Atomic.{either}
 use Rattle.shfl_line.specs.declared.events.Mode.{Mode}
 use Rattle.shfl_line.specs.declared.events.Mode.TheVariants.{Write, Read}
 use Rattle.shfl_core.specs.declared.phase.PassState.{PassState}
 use Rattle.shfl_core.specs.declared.phase.Rules.{Rules}
-use Rattle.shfl_core.specs.declared.words.Access.TheVariants.{Store}
+use Rattle.shfl_line.specs.declared.words.TheConstants.{HELD}
+use Rattle.shfl_core.specs.declared.words.Access.TheVariants.{Load, Store}
 use Rattle.shfl_core.specs.declared.words.Word.TheVariants.{Lock, Attr}
 use Rattle.shfl_core.specs.Words.{site, told}
 use Rattle.shfl_core.specs.Plan.{plan, attempt_plan}
@@ -30,7 +34,7 @@ use Rattle.shfl_arena.specs.ArenaSteps.{with_attribute}
 use Rattle.shfl_arena.specs.SeatViews.{threads_of, step_decisions}
 use Rattle.shfl_arena.specs.ValueMoves.{writes, MayGive}
 use Rattle.shfl_arena.specs.ArenaTable.{told_arena, LawfulTable}
-use Rattle.shfl_arena.specs.Operations.{Permits, LockTerms, step_play, attempt_play, still_play}
+use Rattle.shfl_arena.specs.Operations.{Permits, LockTerms, LooksFirst, step_play, attempt_play, look_play, still_play}
 use Rattle.shfl_arena.proofs.StepLaws.{arena-step-law, step-form}
 use Rattle.shfl_arena.proofs.AttemptLaws.{arena-attempt-law}
 use Rattle.shfl_arena.proofs.ArenaStealing.{arena-disable-law}
@@ -88,6 +92,33 @@ module _ {V : Type 0} (shape : Shape) (rules : Rules) (n l : ℕ) (below : l < s
         attempt_event mode me.0.number (word_at shape words l (site (attempt_plan mode))),
         arena-attempt-law (A words) words threads ok l below me.0.number v mode at none free may,
         subst (λ u. Formed u (word_at shape words l u)) (sym (attempt-site mode)) ((ok.lawful l below).formed Lock),
+      )
+
+  -- the look before it, to write: it leaves all words as they are, and where it finds the lock taken it leads where that operation would
+  pub look-permits : me.0.seats ≡ 1 → v.at ≡ None → mode_held l v.holds ≡ None → MayUse rules.form Write
+      → Permits {S = Option V} {V = SeatView} (LawfulTable {V = V} shape rules n) slots id me (look_play {V = V} t me.0.number) shape l (Load Lock)
+  look-permits one none free may s ok long at bound = by (f == 0) refl
+    where
+      f : ℕ
+      f = word_at shape s.words l Lock
+
+      X : Type 0
+      X = (w : SeatView) × (a : Act (Option V)) × Valid s.homes me.1 a × LawfulTable {V = V} shape rules n (stepped s (place shape l Lock) f id me.1 w a) × LooksFirst {V = V} t me.0.number slots me f (w, carried_after me.1 a)
+
+      by : (b : Bool) → (f == 0) ≡ b → X
+      by true e = (
+        me.0,
+        keeps,
+        tt,
+        subst (λ (z : List ℕ × List SeatView). LawfulTable {V = V} shape rules n (record { words = z.0; homes = s.homes; views = z.1 })) (λ j. (sym (set-get_or s.words (place shape l Lock) 0) j, sym (set-again s.views id me.0 at) j)) ok,
+        record { free = λ _. refl; taken = λ d. absurd (d (eqb-true f 0 e)) },
+      )
+      by false e = let p = attempt-permits one Write none free may s ok long at bound in (
+        p.0,
+        p.1,
+        p.2,
+        subst (λ m. LawfulTable {V = V} shape rules n (stepped s (place shape l Lock) m id me.1 p.0 p.1)) (ap (λ b. either b HELD f) e) p.3,
+        record { free = λ z. absurd (let x : false ≡ true = sym e ∙ eq-eqb f 0 z in cc); taken = λ _. p.4 },
       )
 
   -- stealing is disabled

@@ -1,5 +1,5 @@
 -- What an operation on an arena's table asks, and what it tells.
-use Rattle.std.specs.Prelude.{◌≡◌, ℕ, ◌<◌, Bool, true, false, List, [], Option}
+use Rattle.std.specs.Prelude.{◌≡◌, ◌≢◌, ℕ, ◌<◌, Bool, true, false, List, [], Option}
 use mathlib.Core.Option.{none}
 use Rattle.atomic_table.specs.Table.{State as TableState, Me, Step, step, Allows}
 use Rattle.shfl_line.specs.declared.events.Mode.{Mode}
@@ -83,6 +83,14 @@ step_play t own choice st m n m' = Operates t own.reg.me (plan t.rules own.reg.m
 -- the one operation of an attempt of the pass k
 abbrev pub attempt_play : {V : Type 0} → LockTerms → ℕ → Mode → Step (Option V) → Me (Option V) SeatView → ℕ → Me (Option V) SeatView → Type 0
 attempt_play t k mode st m n m' = Operates t k (attempt_plan mode) (idle k) (attempted mode (blank k) n) [] st.slots m n m'
+
+-- the look of the pass k before that operation, to write, which found n: by a word that is taken the attempt is lost, and by a free one nothing goes on
+pub record LooksFirst {V : Type 0} (t : LockTerms) (k : ℕ) (slots : ℕ) (m : Me (Option V) SeatView) (n : ℕ) (m' : Me (Option V) SeatView) : Type 0 where
+  pub free : n ≡ 0 → m' ≡ m
+  pub taken : n ≢ 0 → Operates t k (attempt_plan Write) (idle k) (attempted Write (blank k) n) [] slots m n m'
+
+abbrev pub look_play : {V : Type 0} → LockTerms → ℕ → Step (Option V) → Me (Option V) SeatView → ℕ → Me (Option V) SeatView → Type 0
+look_play t k st m n m' = LooksFirst t k st.slots m n m'
 
 -- an operation by which no pass goes on
 abbrev pub still_play : {V : Type 0} → Step (Option V) → Me (Option V) SeatView → ℕ → Me (Option V) SeatView → Type 0

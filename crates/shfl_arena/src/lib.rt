@@ -2,6 +2,7 @@
 #![tactic(auto)]
 
 mod arena;
+mod attempting;
 mod closing;
 pub mod laws;
 mod leaving;

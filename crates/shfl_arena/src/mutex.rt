@@ -39,7 +39,7 @@ impl<V: Drop> ArenaSeat<V> {
         self.take_value(arena, lock)
     }
 
-    /// Locks a mutex that it hasn't locked, and hands out the value, by one operation; or nothing, and then it holds what it held before.
+    /// Locks a mutex that it hasn't locked and sees free, by one operation, and hands out the value; or nothing, and then it holds what it held before.
     pub fn try_lock_value(&mut self, arena: &Arena<V>, lock: u32) -> Option<V>
         requires arena { self.old.arena ≡ arena.now.id }
         requires rests { plan.moving self.old.own ≡ false }

@@ -1,27 +1,25 @@
 //! The atomic operations of a seat at a lock.
-ghost use Rattle.std.specs.Prelude.{◌≡◌, ◌+◌, ◌*◌, ◌<◌, ℕ, None, []};
+ghost use Rattle.std.specs.Prelude.{◌≡◌, ◌+◌, ◌*◌, ◌<◌, ℕ, None};
 ghost use Rattle.shfl_arena.specs.ArenaWords as words;
 ghost use Rattle.shfl_arena.specs.Operations.{LockTerms, Operates};
 ghost use Rattle.shfl_arena.specs.SeatViews.{step_decisions};
-ghost use Rattle.shfl_arena.specs.Threads.{MayStepAt, mode_held, pass_at};
+ghost use Rattle.shfl_arena.specs.Threads.{MayStepAt, pass_at};
 ghost use Rattle.shfl_arena.specs.ValueMoves.{MayGive, writes};
-ghost use Rattle.shfl_core.specs.Plan.{plan, attempt_plan};
-ghost use Rattle.shfl_core.specs.Take.{take, attempted};
-ghost use Rattle.shfl_core.specs.Waiting.{MayUse, blank, idle};
+ghost use Rattle.shfl_core.specs.Plan.{plan};
+ghost use Rattle.shfl_core.specs.Take.{take};
 ghost use Rattle.shfl_core.specs.Words.{site};
 ghost use Rattle.shfl_laws.specs.Seen.{SeenAs};
 ghost use Rattle.shfl_laws.specs.Stealing.{disable_plan};
 
-use crate::performing::{perform, perform_at};
-use crate::plays::{AttemptPlay, AttemptTerms, StepPlay, StepTerms, StillPlay};
+use crate::performing::perform;
+use crate::plays::{StepPlay, StepTerms, StillPlay};
 use crate::shape::Shape;
 use crate::view::{LawfulArena, Opening, SeatView};
 use atomic_table::{Seat, Shared};
-use shfl_core::asks::attempt_access;
 use shfl_core::plans::plan_row;
 use shfl_core::words::{Access, Word};
 use shfl_core::{PassState, Rules};
-use shfl_line::{CLOSED, Mode};
+use shfl_line::CLOSED;
 
 /// The step that a pass has planned at a lock. `choice` serves the proof alone.
 #[inline(always)]
@@ -64,58 +62,6 @@ pub fn operate<V, M: StepTerms>(
     let access = plan_row(rules, own.reg.me, own);
     perform::<Option<V>, SeatView, Opening, LawfulArena, StepPlay<M>>(
         shared, seat, shape, lock, access,
-    )
-}
-
-/// Looks at the word at this place, and forgets what it found. A processor begins an operation that may change a word only when all before
-/// it is over, and a load at once: so the word is on its way while what stands before is still under way, of several locks at a time.
-#[inline(always)]
-pub fn look_once<V>(shared: &Shared<Option<V>, SeatView, Opening, LawfulArena>, at: usize)
-    requires place { at < shared.now.table_id.words }
-{
-    let _ = shared.peek(at);
-}
-
-/// The one operation of an attempt of a seat that has no step to make, on the word at this place. `shape`, `rules` and `lock` serve the
-/// proof alone.
-#[inline(always)]
-pub fn attempt_once<V, M: AttemptTerms>(
-    shared: &Shared<Option<V>, SeatView, Opening, LawfulArena>,
-    seat: &mut Seat<Option<V>, SeatView>,
-    shape: Shape,
-    rules: Rules,
-    lock: u32,
-    at: usize,
-    mode: Mode,
-) -> u64
-    requires made { (M.goal ≡ record {
-      shape = shape;
-      rules = rules;
-      threads = shared.now.key.threads;
-      lock = lock;
-    }) × (M.number ≡ seat.old.me.0.number) × (M.wants ≡ mode) }
-    requires table { (seat.old.table_id ≡ shared.now.table_id) × (shared.now.key.rules ≡ rules)
-        × (shared.now.key.shape ≡ shape) }
-    requires lock { lock < shape.locks }
-    requires at { at ≡ words.lock_place shape.spread lock }
-    requires place { at < shared.now.table_id.words }
-    requires one { seat.old.me.0.seats ≡ 1 }
-    requires rests { seat.old.me.0.thread.at ≡ None }
-    requires free { mode_held lock seat.old.me.0.thread.holds ≡ None }
-    requires mode { MayUse rules.form mode }
-    ensures seat { (seat.new.table_id ≡ seat.old.table_id) × (seat.new.id ≡ seat.old.id) }
-    ensures play { Operates (record {
-      shape = shape;
-      rules = rules;
-      threads = shared.now.key.threads;
-      lock = lock;
-    }) seat.old.me.0.number (attempt_plan mode) (idle seat.old.me.0.number)
-        (attempted mode (blank seat.old.me.0.number) result) []
-        seat.old.table_id.slots seat.old.me result seat.new.me }
-{
-    let access = attempt_access(mode);
-    perform_at::<Option<V>, SeatView, Opening, LawfulArena, AttemptPlay<M>>(
-        shared, seat, at, access,
     )
 }
 

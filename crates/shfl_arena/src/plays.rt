@@ -85,6 +85,17 @@ impl<M: AttemptTerms, V> Play<Option<V>, SeatView> for AttemptPlay<M> {
     ghost then = { attempt_play M.goal M.number M.wants };
 }
 
+/// The look before that operation, of a writer.
+pub struct LookPlay<M> {
+    of: PhantomData<M>,
+}
+
+impl<M: AttemptTerms, V> Play<Option<V>, SeatView> for LookPlay<M> {
+    ghost use Rattle.shfl_arena.specs.Operations.{look_play};
+
+    ghost then = { look_play M.goal M.number };
+}
+
 /// An operation by which no pass goes on.
 pub struct StillPlay;
 

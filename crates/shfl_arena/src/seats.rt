@@ -11,8 +11,9 @@ ghost use Rattle.shfl_arena.specs.ValueMoves.{HasInFront};
 ghost use Rattle.shfl_arena.specs.Waits.{Frees};
 
 use crate::arena::Arena;
+use crate::attempting::attempt_once;
 use crate::leaving::leave_once;
-use crate::operation::{attempt_once, disable_once, look_once, operate, store_attribute};
+use crate::operation::{disable_once, operate, store_attribute};
 use crate::shape::{Shape, lock_place_by};
 use crate::view::SeatView;
 use atomic_table::Seat;
@@ -183,7 +184,7 @@ impl<V: Drop> ArenaSeat<V> {
         true
     }
 
-    // The first operation of an attempt, behind a look that changes nothing.
+    // The first step of an attempt.
     #[inline(always)]
     fn attempt_first(&mut self, arena: &Arena<V>, lock: u32, mode: Mode) -> u64
         requires arena { self.old.arena ≡ arena.now.id }
@@ -195,7 +196,6 @@ impl<V: Drop> ArenaSeat<V> {
     {
         let shared = &arena.table.shared;
         let at = lock_place_by(self.shape.spread, self.stride, lock);
-        look_once(shared, at);
         let found = attempt_once::<V, Brand>(
             shared,
             &mut self.seat,
@@ -213,8 +213,8 @@ impl<V: Drop> ArenaSeat<V> {
     }
 
     /// Takes a lock that it doesn't hold by one operation, or finds a word that refuses it: under `Write` any but 0, under `Read` one
-    /// that a writer has or whose stealing is disabled. A refused reader takes its count back, by a second operation. It waits for nobody.
-    /// Before the first operation it looks at the word, which changes nothing, and by which nothing is decided.
+    /// that a writer has or whose stealing is disabled. Under `Write` it looks at the word first, and where that refuses it makes no
+    /// operation. A refused reader takes its count back, by a second operation. It waits for nobody.
     #[inline(always)]
     pub fn attempt(&mut self, arena: &Arena<V>, lock: u32, mode: Mode) -> Result<(), u64>
         requires arena { self.old.arena ≡ arena.now.id }

@@ -24,7 +24,7 @@ pub fn lock_place(spread: bool, lock: u32) -> usize
 }
 
 /// How many words it is from one lock's lock word to the next one's.
-pub fn stride(spread: bool) -> u32
+pub(crate) fn stride(spread: bool) -> u32
     ensures { result ≡ words.lock_place spread 1 }
 {
     if spread { 16 } else { 2 }
@@ -32,7 +32,7 @@ pub fn stride(spread: bool) -> u32
 
 /// The place of a lock's lock word, by how far it is from one to the next. `spread` serves the proof alone.
 #[inline(always)]
-pub fn lock_place_by(spread: bool, stride: u32, lock: u32) -> usize
+pub(crate) fn lock_place_by(spread: bool, stride: u32, lock: u32) -> usize
     requires { stride ≡ words.lock_place spread 1 }
     ensures { result ≡ words.lock_place spread lock }
 {

@@ -156,7 +156,7 @@ impl<'a, T: Drop> MutexSeat<'a, T> {
         Ok(value)
     }
 
-    /// Locks a mutex by one operation, where it is free, and the value comes out likewise.
+    /// Locks a mutex that it sees free, by one operation, and the value comes out likewise.
     pub fn try_take(&mut self, lock: u32) -> Result<T, LockError>
         ensures held { IfOk result (λ _. self.new ≡ record self.old {
           held = lock ∷ self.old.held;
@@ -219,7 +219,7 @@ impl<'a, T: Drop> MutexSeat<'a, T> {
         Ok(MutexGuard::new(self, lock, value))
     }
 
-    /// Locks a mutex by one operation, where it is free.
+    /// Locks a mutex that it sees free, by one operation.
     pub fn try_lock(&mut self, lock: u32) -> Result<MutexGuard<'_, 'a, T>, LockError>
         ensures lock { IfOk result (λ g. g.lock ≡ lock) }
         ensures held { IfOk result (λ g. g.seat.now ≡ record self.old {

@@ -35,7 +35,7 @@ impl<'a, T: Drop> RwSeat<'a, T> {
         Ok(ReadGuard { value, hold })
     }
 
-    /// Locks a value to write it, by one operation, where it is free.
+    /// Locks a value to write it, by one operation, where it sees it free.
     pub fn try_write(&mut self, lock: u32) -> Result<WriteGuard<'_, 'a, T>, LockError>
         ensures lock { IfOk result (λ g. g.hold.lock ≡ lock) }
         ensures held { IfOk result (λ g. g.hold.seat.now ≡ record self.old {

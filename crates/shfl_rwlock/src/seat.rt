@@ -144,7 +144,7 @@ impl<'a, T: Drop> RwSeat<'a, T> {
         self.held.push_reserved((lock, mode));
     }
 
-    // Takes the lock in this mode by one operation, where its word allows it.
+    // Takes the lock in this mode by an attempt, where its word allows it.
     pub(crate) fn try_take(&mut self, lock: u32, mode: Mode) -> bool
         requires { MayLock self.old lock }
         ensures held { result ≡ true → self.new ≡ record self.old {

@@ -107,7 +107,7 @@ impl KeptSeat {
         mode_of(self.first, self.others.as_slice(), lock)
     }
 
-    // Attempts a lock beside others that the seat holds.
+    // Attempts a lock beside others that the seat holds. That is rare, and stays out of line so that the usual way is short.
     #[cold]
     #[inline(never)]
     fn attempt_beside(&mut self, arena: &Arena<()>, lock: u32, mode: Mode) -> Answer
@@ -134,7 +134,7 @@ impl KeptSeat {
         Answer::Done
     }
 
-    /// Takes a lock by one operation, or finds a word that refuses it, or holds it already, or finds no memory to note the hold. Who holds none
+    /// Takes a lock by an attempt, or finds a word that refuses it, or holds it already, or finds no memory to note the hold. Who holds none
     /// goes the shorter way.
     #[inline(always)]
     pub(crate) fn attempt(&mut self, arena: &Arena<()>, lock: u32, mode: Mode) -> Answer
@@ -195,7 +195,7 @@ impl KeptSeat {
         true
     }
 
-    // Gives back a lock that doesn't stand by itself.
+    // Gives back a lock that doesn't stand by itself. That is rare, and stays out of line so that the usual way is short.
     #[cold]
     #[inline(never)]
     fn release_other(&mut self, arena: &Arena<()>, lock: u32) -> Answer
@@ -217,7 +217,7 @@ impl KeptSeat {
         Answer::Done
     }
 
-    /// Gives back a lock in the mode in which it holds it, or doesn't hold it, and then nothing changes.
+    /// Gives back a lock in the mode in which it holds it. Where it doesn't hold it, nothing changes.
     #[inline(always)]
     pub(crate) fn release(&mut self, arena: &Arena<()>, lock: u32) -> Answer
         requires arena { self.old.arena ≡ arena.now.id }
