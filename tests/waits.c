@@ -1,96 +1,19 @@
 /* How threads wait at the lock for C, by construction: waits. The linker puts a spy before shfl_advance, sched_yield and syscall
- * (tests/c.sh), which sees each step's outcome and each giving away of the processor. */
-#define _GNU_SOURCE
-#include "shfl.h"
-#include <errno.h>
-#include <pthread.h>
-#include <stdarg.h>
-#include <stdatomic.h>
+ * (tests/c.sh and waits_spy.h), which sees each step's outcome and each giving away of the processor. */
+#include "waits_spy.h"
 #include <stdio.h>
 #include <stdlib.h>
 
-enum { PASSES = 7, THREADS = 6, STORM = 4 };
+enum { THREADS = 6, STORM = 4 };
 static const char *const forms[] = {"spin", "rw", "park", "rw park"};
 /* r2 = the asking pass's socket; r1 = the waiter's; yes where they are the same */
 static const char by_socket[] = "61120000000000006111040000000000b7000000010000001d21010000000000b7000000000000009500000000000000";
-
-static struct shfl_pass passes[PASSES];
-static _Atomic int vain[PASSES], head_vain, alone, given_away_holding, slept_through;
-/* When the thread by whose step a pass's turn came had called it as well. Until then it is NOT_YET with the time of that step, and NOT_YET
- * alone from when the pass begins to wait. */
-#define NOT_YET (UINT64_C(1) << 63)
-static _Atomic uint64_t called_at[PASSES];
-static __thread uint32_t calls; /* the pass whose turn came by this thread's step, plus one */
-static __thread uint64_t calling; /* what stands in called_at since then */
-static __thread uint8_t last = SHFL_WENT_ON;
-static __thread bool acquiring;
-static __thread uint32_t *own_place; /* where the pass that this thread drives sleeps until its turn */
-static __thread uint64_t overslept; /* when it would have ended to sleep there by itself, where nobody woke it before */
 static int failed;
 
 static void expect(bool right, const char *what, int form) {
     if (right) return;
     printf("waits, %s: %s\n", forms[form], what);
     failed = 1;
-}
-
-uint8_t __real_shfl_advance(struct shfl_pass *pass, bool choice);
-uint8_t __wrap_shfl_advance(struct shfl_pass *pass, bool choice) {
-    acquiring = true;
-    own_place = &shfl_place_of(pass->parking, pass->me)->asleep;
-    struct shfl_watch next = shfl_watch(pass);
-    if (next.kind == 3) {
-        calls = next.whom + 1;
-        called_at[next.whom] = calling = NOT_YET | shfl_clock();
-    }
-    last = __real_shfl_advance(pass, choice);
-    if (last == SHFL_IN_VAIN || last == SHFL_IN_VAIN_OPEN) {
-        vain[pass->me]++;
-        if (shfl_watch(pass).kind != 1) head_vain++;
-    }
-    if (last == SHFL_GROUPED_NOBODY) alone++;
-    /* it was called, and slept on */
-    if (overslept && last == SHFL_WENT_ON && called_at[pass->me] < overslept) slept_through++;
-    overslept = 0;
-    if (last == SHFL_RESTS) acquiring = false;
-    return last;
-}
-
-/* Takes the lock. Whoever's turn came by a step of this thread has been called when the lock is taken. However late a thread runs on a busy
- * machine, one that was called before its sleep was to end is woken, or the wakeup was lost. */
-static void take(struct shfl_pass *pass) {
-    called_at[pass->me] = NOT_YET;
-    calls = 0;
-    shfl_lock(pass);
-    if (calls) atomic_compare_exchange_strong(&called_at[calls - 1], &calling, shfl_clock());
-}
-
-/* Between a step that went on and the next one no loop gives the processor away: so not between having the lock word and entering. */
-static void gives_away(void) {
-    if (acquiring && last == SHFL_WENT_ON) given_away_holding++;
-}
-
-int __real_sched_yield(void);
-int __wrap_sched_yield(void) {
-    gives_away();
-    return __real_sched_yield();
-}
-
-long __real_syscall(long number, ...);
-long __wrap_syscall(long number, ...) {
-    va_list words;
-    va_start(words, number);
-    uint32_t *word = va_arg(words, uint32_t *);
-    int call = va_arg(words, int);
-    uint32_t value = va_arg(words, uint32_t);
-    struct timespec *most = va_arg(words, struct timespec *);
-    va_end(words);
-    if (call == FUTEX_WAIT_PRIVATE) gives_away();
-    uint64_t until = call == FUTEX_WAIT_PRIVATE ? shfl_clock() + (uint64_t)most->tv_nsec : 0;
-    long told = __real_syscall(number, word, call, value, most, NULL, 0);
-    bool over = call == FUTEX_WAIT_PRIVATE && word == own_place && told != 0 && errno == ETIMEDOUT;
-    overslept = over && most->tv_nsec >= 100000000 ? until : 0;
-    return told;
 }
 
 static void open_all_by(int form, uint16_t limit) {
@@ -102,7 +25,7 @@ static void open_all_by(int form, uint16_t limit) {
         vain[k] = 0;
         called_at[k] = NOT_YET;
     }
-    head_vain = alone = 0;
+    head_vain = alone = found_open = stays = stayed = 0;
 }
 
 static void open_all(int form) { open_all_by(form, 1024); }
@@ -115,9 +38,25 @@ static void advance(int pass, int steps) {
     for (; steps > 0; steps--) shfl_advance(&passes[pass], false);
 }
 
+/* A thousand writers, and readers where there are some, try to come past the head, one after the other. */
+static void nobody_passes(int form) {
+    int won = 0, shared = 0;
+    for (int k = 0; k < 1000; k++) {
+        if (shfl_trylock(&passes[2])) {
+            won++;
+            shfl_unlock(&passes[2]);
+        }
+        if (form % 2 == 1 && shfl_tryrdlock(&passes[3])) {
+            shared++;
+            shfl_unlock(&passes[3]);
+        }
+    }
+    expect(won == 0, "a trylock comes past the head", form);
+    expect(shared == 0, "a reader comes past the head", form);
+}
+
 /* A pass that leaves last enables stealing after the next head has disabled it. The head disables it again, and nobody comes past it. */
 static void head_is_first(int form) {
-    bool shares = form % 2 == 1;
     open_all(form);
     expect(shfl_trylock(&passes[2]), "a free lock is taken at once", form);
     expect(!shfl_trylock(&passes[2]) && shfl_held(&passes[2]), "a trylock of the holder is refused, and it still holds", form);
@@ -133,13 +72,46 @@ static void head_is_first(int form) {
     expect(shfl_disable_stealing(&passes[1]), "the head disables it", form);
     expect(!shfl_disable_stealing(&passes[2]), "another pass doesn't", form);
     shfl_unlock(&passes[0]);
-    for (int k = 0; k < 1000; k++) {
-        expect(!shfl_trylock(&passes[2]), "a trylock comes past the head", form);
-        if (shares) expect(!shfl_tryrdlock(&passes[3]), "a reader comes past the head", form);
-    }
+    nobody_passes(form);
     shfl_drive(&passes[1]);
     expect(shfl_held(&passes[1]), "the head holds", form);
     shfl_unlock(&passes[1]);
+    close_all();
+}
+
+static void *lock_once(void *arg) {
+    shfl_lock(arg);
+    shfl_unlock(arg);
+    return NULL;
+}
+
+static void await(_Atomic int *count, int least) {
+    while (*count < least) usleep(100);
+}
+
+/* The same by the loop: once it has found stealing enabled and looked again, the head stays where it is while others try. */
+static void head_disables(int form) {
+    pthread_t head;
+    open_all(form);
+    shfl_lock(&passes[2]);
+    shfl_acquire(&passes[0]);
+    while (shfl_advance(&passes[0], false) == SHFL_WENT_ON) {}
+    shfl_unlock(&passes[2]);
+    advance(0, 4);
+    int seen = head_vain;
+    shfl_queue_when(&passes[1], SHFL_QUEUE, 0);
+    if (pthread_create(&head, NULL, lock_once, &passes[1])) exit(2);
+    await(&head_vain, seen + 1);
+    advance(0, 1);
+    await(&found_open, 1);
+    await(&head_vain, head_vain + 1);
+    stays = 2;
+    await(&stayed, 1);
+    shfl_unlock(&passes[0]);
+    nobody_passes(form);
+    expect(found_open == 1, "the head finds stealing enabled again", form);
+    stays = 0;
+    pthread_join(head, NULL);
     close_all();
 }
 
@@ -275,6 +247,7 @@ static void storms(int form) {
 int main(void) {
     for (int form = SHFL_SPIN; form <= SHFL_RW_PARK; form++) {
         head_is_first(form);
+        head_disables(form);
         orders(form);
         rounds_end(form);
         storms(form);
