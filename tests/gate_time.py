@@ -1,9 +1,11 @@
 """What tests/gate-time.sh does: watches the processes of a run of rt, and adds up what each crate took."""
-import collections, os, re, shutil, subprocess, sys, tempfile, time
+import collections, glob, os, re, shutil, subprocess, sys, tempfile, time
 
 TOP = sys.argv[1]
 TICK = os.sysconf("SC_CLK_TCK")
 KINDS = ("proofs", "tests", "edits", "rest")
+# The wrong bodies that are told one by one, the dearest first.
+MOST_BODIES = 40
 
 
 def processes():
@@ -36,10 +38,40 @@ def what_for(pid):
     return "tests" if "--test" in words else "proofs", name
 
 
+def body_in(name, room):
+    """Which of the crate's wrong bodies stands in this copy of it, or None: rt checks a copy as it is too, before the wrong bodies and after them."""
+
+    def text_of(path):
+        with open(path, encoding="utf-8", errors="replace") as file:
+            return file.read()
+
+    for edit in sorted(glob.glob(f"{TOP}/crates/{name}/must-fail/*.edit")):
+        try:
+            words = [line.partition(": ")[::2] for line in text_of(edit).split("\n")]
+            file = next(text for word, text in words if word == "file")
+            text = text_of(f"{TOP}/crates/{name}/{file}")
+            olds, news = ([text for word, text in words if word.rstrip(":") == it] for it in ("old", "new"))
+            for old, new in zip(olds, news):
+                text = text.replace(old, new, 1)
+            if text == text_of(f"{room}/{file}"):
+                return os.path.basename(edit).removesuffix(".edit")
+        except (OSError, StopIteration):
+            # (the copy is gone, or no file is named)
+            pass
+    return None
+
+
+def body_of(pid, name):
+    try:
+        return body_in(name, os.readlink(f"/proc/{pid}/cwd")) or "(as it stands)"
+    except OSError:
+        return "(gone)"
+
+
 def watch(root):
-    """Seconds by kind and crate of all that runs below the process `root`, until it ends. What a prover starts counts as the prover's. A number
-    of a process is given again after some ten thousand, so a process is told by its start too."""
-    kinds, took, whole = {}, collections.Counter(), 0
+    """Seconds by kind and crate, and by crate and wrong body, of all that runs below the process `root`, until it ends. What a prover starts
+    counts as the prover's. A number of a process is given again after some ten thousand, so a process is told by its start too."""
+    kinds, bodies, took, whole = {}, {}, collections.Counter(), 0
     while True:
         now = processes()
         if root not in now:
@@ -56,6 +88,8 @@ def watch(root):
             pid = left.pop()
             who = pid, now[pid][1]
             kinds[who] = kinds.get(who) or what_for(pid)
+            if kinds[who] and kinds[who][0] == "edits" and who not in bodies:
+                bodies[who] = body_of(pid, kinds[who][1])
             if kinds[who]:
                 took[who] = max(took[who], ticks(pid))
             else:
@@ -65,7 +99,10 @@ def watch(root):
     for who, most in took.items():
         sums[kinds[who]] += most / TICK
     sums["rest", "the rest"] = whole / TICK - sum(sums.values())
-    return sums
+    each = collections.Counter()
+    for who, body in bodies.items():
+        each[kinds[who][1], body] += took[who] / TICK
+    return sums, each
 
 
 def table(sums):
@@ -93,7 +130,7 @@ def budget():
 def main():
     words, begun = sys.argv[2:], time.monotonic()
     if words and words[0].isdigit():
-        sums, status = watch(int(words[0])), 0
+        (sums, each), status = watch(int(words[0])), 0
     else:
         with tempfile.TemporaryDirectory(prefix="gate-time-") as room:
             os.makedirs(f"{room}/.git")
@@ -102,7 +139,7 @@ def main():
             shutil.copytree(f"{TOP}/crates", f"{room}/crates", ignore=shutil.ignore_patterns("out", "more-edits"))
             with open(f"{room}/.git/log", "wb") as out:
                 run = subprocess.Popen(gate(), cwd=room, stdin=subprocess.DEVNULL, stdout=out, stderr=subprocess.STDOUT)
-            sums = watch_child(run)
+            sums, each = watch_child(run)
             status = run.returncode
             if status:
                 with open(f"{room}/.git/log", encoding="utf-8", errors="replace") as file:
@@ -111,6 +148,9 @@ def main():
     print(text)
     hours, minutes = sum(sums.values()) / 3600, (time.monotonic() - begun) / 60
     print(f"\n{hours:.2f} hours of processor time in {minutes:.0f} minutes, on {len(os.sched_getaffinity(0))} processors")
+    print(f"\nThe {MOST_BODIES} dearest checks of wrong bodies, in seconds:")
+    for (name, body), seconds in each.most_common(MOST_BODIES):
+        print(f"{seconds:6.0f}  {name}/{body}")
     over = [(it, took[it], most) for it, most in budget().items() if took.get(it, 0) > 1.2 * most + 10]
     for name, seconds, most in over:
         print(f"tests/gate-time.sh: {name} took {seconds:.0f} s, and docs/CHANGING.md has {most}", file=sys.stderr)
@@ -123,9 +163,9 @@ def watch_child(run):
 
     done = threading.Thread(target=run.wait)
     done.start()
-    sums = watch(run.pid)
+    found = watch(run.pid)
     done.join()
-    return sums
+    return found
 
 
 main()

@@ -6,6 +6,8 @@ mod attrs;
 #[cfg(test)]
 mod cell;
 #[cfg(test)]
+mod checks;
+#[cfg(test)]
 mod copies;
 #[cfg(test)]
 mod register;

@@ -1,15 +1,15 @@
 //! In which order passes hold the lock that have queued one after the other.
-ghost use Rattle.std.specs.Prelude.{◌≡◌, ◌<◌, ◌≤◌};
+ghost use Rattle.std.specs.Prelude.{◌≡◌, ◌<◌, ◌≤◌, All};
 ghost use Rattle.shfl_table.specs.PassModel.{IsIdleAt};
 
-use shared_tests::{FAR, PLAIN, await_sign};
-use shfl_line::{Attr, BySocket, Chooser, Form, Mode, Never, NoMemory};
+use crate::checks::same;
+use shared_tests::{FAR, FORMS, PLAIN, await_sign};
+use shfl_line::{Attr, BySocket, Chooser, Form, Mode, Never};
 use shfl_table::{Pass, Queueing, SharedBoard, free, open, wait_by};
 use std::alloc::Global;
 use std::process::Abort;
 use std::sync::Wait;
 use std::sync::atomic::{AtomicU64, Ordering};
-use std::test::Fail;
 use std::thread;
 use std::thread::Threads;
 use syn_outer::{Gate, Point};
@@ -158,19 +158,47 @@ fn hold_by<R: Wait>(
     }
 }
 
-/// In which order seven passes hold the lock.
-fn order_of<R: Threads + Wait + Sync>(rt: &R, alloc: Global, way: Way) -> Result<[u64; 7], NoMemory>
+/// Each pass holds the lock once, in a thread of its own.
+fn hold_all<R: Threads + Wait + Sync>(
+    rt: &R,
+    board: &SharedBoard<()>,
+    passes: &mut [Pass<()>],
+    way: Way,
+    turns: &Turns,
+)
+    requires { All (IsIdleAt board.now.id) passes.old }
+{
+    let job = |place: usize, pass: &mut Pass<()>|
+        requires pass { IsIdleAt board.now.id pass.now }
+        ensures { IsIdleAt board.entry.now.id pass.exit.now }
+    { hold_by(rt, board, pass, way, place, turns) };
+    thread::for_each_mut(rt, passes, LAST + 1, &job);
+}
+
+/// Seven passes that wait in this way hold the lock in this order.
+fn hold_in_order<R: Abort + Threads + Wait + Sync>(rt: &R, alloc: Global, way: Way, due: &[u64; 7])
     requires limit { (0 < way.limit) × (way.limit ≤ 1024) }
 {
-    let (board, mut passes) = open::<()>(alloc, &ATTRS, way.form, way.limit, Vec::new(alloc))?;
+    let opened = open::<()>(alloc, &ATTRS, way.form, way.limit, Vec::new(alloc));
+    let Ok((board, mut passes)) = opened else {
+        panic!(rt; "memory")
+    };
     let turns = Turns::new();
-    let threads = passes.len();
-    let job = |place: usize, pass: &mut Pass<()>|
-        requires pass { IsIdleAt board.id pass.now }
-        ensures { IsIdleAt board.id pass.exit.now }
-    { hold_by(rt, &board, pass, way, place, &turns) };
-    thread::for_each_mut(rt, &mut passes, threads, &job);
-    Ok(turns.order())
+    hold_all(rt, &board, &mut passes, way, &turns);
+    same(rt, &turns.order(), due);
+}
+
+impl Way {
+    fn new(form: Form, queueing: Queueing, limit: u16, by_socket: bool) -> Way
+        ensures { result.limit ≡ limit }
+    {
+        Way {
+            form,
+            limit,
+            queueing,
+            by_socket,
+        }
+    }
 }
 
 /// First in, first out without a policy, and under one with batches of one. Else the second pass moves the fourth, which is on its
@@ -180,31 +208,19 @@ fn check_orders<R: Abort + Threads + Wait + Sync>(
     alloc: Global,
     form: Form,
     queueing: Queueing,
-) -> Result<(), Fail> {
-    for (limit, by_socket) in [(1024, false), (1, true), (1024, true)] {
-        let way = Way {
-            form,
-            limit,
-            queueing,
-            by_socket,
-        };
-        let order = order_of(rt, alloc, way)?;
-        let moved = by_socket && limit > 1;
-        let due = if moved {
-            [6, 0, 1, 3, 2, 4, 5]
-        } else {
-            [6, 0, 1, 2, 3, 4, 5]
-        };
-        assert_eq!(rt; order, due);
-    }
-    Ok(())
+) {
+    let alone = Way::new(form, queueing, 1024, false);
+    let by_one = Way::new(form, queueing, 1, true);
+    let by_socket = Way::new(form, queueing, 1024, true);
+    hold_in_order(rt, alloc, alone, &[6, 0, 1, 2, 3, 4, 5]);
+    hold_in_order(rt, alloc, by_one, &[6, 0, 1, 2, 3, 4, 5]);
+    hold_in_order(rt, alloc, by_socket, &[6, 0, 1, 3, 2, 4, 5]);
 }
 
 #[test]
-fn those_who_queue_hold_in_the_order_that_the_policy_makes(rt: HostRuntime) -> Result<(), Fail> {
-    for form in [Form::Spin, Form::Rw, Form::Park, Form::RwPark] {
-        check_orders(&rt, rt.alloc(), form, Queueing::AtOnce)?;
-        check_orders(&rt, rt.alloc(), form, Queueing::ByPolicy)?;
+fn those_who_queue_hold_in_the_order_that_the_policy_makes(rt: HostRuntime) {
+    for form in FORMS {
+        check_orders(&rt, rt.alloc(), form, Queueing::AtOnce);
+        check_orders(&rt, rt.alloc(), form, Queueing::ByPolicy);
     }
-    Ok(())
 }

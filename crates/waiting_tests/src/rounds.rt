@@ -1,15 +1,16 @@
 //! A shuffler that finds nobody to move pauses longer each time before it looks again.
-ghost use Rattle.std.specs.Prelude.{◌≡◌, true};
+ghost use Rattle.std.specs.Prelude.{◌≡◌, All, true};
 ghost use Rattle.shfl_core.specs.Waiting.{MayUse};
 ghost use Rattle.shfl_table.specs.PassModel.{IsIdleAt};
 
-use shared_tests::{PLAIN, await_sign, nap};
-use shfl_line::{Attr, Chooser, Form, Mode, NoMemory};
+use crate::checks::holds;
+use shared_tests::{FORMS, PLAIN, await_sign, nap};
+use shfl_line::{Attr, Chooser, Form, Mode};
 use shfl_table::{Pass, Queueing, SharedBoard, free, open, wait_by};
 use std::alloc::Global;
+use std::process::Abort;
 use std::sync::Wait;
 use std::sync::atomic::{AtomicU64, Ordering};
-use std::test::Fail;
 use std::thread;
 use std::thread::Threads;
 use syn_outer::OpenGate;
@@ -102,31 +103,47 @@ fn hold<R: Wait>(rt: &R, board: &SharedBoard<()>, pass: &mut Pass<()>, signs: &S
     free(board, pass);
 }
 
-/// How many rounds four threads begin while one of them holds the lock.
-fn rounds_of<R: Threads + Wait + Sync>(rt: &R, alloc: Global, form: Form) -> Result<u64, NoMemory> {
-    let attrs = [PLAIN, PLAIN, PLAIN, PLAIN];
-    let (board, mut passes) = open::<()>(alloc, &attrs, form, 1024, Vec::new(alloc))?;
-    let signs = Signs {
+/// What the threads of a test tell each other, before they begin.
+fn no_signs() -> Signs {
+    Signs {
         held: AtomicU64::new(0),
         arrived: AtomicU64::new(0),
         rounds: AtomicU64::new(0),
         counted: AtomicU64::new(0),
-    };
-    let threads = passes.len();
+    }
+}
+
+/// Each pass holds the lock once, in a thread of its own.
+fn hold_all<R: Threads + Wait + Sync>(
+    rt: &R,
+    board: &SharedBoard<()>,
+    passes: &mut [Pass<()>],
+    signs: &Signs,
+)
+    requires { All (IsIdleAt board.now.id) passes.old }
+{
     let job = |_i: usize, pass: &mut Pass<()>|
-        requires pass { IsIdleAt board.id pass.now }
-        ensures { IsIdleAt board.id pass.exit.now }
-    { hold(rt, &board, pass, &signs) };
-    thread::for_each_mut(rt, &mut passes, threads, &job);
+        requires pass { IsIdleAt board.now.id pass.now }
+        ensures { IsIdleAt board.entry.now.id pass.exit.now }
+    { hold(rt, board, pass, signs) };
+    thread::for_each_mut(rt, passes, 4, &job);
+}
+
+/// Four threads begin few rounds while one of them holds the lock.
+fn begin_few_rounds<R: Abort + Threads + Wait + Sync>(rt: &R, alloc: Global, form: Form) {
+    let attrs = [PLAIN, PLAIN, PLAIN, PLAIN];
+    let Ok((board, mut passes)) = open::<()>(alloc, &attrs, form, 1024, Vec::new(alloc)) else {
+        panic!(rt; "memory")
+    };
+    let signs = no_signs();
+    hold_all(rt, &board, &mut passes, &signs);
     let counted = &signs.counted;
-    Ok(counted.load(Ordering::SeqCst))
+    holds(rt, counted.load(Ordering::SeqCst) <= MOST_ROUNDS);
 }
 
 #[test]
-fn rounds_are_few_while_nothing_changes(rt: HostRuntime) -> Result<(), Fail> {
-    for form in [Form::Spin, Form::Rw, Form::Park, Form::RwPark] {
-        let rounds = rounds_of(&rt, rt.alloc(), form)?;
-        assert!(rt; rounds <= MOST_ROUNDS);
+fn rounds_are_few_while_nothing_changes(rt: HostRuntime) {
+    for form in FORMS {
+        begin_few_rounds(&rt, rt.alloc(), form);
     }
-    Ok(())
 }

@@ -1,18 +1,22 @@
 //! Places to sleep, the fronts of queues, and the pauses, on one thread.
-use shfl_line::NoMemory;
+use crate::checks::{holds, same};
 use std::alloc::Global;
 use std::process::Abort;
-use std::test::Fail;
 use waiter_sleep::{Pause, Pauses, QueueFront, QueueFronts, Sleepers, Stand, Waiter, spins_after};
 
+// Places for so many waiters.
+fn places(rt: &impl Abort, alloc: Global, count: u32) -> Sleepers {
+    Sleepers::with_count(alloc, count).ok().expect(rt, "memory")
+}
+
 // Four waiters, each with the next one behind it.
-fn in_a_row(alloc: Global) -> Result<Sleepers, NoMemory> {
-    let sleepers = Sleepers::with_count(alloc, 4)?;
+fn in_a_row(rt: &impl Abort, alloc: Global) -> Sleepers {
+    let sleepers = places(rt, alloc, 4);
     for number in 0..3 {
         sleepers.stands_before(number, number + 1);
     }
     sleepers.stands_last(3);
-    Ok(sleepers)
+    sleepers
 }
 
 // The waiters of one queue, and its front.
@@ -23,6 +27,13 @@ struct Queue {
 }
 
 impl Queue {
+    fn new(rt: &impl Abort, alloc: Global) -> Queue {
+        Queue {
+            sleepers: in_a_row(rt, alloc),
+            front: QueueFront::new(),
+        }
+    }
+
     fn waiter(&self, number: u32) -> Waiter<'_> {
         Waiter {
             number,
@@ -40,125 +51,139 @@ fn announces(sleepers: &Sleepers, number: u32) -> bool {
     }
 }
 
+// The waiter announces that it sleeps.
+fn sleeps(rt: &impl Abort, sleepers: &Sleepers, number: u32) {
+    holds(rt, announces(sleepers, number));
+}
+
+// The waiter was woken before it announced that it sleeps.
+fn was_woken(rt: &impl Abort, sleepers: &Sleepers, number: u32) {
+    holds(rt, !announces(sleepers, number));
+}
+
 #[test]
-fn a_wake_ends_the_next_sleep(rt: HostRuntime) -> Result<(), Fail> {
-    let sleepers = in_a_row(rt.alloc())?;
+fn a_wake_ends_the_next_sleep(rt: HostRuntime) {
+    let sleepers = in_a_row(&rt, rt.alloc());
     sleepers.wake(2);
     sleepers.sleep(&rt, 2);
-    assert!(rt; announces(&sleepers, 2));
+    sleeps(&rt, &sleepers, 2);
     sleepers.wake(9);
     sleepers.sleep(&rt, 9);
-    Ok(())
 }
 
 #[test]
-fn only_who_announced_it_is_roused(rt: HostRuntime) -> Result<(), Fail> {
-    let sleepers = in_a_row(rt.alloc())?;
-    assert!(rt; !sleepers.rouse(1));
-    assert!(rt; announces(&sleepers, 1));
-    assert!(rt; sleepers.rouse(1));
-    assert!(rt; !sleepers.rouse(1));
-    assert!(rt; !announces(&sleepers, 1));
-    assert!(rt; announces(&sleepers, 1));
-    Ok(())
+fn only_who_announced_it_is_roused(rt: HostRuntime) {
+    let sleepers = in_a_row(&rt, rt.alloc());
+    holds(&rt, !sleepers.rouse(1));
+    sleeps(&rt, &sleepers, 1);
+    holds(&rt, sleepers.rouse(1));
+    holds(&rt, !sleepers.rouse(1));
+    was_woken(&rt, &sleepers, 1);
+    sleeps(&rt, &sleepers, 1);
 }
 
 #[test]
-fn a_sleep_with_an_end_tells_whether_a_wake_came(rt: HostRuntime) -> Result<(), Fail> {
-    let sleepers = in_a_row(rt.alloc())?;
-    let Some(sleeper) = sleepers.place(0) else {
-        panic!(rt; "a place")
-    };
-    assert!(rt; sleeper.announce());
-    assert!(rt; !sleeper.sleep_at_most(&rt, 10));
-    assert!(rt; sleeper.announce());
+fn a_sleep_with_an_end_tells_whether_a_wake_came(rt: HostRuntime) {
+    let sleepers = in_a_row(&rt, rt.alloc());
+    let sleeper = sleepers.place(0).expect(&rt, "a place");
+    holds(&rt, sleeper.announce());
+    holds(&rt, !sleeper.sleep_at_most(&rt, 10));
+    holds(&rt, sleeper.announce());
     sleeper.wake();
-    assert!(rt; sleeper.sleep_at_most(&rt, 10_000_000));
-    assert!(rt; sleeper.announce());
+    holds(&rt, sleeper.sleep_at_most(&rt, 10_000_000));
+    holds(&rt, sleeper.announce());
     sleeper.wake();
     sleeper.rise();
-    assert!(rt; sleeper.announce());
-    Ok(())
+    holds(&rt, sleeper.announce());
 }
 
 // All four sleep but the one of this number, which has just been made the head.
 fn all_but_the_head_sleep(rt: &impl Abort, sleepers: &Sleepers, front: &QueueFront) {
     for number in 1..4 {
-        let slept = announces(sleepers, number);
-        assert!(rt; slept);
+        sleeps(rt, sleepers, number);
     }
     sleepers.rouse_heir(front, 0);
-    assert!(rt; front.is_noted());
+    holds(rt, front.is_noted());
 }
 
 #[test]
-fn who_frees_the_lock_wakes_the_next_three(rt: HostRuntime) -> Result<(), Fail> {
-    let sleepers = in_a_row(rt.alloc())?;
+fn who_frees_the_lock_wakes_the_next_three(rt: HostRuntime) {
+    let sleepers = in_a_row(&rt, rt.alloc());
     let front = QueueFront::new();
     all_but_the_head_sleep(&rt, &sleepers, &front);
     sleepers.after_free(&front);
     for number in 1..4 {
-        assert!(rt; !announces(&sleepers, number));
+        was_woken(&rt, &sleepers, number);
     }
-    assert!(rt; !front.is_noted());
-    Ok(())
+    holds(&rt, !front.is_noted());
 }
 
 #[test]
-fn an_heir_that_slept_is_woken_with_the_next_one(rt: HostRuntime) -> Result<(), Fail> {
-    let sleepers = in_a_row(rt.alloc())?;
+fn an_heir_that_slept_is_woken_with_the_next_one(rt: HostRuntime) {
+    let sleepers = in_a_row(&rt, rt.alloc());
     let front = QueueFront::new();
     for number in 0..3 {
-        assert!(rt; announces(&sleepers, number));
+        sleeps(&rt, &sleepers, number);
     }
     sleepers.rouse_heir(&front, 0);
-    assert!(rt; !announces(&sleepers, 0));
-    assert!(rt; !announces(&sleepers, 1));
-    assert!(rt; sleepers.rouse(2));
-    Ok(())
+    was_woken(&rt, &sleepers, 0);
+    was_woken(&rt, &sleepers, 1);
+    holds(&rt, sleepers.rouse(2));
+}
+
+// Who is noted as the head that sleeps.
+fn is_asleep(rt: &impl Abort, front: &QueueFront, due: Option<u32>) {
+    same(rt, &front.asleep(), &due);
 }
 
 #[test]
-fn who_frees_the_lock_wakes_the_head_that_sleeps(rt: HostRuntime) -> Result<(), Fail> {
-    let sleepers = in_a_row(rt.alloc())?;
+fn who_frees_the_lock_wakes_the_head_that_sleeps(rt: HostRuntime) {
+    let sleepers = in_a_row(&rt, rt.alloc());
     let front = QueueFront::new();
     front.announce(3);
-    assert_eq!(rt; front.asleep(), Some(3));
-    assert!(rt; announces(&sleepers, 3));
+    is_asleep(&rt, &front, Some(3));
+    sleeps(&rt, &sleepers, 3);
     sleepers.after_free(&front);
-    assert!(rt; !announces(&sleepers, 3));
+    was_woken(&rt, &sleepers, 3);
     front.rise(2);
-    assert_eq!(rt; front.asleep(), Some(3));
+    is_asleep(&rt, &front, Some(3));
     front.rise(3);
-    assert_eq!(rt; front.asleep(), None);
-    assert!(rt; !front.is_noted());
-    Ok(())
+    is_asleep(&rt, &front, None);
+    holds(&rt, !front.is_noted());
 }
 
 #[test]
-fn a_front_notes_the_head_and_the_heir_apart(rt: HostRuntime) -> Result<(), Fail> {
+fn a_front_notes_the_head_and_the_heir_apart(rt: HostRuntime) {
     let front = QueueFront::new();
     front.leads_to(65_534);
     front.announce(7);
-    assert_eq!(rt; front.asleep(), Some(7));
-    assert_eq!(rt; front.take_successor(), Some(65_534));
-    assert_eq!(rt; front.take_successor(), None);
-    assert_eq!(rt; front.asleep(), Some(7));
-    Ok(())
+    is_asleep(&rt, &front, Some(7));
+    same(&rt, &front.take_successor(), &Some(65_534));
+    same(&rt, &front.take_successor(), &None);
+    is_asleep(&rt, &front, Some(7));
+}
+
+// The fronts of so many locks.
+fn fronts(rt: &impl Abort, alloc: Global, locks: u32) -> QueueFronts {
+    QueueFronts::with_count(alloc, locks)
+        .ok()
+        .expect(rt, "memory")
 }
 
 #[test]
-fn far_locks_share_a_front(rt: HostRuntime) -> Result<(), Fail> {
-    let few = QueueFronts::with_count(rt.alloc(), 2)?;
-    assert!(rt; few.of(1).is_some());
-    assert!(rt; few.of(2).is_none());
-    let many = QueueFronts::with_count(rt.alloc(), 1_000_000)?;
-    let (Some(near), Some(far)) = (many.of(5), many.of(5 + 64 * 1000)) else {
-        panic!(rt; "each lock has a front")
-    };
+fn two_locks_have_two_fronts(rt: HostRuntime) {
+    let few = fronts(&rt, rt.alloc(), 2);
+    holds(&rt, few.of(1).is_some());
+    holds(&rt, few.of(2).is_none());
+}
+
+#[test]
+fn far_locks_share_a_front(rt: HostRuntime) {
+    let many = fronts(&rt, rt.alloc(), 1_000_000);
+    let near = many.of(5).expect(&rt, "a front");
+    let far = many.of(5 + 64 * 1000).expect(&rt, "a front");
     near.announce(1);
-    assert_eq!(rt; far.asleep(), Some(1));
-    Ok(())
+    is_asleep(&rt, far, Some(1));
 }
 
 // The first pause after looks in vain that is none, and how many looks came before.
@@ -173,47 +198,39 @@ fn first_pause(pauses: &mut Pauses, waiter: &Waiter<'_>, stand: Stand) -> (u32, 
 }
 
 #[test]
-fn a_waiter_announces_its_sleep_and_sleeps_longer_each_time(rt: HostRuntime) -> Result<(), Fail> {
-    let queue = Queue {
-        sleepers: in_a_row(rt.alloc())?,
-        front: QueueFront::new(),
-    };
+fn a_waiter_announces_its_sleep_and_sleeps_longer_each_time(rt: HostRuntime) {
+    let queue = Queue::new(&rt, rt.alloc());
     let waiter = queue.waiter(1);
     let mut pauses = Pauses::begin(&waiter);
-    assert_eq!(rt; queue.front.waiting(), 1);
+    same(&rt, &queue.front.waiting(), &1);
     let first = first_pause(&mut pauses, &waiter, Stand::Queued);
-    assert_eq!(rt; first, (101, Pause::Sleep { micros: 50 }));
+    same(&rt, &first, &(101, Pause::Sleep { micros: 50 }));
     pauses.take(&rt, &waiter, first.1);
     let second = pauses.after_look(&waiter, Stand::Queued);
-    assert_eq!(rt; second, Pause::Sleep { micros: 100 });
+    same(&rt, &second, &Pause::Sleep { micros: 100 });
     pauses.end(&waiter);
-    assert_eq!(rt; queue.front.waiting(), 0);
-    assert!(rt; !queue.sleepers.rouse(1));
-    Ok(())
+    same(&rt, &queue.front.waiting(), &0);
+    holds(&rt, !queue.sleepers.rouse(1));
 }
 
 #[test]
-fn the_head_that_sleeps_is_noted(rt: HostRuntime) -> Result<(), Fail> {
-    let queue = Queue {
-        sleepers: in_a_row(rt.alloc())?,
-        front: QueueFront::new(),
-    };
+fn the_head_that_sleeps_is_noted(rt: HostRuntime) {
+    let queue = Queue::new(&rt, rt.alloc());
     let waiter = queue.waiter(2);
     let mut pauses = Pauses::begin(&waiter);
     let first = first_pause(&mut pauses, &waiter, Stand::Head);
-    assert_eq!(rt; first, (1001, Pause::Sleep { micros: 50 }));
-    assert_eq!(rt; queue.front.asleep(), Some(2));
+    same(&rt, &first, &(1001, Pause::Sleep { micros: 50 }));
+    is_asleep(&rt, &queue.front, Some(2));
     queue.sleepers.after_free(&queue.front);
     pauses.take(&rt, &waiter, first.1);
-    assert_eq!(rt; pauses.after_look(&waiter, Stand::Head), Pause::Look);
+    same(&rt, &pauses.after_look(&waiter, Stand::Head), &Pause::Look);
     pauses.end(&waiter);
-    assert_eq!(rt; queue.front.asleep(), None);
-    Ok(())
+    is_asleep(&rt, &queue.front, None);
 }
 
 #[test]
-fn a_waiter_without_a_place_yields(rt: HostRuntime) -> Result<(), Fail> {
-    let sleepers = Sleepers::with_count(rt.alloc(), 0)?;
+fn a_waiter_without_a_place_yields(rt: HostRuntime) {
+    let sleepers = places(&rt, rt.alloc(), 0);
     let waiter = Waiter {
         number: 1,
         sleepers: &sleepers,
@@ -221,19 +238,17 @@ fn a_waiter_without_a_place_yields(rt: HostRuntime) -> Result<(), Fail> {
     };
     let mut pauses = Pauses::begin(&waiter);
     let queued = first_pause(&mut pauses, &waiter, Stand::Queued);
-    assert_eq!(rt; queued, (100, Pause::Yield));
+    same(&rt, &queued, &(100, Pause::Yield));
     pauses.advance();
     let leaving = first_pause(&mut pauses, &waiter, Stand::Leaving);
-    assert_eq!(rt; leaving, (1000, Pause::Yield));
+    same(&rt, &leaving, &(1000, Pause::Yield));
     pauses.end(&waiter);
-    Ok(())
 }
 
 #[test]
-fn the_first_ten_attempts_are_followed_by_spinning(rt: HostRuntime) -> Result<(), Fail> {
-    assert!(rt; spins_after(0));
-    assert!(rt; spins_after(9));
-    assert!(rt; !spins_after(10));
-    assert!(rt; !spins_after(u32::MAX));
-    Ok(())
+fn the_first_ten_attempts_are_followed_by_spinning(rt: HostRuntime) {
+    holds(&rt, spins_after(0));
+    holds(&rt, spins_after(9));
+    holds(&rt, !spins_after(10));
+    holds(&rt, !spins_after(u32::MAX));
 }

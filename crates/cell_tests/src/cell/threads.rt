@@ -1,15 +1,16 @@
 //! Many passes in threads, in both forms and under each policy.
-ghost use Rattle.std.specs.Prelude.{◌≡◌, ◌≤◌, ◌<◌, All, length, IfOk, vec_len};
+ghost use Rattle.std.specs.Prelude.{◌≡◌, ◌≤◌, ◌<◌, All, length, vec_len};
 ghost use Rattle.shfl_cell.specs.Cells.{number, AreInOrder};
 
 use crate::attrs::of_four_sockets;
+use crate::checks::{holds, same};
 use crate::register::{Mix, Register, call_of, is_whole};
 use hist_log::Entry;
 use shfl_cell::{CellPass, ShflCell};
-use shfl_line::{Always, BySocket, Chooser, Form, Never, NoMemory};
+use shfl_line::{Always, BySocket, Chooser, Form, Never};
 use std::alloc::Global;
+use std::process::Abort;
 use std::sync::Wait;
-use std::test::Fail;
 use std::thread;
 use std::thread::Threads;
 use syn_outer::{Gate, OpenGate};
@@ -81,44 +82,50 @@ fn close_in_order(
     cell.close(passes)
 }
 
-// Whether the history of sixteen passes of four sockets that call in threads is legal and has all calls in order.
-fn runs<C: Chooser + Copy + Sync, R: Threads + Wait + Sync>(
+// The history is legal and has all calls in order, and the register has the last one.
+fn is_one_history(rt: &impl Abort, register: &Register, entries: &[Entry<Register>]) {
+    let last = entries.last().map_or(0, |entry| entry.call);
+    same(rt, &register.value, &last);
+    holds(rt, is_whole(entries, Mix::Writes, 16, CALLS));
+}
+
+// The history of sixteen passes of four sockets that call in threads is such a one.
+fn runs<C: Chooser + Copy + Sync, R: Abort + Threads + Wait + Sync>(
     rt: &R,
     alloc: Global,
     form: Form,
     chooser: C,
-) -> Result<bool, NoMemory> {
-    let calls = [CALLS; 16];
+) {
     let register = Register {
         value: 0,
         spare: 16 * CALLS,
     };
-    let (cell, mut passes) = ShflCell::<Register>::open(
+    let attrs = of_four_sockets();
+    let Ok((cell, mut passes)) = ShflCell::<Register>::open(
         alloc,
         register,
-        &of_four_sockets(),
+        &attrs,
         form,
         1024,
-        &calls,
-    )?;
+        &[CALLS; 16],
+    ) else {
+        panic!(rt; "memory")
+    };
     work_all(rt, &cell, &chooser, CALLS, &mut passes);
     let (register, entries) = close_in_order(cell, passes);
-    let last = entries.last().map_or(0, |entry| entry.call);
-    Ok(register.value == last && is_whole(&entries, Mix::Writes, 16, CALLS))
+    is_one_history(rt, &register, &entries);
 }
 
 #[test]
-fn spinning_passes_have_one_legal_history(rt: HostRuntime) -> Result<(), Fail> {
-    assert!(rt; runs(&rt, rt.alloc(), Form::Spin, Never)?);
-    assert!(rt; runs(&rt, rt.alloc(), Form::Spin, Always)?);
-    assert!(rt; runs(&rt, rt.alloc(), Form::Spin, BySocket)?);
-    Ok(())
+fn spinning_passes_have_one_legal_history(rt: HostRuntime) {
+    runs(&rt, rt.alloc(), Form::Spin, Never);
+    runs(&rt, rt.alloc(), Form::Spin, Always);
+    runs(&rt, rt.alloc(), Form::Spin, BySocket);
 }
 
 #[test]
-fn parking_passes_have_one_legal_history(rt: HostRuntime) -> Result<(), Fail> {
-    assert!(rt; runs(&rt, rt.alloc(), Form::Park, Never)?);
-    assert!(rt; runs(&rt, rt.alloc(), Form::Park, Always)?);
-    assert!(rt; runs(&rt, rt.alloc(), Form::Park, BySocket)?);
-    Ok(())
+fn parking_passes_have_one_legal_history(rt: HostRuntime) {
+    runs(&rt, rt.alloc(), Form::Park, Never);
+    runs(&rt, rt.alloc(), Form::Park, Always);
+    runs(&rt, rt.alloc(), Form::Park, BySocket);
 }

@@ -2,14 +2,15 @@
 ghost use Rattle.std.specs.Prelude.{◌≡◌, ◌<◌, All, [], IfOk};
 
 use super::marks::TwoMarks;
+use crate::checks::same;
 use crate::register::Register;
 use shared_tests::{PLAIN, Recorder};
 use shfl_cell::{CellPass, ShflCell};
 use shfl_line::{Form, Never, NoMemory, Told};
 use std::alloc::Global;
+use std::process::Abort;
 use std::sync::Wait;
 use std::sync::atomic::{AtomicU64, Ordering};
-use std::test::Fail;
 use std::thread;
 use std::thread::Threads;
 
@@ -128,25 +129,40 @@ fn two_passes(alloc: Global) -> Result<(ShflCell<Register>, Vec<CellPass<Registe
     ShflCell::<Register>::open(alloc, register, &[PLAIN, PLAIN], Form::Spin, 1024, &[2, 2])
 }
 
-#[test]
-fn a_try_beside_a_holder_is_told_the_lock_word(rt: HostRuntime) -> Result<(), Fail> {
-    let (cell, mut passes) = two_passes(rt.alloc())?;
-    let (gate, shown) = (TwoMarks::new(1), Shown::new());
-    act_all(&rt, rt.alloc(), &cell, &gate, &shown, false, &mut passes);
-    assert_eq!(rt; gate.late.count(), 0);
-    assert_eq!(rt; shown.word.load(Ordering::SeqCst), 1);
-    assert_eq!(rt; shown.place.load(Ordering::SeqCst), 1);
-    assert_eq!(rt; shown.reply.load(Ordering::SeqCst), 7);
-    Ok(())
+// The two act on a new cell: the second waits behind the first, or tries beside it. Nobody gives up.
+fn show<R: Abort + Threads + Wait + Sync>(
+    rt: &R,
+    alloc: Global,
+    times: u64,
+    shown: &Shown,
+    waits: bool,
+) {
+    let Ok((cell, mut passes)) = two_passes(alloc) else {
+        panic!(rt; "memory")
+    };
+    let gate = TwoMarks::new(times);
+    act_all(rt, alloc, &cell, &gate, shown, waits, &mut passes);
+    same(rt, &gate.late.count(), &0);
+}
+
+// So much was shown.
+fn is_shown(rt: &impl Abort, shown: &AtomicU64, due: u64) {
+    same(rt, &shown.load(Ordering::SeqCst), &due);
 }
 
 #[test]
-fn the_policy_of_a_waiter_is_asked_once_whether_to_skip(rt: HostRuntime) -> Result<(), Fail> {
-    let (cell, mut passes) = two_passes(rt.alloc())?;
-    let (gate, shown) = (TwoMarks::new(2), Shown::new());
-    act_all(&rt, rt.alloc(), &cell, &gate, &shown, true, &mut passes);
-    assert_eq!(rt; gate.late.count(), 0);
-    assert_eq!(rt; shown.heard.load(Ordering::SeqCst), 3);
-    assert_eq!(rt; shown.batch.load(Ordering::SeqCst), 1);
-    Ok(())
+fn a_try_beside_a_holder_is_told_the_lock_word(rt: HostRuntime) {
+    let shown = Shown::new();
+    show(&rt, rt.alloc(), 1, &shown, false);
+    is_shown(&rt, &shown.word, 1);
+    is_shown(&rt, &shown.place, 1);
+    is_shown(&rt, &shown.reply, 7);
+}
+
+#[test]
+fn the_policy_of_a_waiter_is_asked_once_whether_to_skip(rt: HostRuntime) {
+    let shown = Shown::new();
+    show(&rt, rt.alloc(), 2, &shown, true);
+    is_shown(&rt, &shown.heard, 3);
+    is_shown(&rt, &shown.batch, 1);
 }

@@ -1,14 +1,16 @@
 //! A writer that holds the lock while another pass tries.
 ghost use Rattle.std.specs.Prelude.{◌≡◌, ◌<◌, All};
 
-use super::opening::open;
+use super::opening::open_two;
+use crate::checks::same;
 use crate::register::{LOOK, Register};
 use rw_cell::{RwCell, RwPass};
-use shared_tests::{Mark, PLAIN};
+use shared_tests::Mark;
 use shfl_line::{Form, Never};
+use std::alloc::Global;
+use std::process::Abort;
 use std::sync::Wait;
 use std::sync::atomic::{AtomicU64, Ordering};
-use std::test::Fail;
 use std::thread;
 use std::thread::Threads;
 use syn_outer::{Gate, Point};
@@ -108,24 +110,35 @@ fn overlap_all<R: Threads + Wait + Sync>(
     thread::for_each_mut(rt, passes, 2, &job);
 }
 
+// Both at once on a new cell, and nobody gives up.
+fn overlap_on_a_new<R: Abort + Threads + Wait + Sync>(
+    rt: &R,
+    alloc: Global,
+    trial: &Trial,
+    waits: bool,
+) {
+    let (cell, mut passes) = open_two(rt, alloc, Form::Rw);
+    overlap_all(rt, &cell, trial, waits, &mut passes);
+    same(rt, &trial.late.count(), &0);
+}
+
+// This was found.
+fn is_found(rt: &impl Abort, found: &AtomicU64, due: u64) {
+    same(rt, &found.load(Ordering::SeqCst), &due);
+}
+
 #[test]
-fn a_try_beside_a_writer_is_told_the_lock_word(rt: HostRuntime) -> Result<(), Fail> {
-    let (cell, mut passes) = open(rt.alloc(), &[PLAIN, PLAIN], Form::Rw, &[2, 2])?;
+fn a_try_beside_a_writer_is_told_the_lock_word(rt: HostRuntime) {
     let trial = Trial::new();
-    overlap_all(&rt, &cell, &trial, false, &mut passes);
-    assert_eq!(rt; trial.late.count(), 0);
-    assert_eq!(rt; trial.read_word.load(Ordering::SeqCst), 1);
-    assert_eq!(rt; trial.write_word.load(Ordering::SeqCst), 1);
-    Ok(())
+    overlap_on_a_new(&rt, rt.alloc(), &trial, false);
+    is_found(&rt, &trial.read_word, 1);
+    is_found(&rt, &trial.write_word, 1);
 }
 
 // It doesn't try on and on while another pass holds the lock.
 #[test]
-fn a_reader_queues_behind_a_writer(rt: HostRuntime) -> Result<(), Fail> {
-    let (cell, mut passes) = open(rt.alloc(), &[PLAIN, PLAIN], Form::Rw, &[2, 2])?;
+fn a_reader_queues_behind_a_writer(rt: HostRuntime) {
     let trial = Trial::new();
-    overlap_all(&rt, &cell, &trial, true, &mut passes);
-    assert_eq!(rt; trial.late.count(), 0);
-    assert_eq!(rt; trial.read_word.load(Ordering::SeqCst), 7);
-    Ok(())
+    overlap_on_a_new(&rt, rt.alloc(), &trial, true);
+    is_found(&rt, &trial.read_word, 7);
 }

@@ -5,8 +5,10 @@ ghost use Rattle.rw_cell.specs.RwCells.{AreInOrder, IsPassOf};
 
 use crate::register::Register;
 use rw_cell::{RwCell, RwPass};
+use shared_tests::PLAIN;
 use shfl_line::{Attr, Form, NoMemory};
 use std::alloc::Global;
+use std::process::Abort;
 
 /// Equal registers, one for each of so many passes.
 pub fn registers(alloc: Global, count: usize, spare: u32) -> Result<Vec<Register>, NoMemory>
@@ -43,4 +45,20 @@ pub fn open(
     let copies = registers(alloc, calls.len(), 65536)?;
     let (cell, passes) = RwCell::<Register>::open(alloc, copies, attrs, form, 1024, calls)?;
     Ok((cell, passes))
+}
+
+/// A cell of two passes, with two calls each.
+pub fn open_two(
+    rt: &impl Abort,
+    alloc: Global,
+    form: Form,
+) -> (RwCell<Register>, Vec<RwPass<Register>>)
+    requires form { shares form ≡ true }
+    ensures two { vec_len result.1 ≡ 2 }
+    ensures cell { All (λ p. (p.cell ≡ result.0.id) × (1 < p.left)) result.1.items }
+{
+    let Ok((cell, passes)) = open(alloc, &[PLAIN, PLAIN], form, &[2, 2]) else {
+        panic!(rt; "memory")
+    };
+    (cell, passes)
 }

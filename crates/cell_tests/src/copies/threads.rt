@@ -5,13 +5,14 @@ ghost use Rattle.rw_cell.specs.RwCells.{number, AreInOrder, IsPassOf, StaysPass}
 
 use super::opening::open;
 use crate::attrs::of_four_sockets;
+use crate::checks::{holds, same};
 use crate::register::{LOOK, Mix, Register, call_of, is_whole};
 use hist_log::{Entry, merge};
 use rw_cell::{RwCell, RwPass};
 use shfl_line::{Always, BySocket, Chooser, Form, Never, NoMemory};
 use std::alloc::Global;
+use std::process::Abort;
 use std::sync::Wait;
-use std::test::Fail;
 use std::thread;
 use std::thread::Threads;
 use syn_outer::OpenGate;
@@ -103,35 +104,43 @@ fn close_in_order(
     Ok((copies, last, entries))
 }
 
-// Whether the merged history of sixteen passes that call in threads is legal and has all calls in
-// order, and each copy has the number that was put last.
-fn runs<C: Chooser + Copy + Sync, R: Threads + Wait + Sync>(
+// The merged history is legal and has all calls in order, and each copy has the number that was put last.
+fn is_one_history(rt: &impl Abort, copies: &[Register], last: u32, entries: &[Entry<Register>]) {
+    for copy in copies {
+        same(rt, &copy.value, &last);
+    }
+    holds(rt, is_whole(entries, Mix::Looks, 16, CALLS));
+}
+
+// That of sixteen passes that call in threads is such a one.
+fn runs<C: Chooser + Copy + Sync, R: Abort + Threads + Wait + Sync>(
     rt: &R,
     alloc: Global,
     form: Form,
     chooser: C,
-) -> Result<bool, NoMemory>
+)
     requires { shares form ≡ true }
 {
-    let calls = [CALLS; 16];
-    let (cell, mut passes) = open(alloc, &of_four_sockets(), form, &calls)?;
+    let Ok((cell, mut passes)) = open(alloc, &of_four_sockets(), form, &[CALLS; 16]) else {
+        panic!(rt; "memory")
+    };
     work_all(rt, &cell, &chooser, CALLS, &mut passes);
-    let (copies, last, entries) = close_in_order(alloc, cell, passes)?;
-    Ok(copies.iter().all(|copy| copy.value == last) && is_whole(&entries, Mix::Looks, 16, CALLS))
+    let Ok((copies, last, entries)) = close_in_order(alloc, cell, passes) else {
+        panic!(rt; "memory")
+    };
+    is_one_history(rt, &copies, last, &entries);
 }
 
 #[test]
-fn spinning_passes_have_one_legal_history(rt: HostRuntime) -> Result<(), Fail> {
-    assert!(rt; runs(&rt, rt.alloc(), Form::Rw, Never)?);
-    assert!(rt; runs(&rt, rt.alloc(), Form::Rw, Always)?);
-    assert!(rt; runs(&rt, rt.alloc(), Form::Rw, BySocket)?);
-    Ok(())
+fn spinning_passes_have_one_legal_history(rt: HostRuntime) {
+    runs(&rt, rt.alloc(), Form::Rw, Never);
+    runs(&rt, rt.alloc(), Form::Rw, Always);
+    runs(&rt, rt.alloc(), Form::Rw, BySocket);
 }
 
 #[test]
-fn parking_passes_have_one_legal_history(rt: HostRuntime) -> Result<(), Fail> {
-    assert!(rt; runs(&rt, rt.alloc(), Form::RwPark, Never)?);
-    assert!(rt; runs(&rt, rt.alloc(), Form::RwPark, Always)?);
-    assert!(rt; runs(&rt, rt.alloc(), Form::RwPark, BySocket)?);
-    Ok(())
+fn parking_passes_have_one_legal_history(rt: HostRuntime) {
+    runs(&rt, rt.alloc(), Form::RwPark, Never);
+    runs(&rt, rt.alloc(), Form::RwPark, Always);
+    runs(&rt, rt.alloc(), Form::RwPark, BySocket);
 }

@@ -1,13 +1,12 @@
 //! Two passes that call in turn, on one thread.
 ghost use Rattle.std.specs.Prelude.{◌≡◌, ◌<◌, All, length};
 
-use super::opening::open;
+use super::opening::open_two;
+use crate::checks::same;
 use crate::register::{LOOK, Register};
 use rw_cell::{RwCell, RwPass};
-use shared_tests::PLAIN;
 use shfl_line::{Form, Never};
 use std::sync::Wait;
-use std::test::Fail;
 use syn_outer::OpenGate;
 
 // The first pass writes and the second reads: what each was answered, and at which place.
@@ -39,17 +38,15 @@ fn try_both(cell: &RwCell<Register>, passes: &mut [RwPass<Register>]) -> Option<
 }
 
 #[test]
-fn a_read_sees_the_write_of_another_pass(rt: HostRuntime) -> Result<(), Fail> {
-    let (cell, mut passes) = open(rt.alloc(), &[PLAIN, PLAIN], Form::RwPark, &[2, 2])?;
+fn a_read_sees_the_write_of_another_pass(rt: HostRuntime) {
+    let (cell, mut passes) = open_two(&rt, rt.alloc(), Form::RwPark);
     let told = write_and_read(&rt, &cell, &mut passes);
-    assert_eq!(rt; told, [(0, 0), (7, 1)]);
-    Ok(())
+    same(&rt, &told, &[(0, 0), (7, 1)]);
 }
 
 #[test]
-fn tries_at_a_free_lock_succeed(rt: HostRuntime) -> Result<(), Fail> {
-    let (cell, mut passes) = open(rt.alloc(), &[PLAIN, PLAIN], Form::Rw, &[2, 2])?;
-    assert_eq!(rt; try_both(&cell, &mut passes), Some([(0, 0), (7, 1)]));
-    assert_eq!(rt; passes[0].left(), 1);
-    Ok(())
+fn tries_at_a_free_lock_succeed(rt: HostRuntime) {
+    let (cell, mut passes) = open_two(&rt, rt.alloc(), Form::Rw);
+    same(&rt, &try_both(&cell, &mut passes), &Some([(0, 0), (7, 1)]));
+    same(&rt, &passes[0].left(), &1);
 }
