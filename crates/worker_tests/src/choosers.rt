@@ -1,5 +1,5 @@
 //! Choosers whose policies are replaced.
-ghost use Rattle.std.specs.Prelude.{◌≡◌, length, vec_len, IfOk};
+ghost use Rattle.std.specs.Prelude.{◌≡◌, length, vec_len};
 ghost use Rattle.policy_versions.specs.Models.{IsClosed};
 ghost use Rattle.policy_versions.specs.Noting.{IsLogOf};
 
@@ -13,7 +13,6 @@ use shfl_policy::{Policy, PolicySource, load};
 use std::alloc::Global;
 use std::process::Abort;
 use std::sync::Wait;
-use std::test::Fail;
 
 // Gives 1 where the waiter's socket is the anchor's, else 0.
 const SAME_SOCKET: [u8; 48] = [
@@ -21,22 +20,21 @@ const SAME_SOCKET: [u8; 48] = [
     0x21, 1, 0, 0, 0, 0, 0, 0xb7, 0, 0, 0, 0, 0, 0, 0, 0x95, 0, 0, 0, 0, 0, 0, 0,
 ];
 
+// The policy of this place whose program for `should` is these bytes, if it has one.
+fn policy(rt: &impl Abort, alloc: Global, place: u32, should: Option<Vec<u8>>) -> Policy {
+    let source = PolicySource { should, skip: None };
+    let loaded = load(alloc, place, Profile::One, &source).ok();
+    loaded.expect(rt, "a policy")
+}
+
 /// A policy without programs, and one that prefers waiters of the own socket.
-fn policies(alloc: Global) -> Result<Vec<Policy>, Fail>
-    ensures { IfOk result (λ v. vec_len v ≡ 2) }
+fn policies(rt: &impl Abort, alloc: Global) -> Vec<Policy>
+    ensures { vec_len result ≡ 2 }
 {
-    let none = PolicySource {
-        should: None,
-        skip: None,
-    };
-    let socket = PolicySource {
-        should: Some(Vec::from_slice(alloc, &SAME_SOCKET)?),
-        skip: None,
-    };
-    let mut policies = Vec::new(alloc);
-    policies.push(load(alloc, 0, Profile::One, &none)?)?;
-    policies.push(load(alloc, 1, Profile::One, &socket)?)?;
-    Ok(policies)
+    let bytes = Vec::from_slice(alloc, &SAME_SOCKET).ok();
+    let socket = policy(rt, alloc, 1, Some(bytes.expect(rt, "memory")));
+    let both = Vec::from_array(alloc, [policy(rt, alloc, 0, None), socket]);
+    both.ok().expect(rt, "memory")
 }
 
 fn follow<R: Abort + Wait>(
@@ -96,21 +94,40 @@ fn are_of_two_rounds(rt: &impl Abort, alloc: Global, log: &RoundLog) {
     same(rt, &marks_of(rt, alloc, log).as_slice(), &due.as_slice());
 }
 
-#[test]
-fn a_round_is_answered_by_one_version(rt: HostRuntime) -> Result<(), Fail> {
-    let alloc = rt.alloc();
-    let (registry, mut publisher, mut passes) = Registry::open(alloc, policies(alloc)?, 1)?;
-    let Some(mut pass) = passes.pop() else {
+/// A registry of the two, and its only pass.
+fn opened(rt: &impl Abort, alloc: Global) -> (Registry, Publisher, VersionPass)
+    ensures registry { result.1.registry ≡ result.0 }
+    ensures declared { length result.0.declared ≡ 2 }
+    ensures rows { length result.1.rows ≡ 0 }
+    ensures pass { IsClosed result.0 result.2 }
+{
+    let Ok((registry, publisher, mut passes)) = Registry::open(alloc, policies(rt, alloc), 1) else {
+        panic!(rt; "memory")
+    };
+    let Some(pass) = passes.pop() else {
         panic!(rt; "no pass")
     };
+    (registry, publisher, pass)
+}
+
+/// Between rounds the pass has the version that was published last.
+fn has_the_last_version<R: Abort + Wait>(rt: &R, registry: &Registry, pass: &mut VersionPass)
+    requires { IsClosed registry.now pass.old }
+{
+    let held = pass.enter(rt, registry);
+    same(rt, &held.version(), &1);
+    pass.leave(registry, held);
+}
+
+#[test]
+fn a_round_is_answered_by_one_version(rt: HostRuntime) {
+    let alloc = rt.alloc();
+    let (registry, mut publisher, mut pass) = opened(&rt, alloc);
     pass.begin_log(alloc, true);
     follow(&rt, alloc, &registry, &mut publisher, &mut pass);
     are_of_two_rounds(&rt, alloc, &pass.take_log(alloc));
     pass.begin_log(alloc, true);
     ask_outside(&rt, &registry, &mut pass);
     same(&rt, &pass.take_log(alloc).notes().is_none(), &true);
-    let held = pass.enter(&rt, &registry);
-    same(&rt, &held.version(), &1);
-    pass.leave(&registry, held);
-    Ok(())
+    has_the_last_version(&rt, &registry, &mut pass);
 }

@@ -1,6 +1,6 @@
 //! What the policies of a trace's workers are told, as their logs tell it.
 use crate::checks::same;
-use crate::threads::{ATTACHED, GROUPED, Way, is_by, nobody_gave_up, run_text};
+use crate::threads::{ATTACHED, GROUPED, Way, is_by, nobody_gave_up, run_text, trace_of};
 use round_log::RoundLog;
 use shared_tests::QueueGate;
 use shfl_line::Told;
@@ -8,10 +8,8 @@ use shfl_workers::{Outcome, run_trace};
 use std::alloc::Global;
 use std::process::Abort;
 use std::sync::Wait;
-use std::test::Fail;
 use std::thread::Threads;
 use syn_outer::{Gate, OpenGate, Point};
-use trace_text::read_trace;
 
 /// What a policy is told, but for the attributes and the batch.
 #[derive(Clone, Copy, Debug, PartialEq, Eq)]
@@ -74,33 +72,32 @@ fn logs_a_round<R: Abort + Threads + Wait + Sync>(
     text: &[u8],
     way: Way,
     version: u64,
-) -> Result<(), Fail> {
+) {
     let gate = QueueGate::new(5);
-    let outcome = run_text(rt, alloc, text, way, &gate)?;
+    let outcome = run_text(rt, alloc, text, way, &gate);
     nobody_gave_up(rt, &gate.late);
     same(rt, &outcome.rounds.len(), &5);
     groups_by(rt, alloc, &outcome, 1, version);
-    Ok(())
 }
 
 #[test]
-fn a_round_is_logged(rt: HostRuntime) -> Result<(), Fail> {
-    logs_a_round(&rt, rt.alloc(), GROUPED, Way::ByCalls, 0)
+fn a_round_is_logged(rt: HostRuntime) {
+    logs_a_round(&rt, rt.alloc(), GROUPED, Way::ByCalls, 0);
 }
 
 #[test]
-fn a_round_is_logged_with_its_version(rt: HostRuntime) -> Result<(), Fail> {
-    logs_a_round(&rt, rt.alloc(), ATTACHED, Way::ByCalls, 1)
+fn a_round_is_logged_with_its_version(rt: HostRuntime) {
+    logs_a_round(&rt, rt.alloc(), ATTACHED, Way::ByCalls, 1);
 }
 
 #[test]
-fn a_round_is_logged_on_copies(rt: HostRuntime) -> Result<(), Fail> {
-    logs_a_round(&rt, rt.alloc(), ATTACHED, Way::Copies, 1)
+fn a_round_is_logged_on_copies(rt: HostRuntime) {
+    logs_a_round(&rt, rt.alloc(), ATTACHED, Way::Copies, 1);
 }
 
 #[test]
-fn a_round_is_logged_in_a_shard(rt: HostRuntime) -> Result<(), Fail> {
-    logs_a_round(&rt, rt.alloc(), ATTACHED, Way::Shards, 1)
+fn a_round_is_logged_in_a_shard(rt: HostRuntime) {
+    logs_a_round(&rt, rt.alloc(), ATTACHED, Way::Shards, 1);
 }
 
 /// The gate of the queue with the parts of workers 0 and 1 exchanged: worker 1 holds the lock, and worker 0 stands at the queue's head.
@@ -122,23 +119,22 @@ impl<'a> Gate for Exchanged<'a> {
 
 // Worker 0 attaches the policy before its call, waits for the lock, and rearranges those behind it.
 #[test]
-fn a_round_behind_an_attachment_has_its_version(rt: HostRuntime) -> Result<(), Fail> {
+fn a_round_behind_an_attachment_has_its_version(rt: HostRuntime) {
     let queue = QueueGate::new(5);
     let gate = Exchanged { gate: &queue };
-    let outcome = run_text(&rt, rt.alloc(), ATTACHED, Way::ByCalls, &gate)?;
+    let outcome = run_text(&rt, rt.alloc(), ATTACHED, Way::ByCalls, &gate);
     nobody_gave_up(&rt, &queue.late);
     is_by(&rt, rt.alloc(), &outcome, &[1, 0, 3, 2, 4]);
     groups_by(&rt, rt.alloc(), &outcome, 0, 1);
-    Ok(())
 }
 
 #[test]
-fn nothing_is_kept_unasked(rt: HostRuntime) -> Result<(), Fail> {
-    let trace = read_trace(rt.alloc(), GROUPED)?;
-    let outcome = run_trace(&rt, rt.alloc(), &trace, false, &OpenGate)?;
+fn nothing_is_kept_unasked(rt: HostRuntime) {
+    let trace = trace_of(&rt, rt.alloc(), GROUPED);
+    let ran = run_trace(&rt, rt.alloc(), &trace, false, &OpenGate).ok();
+    let outcome = ran.expect(&rt, "memory");
     same(&rt, &outcome.rounds.len(), &5);
     for log in outcome.rounds.as_slice() {
         same(&rt, &log.notes().is_none(), &true);
     }
-    Ok(())
 }

@@ -1,13 +1,10 @@
 //! Traces that are run by threads with a lock for each directory.
 use crate::checks::same;
-use crate::threads::{
-    ATTACHED, FOUR_WORKERS, GROUPED, Way, groups, is_by, is_of_four, nobody_gave_up, run_text,
-};
+use crate::threads::{ATTACHED, GROUPED, Way, groups, is_by, nobody_gave_up, run_text, runs_four};
 use dir_table::DirReply;
 use shared_tests::Mark;
 use std::sync::Wait;
-use std::test::Fail;
-use syn_outer::{Gate, OpenGate, Point};
+use syn_outer::{Gate, Point};
 
 /// Two workers, each of whom makes a name in a directory of its own.
 pub(crate) const TWO_SHARDS: &[u8] =
@@ -45,32 +42,27 @@ impl Gate for ShardGate {
 }
 
 #[test]
-fn two_shards(rt: HostRuntime) -> Result<(), Fail> {
+fn two_shards(rt: HostRuntime) {
     let gate = shard_gate();
-    let outcome = run_text(&rt, rt.alloc(), TWO_SHARDS, Way::Shards, &gate)?;
+    let outcome = run_text(&rt, rt.alloc(), TWO_SHARDS, Way::Shards, &gate);
     nobody_gave_up(&rt, &gate.late);
     is_by(&rt, rt.alloc(), &outcome, &[1, 0]);
     same(&rt, &outcome.dir.count(0), &DirReply::Number(1));
     same(&rt, &outcome.dir.count(1), &DirReply::Number(1));
-    Ok(())
 }
 
 #[test]
-fn four_workers_share_shards(rt: HostRuntime) -> Result<(), Fail> {
-    is_of_four(
-        &rt,
-        &run_text(&rt, rt.alloc(), FOUR_WORKERS, Way::Shards, &OpenGate)?,
-    );
-    Ok(())
+fn four_workers_share_shards(rt: HostRuntime) {
+    runs_four(&rt, rt.alloc(), Way::Shards);
 }
 
 // Each worker's own attributes are asked about, and the policy is the trace's.
 #[test]
-fn grouped_order_in_a_shard(rt: HostRuntime) -> Result<(), Fail> {
-    groups(&rt, rt.alloc(), GROUPED, Way::Shards, &[])
+fn grouped_order_in_a_shard(rt: HostRuntime) {
+    groups(&rt, rt.alloc(), GROUPED, Way::Shards, &[]);
 }
 
 #[test]
-fn attached_order_in_a_shard(rt: HostRuntime) -> Result<(), Fail> {
-    groups(&rt, rt.alloc(), ATTACHED, Way::Shards, &[(1, 1)])
+fn attached_order_in_a_shard(rt: HostRuntime) {
+    groups(&rt, rt.alloc(), ATTACHED, Way::Shards, &[(1, 1)]);
 }

@@ -1,4 +1,7 @@
 //! Traces that are run by threads.
+ghost use Rattle.trace_text.specs.Limits.{Fits};
+ghost use Rattle.trace_text.specs.Traces.{document_of, IsWithin};
+
 use crate::checks::same;
 use dir_table::DirReply;
 use shared_tests::{Mark, QueueGate};
@@ -6,10 +9,9 @@ use shfl_workers::{Outcome, do_writes_prevail, run_copies, run_shards, run_trace
 use std::alloc::Global;
 use std::process::Abort;
 use std::sync::Wait;
-use std::test::Fail;
 use std::thread::Threads;
 use syn_outer::{Gate, OpenGate, Point};
-use trace_text::read_trace;
+use trace_text::{Trace, read_trace};
 
 /// Five workers on the sockets 0, 0, 1, 0 and 1, who call one directory; the first policy prefers waiters of the own socket, and the last
 /// one nobody.
@@ -43,21 +45,32 @@ pub(crate) enum Way {
     Shards,
 }
 
+/// The trace that the text is.
+pub(crate) fn trace_of(rt: &impl Abort, alloc: Global, text: &[u8]) -> Trace
+    ensures within { IsWithin result }
+    ensures fits { Fits (document_of result) }
+{
+    let Ok(trace) = read_trace(alloc, text) else {
+        panic!(rt; "a trace")
+    };
+    trace
+}
+
 /// Runs the trace that the text is in this way, behind the gate, and keeps what its policies are told.
-pub(crate) fn run_text<G: Gate + Sync, R: Threads + Wait + Sync>(
+pub(crate) fn run_text<G: Gate + Sync, R: Abort + Threads + Wait + Sync>(
     rt: &R,
     alloc: Global,
     text: &[u8],
     way: Way,
     gate: &G,
-) -> Result<Outcome, Fail> {
-    let trace = read_trace(alloc, text)?;
+) -> Outcome {
+    let trace = trace_of(rt, alloc, text);
     let outcome = match way {
-        Way::ByCalls => run_trace(rt, alloc, &trace, true, gate)?,
-        Way::Copies => run_copies(rt, alloc, &trace, true, gate)?,
-        Way::Shards => run_shards(rt, alloc, &trace, true, gate)?,
+        Way::ByCalls => run_trace(rt, alloc, &trace, true, gate),
+        Way::Copies => run_copies(rt, alloc, &trace, true, gate),
+        Way::Shards => run_shards(rt, alloc, &trace, true, gate),
     };
-    Ok(outcome)
+    outcome.ok().expect(rt, "memory")
 }
 
 /// Nobody gave up.
@@ -87,38 +100,37 @@ pub(crate) fn groups<R: Abort + Threads + Wait + Sync>(
     text: &[u8],
     way: Way,
     published: &[(u64, u32)],
-) -> Result<(), Fail> {
+) {
     let gate = QueueGate::new(5);
-    let outcome = run_text(rt, alloc, text, way, &gate)?;
+    let outcome = run_text(rt, alloc, text, way, &gate);
     nobody_gave_up(rt, &gate.late);
     is_grouped(rt, alloc, &outcome, published);
-    Ok(())
 }
 
 #[test]
-fn grouped_order(rt: HostRuntime) -> Result<(), Fail> {
-    groups(&rt, rt.alloc(), GROUPED, Way::ByCalls, &[])
+fn grouped_order(rt: HostRuntime) {
+    groups(&rt, rt.alloc(), GROUPED, Way::ByCalls, &[]);
 }
 
 #[test]
-fn attached_order(rt: HostRuntime) -> Result<(), Fail> {
-    groups(&rt, rt.alloc(), ATTACHED, Way::ByCalls, &[(1, 1)])
+fn attached_order(rt: HostRuntime) {
+    groups(&rt, rt.alloc(), ATTACHED, Way::ByCalls, &[(1, 1)]);
 }
 
 #[test]
-fn grouped_order_on_copies(rt: HostRuntime) -> Result<(), Fail> {
-    groups(&rt, rt.alloc(), GROUPED, Way::Copies, &[])
+fn grouped_order_on_copies(rt: HostRuntime) {
+    groups(&rt, rt.alloc(), GROUPED, Way::Copies, &[]);
 }
 
 #[test]
-fn attached_order_on_copies(rt: HostRuntime) -> Result<(), Fail> {
-    groups(&rt, rt.alloc(), ATTACHED, Way::Copies, &[(1, 1)])
+fn attached_order_on_copies(rt: HostRuntime) {
+    groups(&rt, rt.alloc(), ATTACHED, Way::Copies, &[(1, 1)]);
 }
 
 // The waiters queue while worker 0 makes its call, before it attaches the second policy.
 #[test]
-fn a_policy_is_attached_behind_the_call_before_it(rt: HostRuntime) -> Result<(), Fail> {
-    groups(&rt, rt.alloc(), REPLACED, Way::ByCalls, &[(1, 1), (2, 0)])
+fn a_policy_is_attached_behind_the_call_before_it(rt: HostRuntime) {
+    groups(&rt, rt.alloc(), REPLACED, Way::ByCalls, &[(1, 1), (2, 0)]);
 }
 
 /// Lets each of two workers hold the lock until the other one holds it too.
@@ -153,18 +165,17 @@ impl Gate for ReadersGate {
 }
 
 #[test]
-fn readers_hold_at_once(rt: HostRuntime) -> Result<(), Fail> {
+fn readers_hold_at_once(rt: HostRuntime) {
     let gate = readers_gate();
-    let outcome = run_text(&rt, rt.alloc(), TWO_READERS, Way::ByCalls, &gate)?;
+    let outcome = run_text(&rt, rt.alloc(), TWO_READERS, Way::ByCalls, &gate);
     nobody_gave_up(&rt, &gate.late);
     same(&rt, &outcome.history.len(), &2);
     same(&rt, &outcome.dir.count(0), &DirReply::Number(0));
-    Ok(())
 }
 
 /// Whether most calls of the text are writes.
 fn writes_prevail(rt: &impl Abort, alloc: Global, text: &[u8], due: bool) {
-    let trace = read_trace(alloc, text).ok().expect(rt, "a trace");
+    let trace = trace_of(rt, alloc, text);
     same(rt, &do_writes_prevail(&trace), &due);
 }
 
@@ -174,8 +185,9 @@ fn writes_of_four_workers_prevail(rt: HostRuntime) {
     writes_prevail(&rt, rt.alloc(), TWO_READERS, false);
 }
 
-/// The history is that of the four workers, with what was published, and so many names are left.
-pub(crate) fn is_of_four(rt: &impl Abort, outcome: &Outcome) {
+/// The run of the four workers' trace in this way has all their calls and what was published, and so many names are left.
+pub(crate) fn runs_four<R: Abort + Threads + Wait + Sync>(rt: &R, alloc: Global, way: Way) {
+    let outcome = run_text(rt, alloc, FOUR_WORKERS, way, &OpenGate);
     same(rt, &outcome.history.len(), &12);
     same(rt, &outcome.versions.rows(), &[(1, 1), (2, 0)].as_slice());
     same(rt, &outcome.dir.count(5), &DirReply::Number(1));
@@ -183,19 +195,11 @@ pub(crate) fn is_of_four(rt: &impl Abort, outcome: &Outcome) {
 }
 
 #[test]
-fn four_workers_have_copies(rt: HostRuntime) -> Result<(), Fail> {
-    is_of_four(
-        &rt,
-        &run_text(&rt, rt.alloc(), FOUR_WORKERS, Way::Copies, &OpenGate)?,
-    );
-    Ok(())
+fn four_workers_have_copies(rt: HostRuntime) {
+    runs_four(&rt, rt.alloc(), Way::Copies);
 }
 
 #[test]
-fn four_workers_share_a_directory(rt: HostRuntime) -> Result<(), Fail> {
-    is_of_four(
-        &rt,
-        &run_text(&rt, rt.alloc(), FOUR_WORKERS, Way::ByCalls, &OpenGate)?,
-    );
-    Ok(())
+fn four_workers_share_a_directory(rt: HostRuntime) {
+    runs_four(&rt, rt.alloc(), Way::ByCalls);
 }
