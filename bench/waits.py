@@ -7,7 +7,11 @@ HEADS = {
     "storms": "Threads that take the lock again and again",
     "readers": "The same with 80 of 100 holds for reading",
     "busy": "The same beside sixteen busy programs",
+    "rattle": "Threads that take the lock in Rattle again and again",
+    "rattle-busy": "The same beside sixteen busy programs, the lock in Rattle",
 }
+# a part's peer, a second one, and ours, where that isn't the mutex, the MCS lock and all forms
+PEERS = {"readers": ("rwlock", None, ["rw", "rwpark"]), "rattle": ("mutex", None, OURS), "rattle-busy": ("mutex", None, OURS)}
 
 
 def runs_of(path):
@@ -47,6 +51,27 @@ def storm_table(rows, peer, other, ours):
               f"{two(wait[longest], max, 1)} | {two(jain[peer], min, 3)} | {two(jain[uneven], min, 3)} |")
 
 
+def of_rows(rows, peer, ours):
+    """in how many rows the worst of our forms comes up to what was aimed at"""
+    median = statistics.median
+
+    def least(by_lock, pick, of):
+        return min(of([run[pick] for run in by_lock[lock]]) for lock in ours)
+
+    def longest(by_lock):
+        return max(median([run[2] for run in by_lock[lock]]) for lock in ours)
+
+    counts = []
+    for of in (median, min):
+        counts.append(sum(least(by, 0, of) >= 0.8 * of([run[0] for run in by[peer]]) for by in rows.values()))
+    counts.append(sum(longest(by) <= 2 * median([run[2] for run in by[peer]]) for by in rows.values()))
+    counts.append(sum(least(by, 1, median) >= 0.98 for by in rows.values()))
+    counts.append(sum(least(by, 1, median) >= median([run[1] for run in by[peer]]) for by in rows.values()))
+    print("\nOf {} rows, of the worst of our forms: at least 0.8 of the {}'s holds by the medians {}, by the worst runs {};".format(
+        len(rows), peer, *counts[:2]), "by the medians the longest wait at most twice its {}, Jain's index at least 0.98 {},".format(*counts[2:4]),
+        "at least its {}".format(counts[4]))
+
+
 def plain_table(rows, title, locks, digits, pick):
     print(f"| {title} | {' | '.join(locks)} |")
     print("|---" * (len(locks) + 1) + "|")
@@ -73,16 +98,18 @@ def main():
         rows = parts[part]
         fewest = min(len(runs) for by_lock in rows.values() for runs in by_lock.values())
         print(f"\n{head}: thousand holds a second, median and worst of {fewest} runs; of the waits and of Jain's index the worse form's.\n")
-        if part == "readers":
-            storm_table(rows, "rwlock", None, ["rw", "rwpark"])
-        else:
-            storm_table(rows, "mutex", "mcs", OURS)
+        peer, other, ours = PEERS.get(part, ("mutex", "mcs", OURS))
+        storm_table(rows, peer, other, ours)
+        of_rows(rows, peer, ours)
     if "handover" in parts:
         print("\nFrom an unlock to the next one's return from lock, by waiters and hold in us: microseconds, median and worst run of the medians.\n")
         plain_table(parts["handover"], "Waiters, hold", ["mutex", "mcs"] + OURS, 2, 0)
     if "asleep" in parts:
         print("\nProcessor time of all threads in 2 s of holds of 100 ms, asleep, a policy by socket attached: milliseconds, median and worst.\n")
         plain_table(parts["asleep"], "Threads", ["mutex"] + OURS, 1, 0)
+    if "rattle-asleep" in parts:
+        print("\nThe same of 16 threads with the lock in Rattle, by lock and policy: milliseconds, median and worst.\n")
+        plain_table(parts["rattle-asleep"], "Lock, policy", ["time"], 1, 0)
     if "policy" in parts:
         print("\nEach queues at once: without a policy, and with one that moves nobody: thousand holds a second, median and worst.\n")
         policy_table(parts["policy"])

@@ -2,8 +2,10 @@
 # How threads wait: the lock for C in its four forms beside pthread's locks and an MCS lock that yields, in turn. Words:
 #   waits.sh [ROUNDS [PART ..]]
 # A part is storms, readers, busy, handover, asleep or policy; all, in this order, where none is given; ROUNDS is 20 where it is left
-# out. With WAITS_ROOM set, the runs are kept in that folder, and the tables are of all that are there, so that many sittings make one
-# table. WAITS_RUN is put before each program that is timed, and RESULTS_ONLY set prints the tables alone.
+# out. The parts rattle, rattle-busy and rattle-asleep are run where they are named: the lock in Rattle beside pthread's mutex, by the
+# program waits, with the crates below proved first. With WAITS_ROOM set, the runs are kept in that folder, and the tables are of all that
+# are there, so that many sittings make one table; and so is that program. WAITS_THREADS has the numbers of threads of storms, readers
+# and rattle (2 4 8 16 64). WAITS_RUN is put before each program that is timed, and RESULTS_ONLY set prints the tables alone.
 set -u
 top="$(cd "$(dirname "$(readlink -f "${BASH_SOURCE[0]}")")/.." && pwd)"
 rounds="${1:-20}"
@@ -14,6 +16,9 @@ room="${WAITS_ROOM:-$(mktemp -d)}"
 mkdir -p "$room"
 read -ra before <<<"${WAITS_RUN:-}"
 ours=(spin rw park rwpark)
+in_rattle=("${ours[@]/#/rattle-}")
+read -ra crowds <<<"${WAITS_THREADS:-2 4 8 16 64}"
+rattle="$room/rattle/waits/waits"
 
 build() {
     local archive="$top/crates/shfl_c/out/libshfl_c.a" name
@@ -22,6 +27,17 @@ build() {
         "${CC:-cc}" -std=gnu11 -O2 -Wall -Wextra -I "$top/include" "$top/bench/$name.c" "$top/include/shfl_heap.c" "$archive" \
             -o "$room/$name" -lpthread || exit 1
     done
+    case " ${parts[*]}" in
+    *' rattle'*) [ -x "$rattle" ] || python3 -B "$top/bin/programs.py" "$room/rattle" waits >/dev/null || exit 1 ;;
+    esac
+}
+
+# the program that has a lock, and the lock's name there
+program_of() {
+    case "$1" in
+    rattle-*) echo "$rattle ${1#rattle-}" ;;
+    *) echo "$room/waits $1" ;;
+    esac
 }
 
 # one run: its part, the row of the table, the lock, and what it told
@@ -37,40 +53,41 @@ timed() {
 
 # threads, hold, think, per cent of reads, then the locks in turn. Long holds by many threads are given more time.
 storm() {
-    local part="$1" threads="$2" hold="$3" think="$4" reads="$5" lock
+    local part="$1" threads="$2" hold="$3" think="$4" reads="$5" lock program
     for lock in "${@:6}"; do
-        timed "$part" "$threads $hold $think" "$lock" "$room/waits" "$lock" "$threads" "$hold" "$think" "$reads" \
+        read -ra program <<<"$(program_of "$lock")"
+        timed "$part" "$threads $hold $think" "${lock#rattle-}" "${program[@]}" "$threads" "$hold" "$think" "$reads" \
             $((${storm_ms:-100} + threads * hold / 20000))
     done
 }
 
-# each number of threads, hold and think, in nanoseconds
+# each number of threads, hold and think, in nanoseconds, of the locks
 storms() {
     local part="$1" threads hold times
-    for threads in 2 4 8 16 64; do
-        storm "$part" "$threads" 0 0 0 mutex mcs "${ours[@]}"
+    for threads in "${crowds[@]}"; do
+        storm "$part" "$threads" 0 0 0 "${@:2}"
         for hold in 1000 10000 100000; do
-            for times in 0 1 10; do storm "$part" "$threads" "$hold" $((hold * times)) 0 mutex mcs "${ours[@]}"; done
+            for times in 0 1 10; do storm "$part" "$threads" "$hold" $((hold * times)) 0 "${@:2}"; done
         done
     done
 }
 
 readers() {
     local threads hold
-    for threads in 2 4 8 16 64; do
+    for threads in "${crowds[@]}"; do
         for hold in 0 1000 10000 100000; do storm readers "$threads" "$hold" "$hold" 80 rwlock rw rwpark; done
     done
 }
 
-# sixteen programs that only count
+# sixteen programs that only count, beside so many threads, of the locks
 busy() {
-    local k others=() threads hold storm_ms=400
+    local k others=() part="$1" threads hold storm_ms=400
     for ((k = 0; k < 16; k++)); do
         sh -c 'while :; do :; done' &
         others+=($!)
     done
-    for threads in 4 16; do
-        for hold in 1000 10000 100000; do storm busy "$threads" "$hold" "$hold" 0 mutex mcs "${ours[@]}"; done
+    for threads in $2; do
+        for hold in 1000 10000 100000; do storm "$part" "$threads" "$hold" "$hold" 0 "${@:3}"; done
     done
     kill "${others[@]}"
     wait "${others[@]}" 2>/dev/null
@@ -93,6 +110,15 @@ asleep() {
     done
 }
 
+# with a policy and without one; pthread's lock has none
+asleep_in_rattle() {
+    local form which
+    timed rattle-asleep 'mutex none' time "$room/handover" mutex 16 asleep 2000 none
+    for form in "${ours[@]}"; do
+        for which in none socket; do timed rattle-asleep "$form $which" time "$rattle" "$form" 16 asleep 2000 "$which"; done
+    done
+}
+
 # the queue without a policy, and with one that moves nobody
 policy() {
     local threads hold which
@@ -110,8 +136,12 @@ if [ -z "${RESULTS_ONLY:-}" ]; then
     for ((round = 0; round < rounds; round++)); do
         for part in "${parts[@]}"; do
             case "$part" in
-            storms) storms storms ;;
-            readers | busy | handover | asleep | policy) "$part" ;;
+            storms) storms storms mutex mcs "${ours[@]}" ;;
+            busy) busy busy '4 16' mutex mcs "${ours[@]}" ;;
+            readers | handover | asleep | policy) "$part" ;;
+            rattle) storms rattle mutex "${in_rattle[@]}" ;;
+            rattle-busy) busy rattle-busy 16 mutex "${in_rattle[@]}" ;;
+            rattle-asleep) asleep_in_rattle ;;
             *) echo "waits.sh: no part is called $part" >&2; exit 2 ;;
             esac
         done

@@ -13,7 +13,7 @@ sys.dont_write_bytecode = True
 from crates import TOP, build_words, copy, crates_below
 
 # the crates of the toolchain that a program here may use
-OF_KIT = ("hex",)
+OF_KIT = ("crossbeam_utils", "hex")
 
 
 def uses_of(folder):
