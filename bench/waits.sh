@@ -32,14 +32,6 @@ build() {
     esac
 }
 
-# the program that has a lock, and the lock's name there
-program_of() {
-    case "$1" in
-    rattle-*) echo "$rattle ${1#rattle-}" ;;
-    *) echo "$room/waits $1" ;;
-    esac
-}
-
 # one run: its part, the row of the table, the lock, and what it told
 timed() {
     local part="$1" row="$2" lock="$3" told
@@ -51,12 +43,16 @@ timed() {
     fi
 }
 
-# threads, hold, think, per cent of reads, then the locks in turn. Long holds by many threads are given more time.
+# threads, hold, think, per cent of reads, then the locks in turn, those in Rattle with that before their names. Long holds by many
+# threads are given more time.
 storm() {
     local part="$1" threads="$2" hold="$3" think="$4" reads="$5" lock program
     for lock in "${@:6}"; do
-        read -ra program <<<"$(program_of "$lock")"
-        timed "$part" "$threads $hold $think" "${lock#rattle-}" "${program[@]}" "$threads" "$hold" "$think" "$reads" \
+        case "$lock" in
+        rattle-*) program="$rattle" lock="${lock#rattle-}" ;;
+        *) program="$room/waits" ;;
+        esac
+        timed "$part" "$threads $hold $think" "$lock" "$program" "$lock" "$threads" "$hold" "$think" "$reads" \
             $((${storm_ms:-100} + threads * hold / 20000))
     done
 }
