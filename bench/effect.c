@@ -6,7 +6,8 @@
  * a socket keep to its share of the processors. WHEN is queue, or try for the lock as it is opened; SHOULD the digits of a program, or -.
  * It prints holds a second, how many of 1,000 followed one of another socket, Jain's index of the threads' holds, how many of
  * 1,000 were passed by one that came later, and by how many one was at most, and in microseconds the mean wait, that at 99 of a hundred and the longest: of all, of
- * the two priorities, the higher first, and of the two classes. A thread that was stopped on its way into the queue counts as passed.
+ * the two priorities, the higher first, and of the two classes. A thread that was stopped on its way into the queue counts as passed. Counted
+ * is from when each thread has held the lock once: until all have come, two that take it in turn change socket each time.
  * Status 1: two were in the section. */
 #include "effect.h"
 #include <sched.h>
@@ -19,7 +20,7 @@ struct worker {
     pthread_t thread;
     unsigned me, socket;
     bool high, second;
-    uint64_t holds;
+    uint64_t all, holds; /* of its life, and those that count */
     struct waits waits;
     char apart[LINE];
 };
@@ -29,8 +30,9 @@ static struct worker workers[MOST_THREADS];
 static unsigned count, sockets;
 static uint64_t hold, far_cost;
 static bool by_lines;
+/* 0, and then 1 until each thread has held once, 2 while all counts, 3 at the end */
 static _Alignas(LINE) atomic_int going;
-static atomic_uint ready;
+static atomic_uint ready, came_once;
 static _Alignas(LINE) _Atomic uint64_t came;
 /* Written under the lock alone. The second count follows the first at the end of a section. */
 static _Alignas(LINE) volatile uint64_t begun;
@@ -39,19 +41,17 @@ static volatile unsigned last_socket;
 static struct { _Alignas(LINE) volatile uint64_t word; } lines[MOST_LINES];
 static atomic_long torn;
 
-static void section(const struct worker *own, uint64_t place) {
+static void section(const struct worker *own, uint64_t place, bool counts) {
     uint64_t seen = begun;
     if (seen != ended) torn++;
     begun = seen + 1;
     /* of those served before so many came later, at least */
-    uint64_t later = seen > place ? seen - place : 0;
+    uint64_t later = counts && seen > place ? seen - place : 0;
     passed += later > 0;
     if (later > passed_most) passed_most = later;
     bool is_far = last_socket != own->socket;
-    if (is_far) {
-        changes++;
-        last_socket = own->socket;
-    }
+    changes += counts && is_far;
+    last_socket = own->socket;
     for (uint64_t k = 0; by_lines && k < far_cost; k++) lines[k].word++;
     busy(hold + (is_far && !by_lines ? far_cost : 0));
     if (begun != seen + 1) torn++;
@@ -75,14 +75,15 @@ static void *work(void *arg) {
     if (by_lines) keep_to_socket(own->socket);
     ready++;
     while (atomic_load(&going) == 0) sched_yield();
-    while (atomic_load_explicit(&going, memory_order_relaxed) == 1) {
+    for (int now; (now = atomic_load_explicit(&going, memory_order_relaxed)) < 3;) {
         uint64_t place = atomic_fetch_add(&came, 1);
         uint64_t since = shfl_clock();
         shfl_lock(pass);
-        count_wait(&own->waits, shfl_clock() - since);
-        section(own, place);
+        if (now == 2) count_wait(&own->waits, shfl_clock() - since);
+        section(own, place, now == 2);
         shfl_unlock(pass);
-        own->holds++;
+        own->holds += now == 2;
+        if (own->all++ == 0) came_once++;
     }
     return NULL;
 }
@@ -113,16 +114,17 @@ static void open_lock(uint16_t limit, const char *when, const char *digits) {
 static void report(double took) {
     static struct waits parts[THE_PARTS];
     double squares = 0;
-    uint64_t all = 0;
+    uint64_t all = 0, of_all = 0;
     for (unsigned k = 0; k < count; k++) {
         const struct worker *own = &workers[k];
+        of_all += own->all;
         squares += (double)own->holds * (double)own->holds;
         all += own->holds;
         add_waits(&parts[ALL], &own->waits);
         add_waits(&parts[own->high ? HIGH : LOW], &own->waits);
         add_waits(&parts[own->second ? CLASS_1 : CLASS_0], &own->waits);
     }
-    if (begun != all || ended != all) torn++;
+    if (begun != of_all || ended != of_all) torn++;
     double each = all > 0 ? (double)all : 1;
     printf("%.0f %.1f %.4f %.1f %llu", (double)all / took, 1000 * (double)changes / each,
            squares > 0 ? (double)all * (double)all / (count * squares) : 0, 1000 * (double)passed / each, (unsigned long long)passed_most);
@@ -143,10 +145,12 @@ int main(int n, char **word) {
         if (pthread_create(&workers[k].thread, NULL, work, &workers[k])) return 2;
     }
     while (ready < count) nap(100000);
-    uint64_t began = shfl_clock();
     atomic_store(&going, 1);
-    nap(strtoull(word[7], NULL, 10) * 1000000);
+    while (came_once < count) nap(100000);
+    uint64_t began = shfl_clock();
     atomic_store(&going, 2);
+    nap(strtoull(word[7], NULL, 10) * 1000000);
+    atomic_store(&going, 3);
     double took = (double)(shfl_clock() - began) * 1e-9;
     for (unsigned k = 0; k < count; k++) pthread_join(workers[k].thread, NULL);
     report(took);

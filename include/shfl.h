@@ -31,8 +31,8 @@ struct shfl_pass {
     uint32_t me; /* its number in the lock */
     uint32_t tries; /* see shfl_queue_when; 0 stands for SHFL_TRIES */
     uint8_t when, attached, queues, aside;
-    uint32_t successor, shuffler; /* see shfl_ahead.h */
-    uint32_t unused[15]; /* each call writes at: so no line of the caches has the passes of two threads, wherever an array of them lies */
+    uint32_t successor, shuffler, ahead; /* see shfl_ahead.h */
+    uint32_t unused[14]; /* each call writes at: so no line of the caches has the passes of two threads, wherever an array of them lies */
 };
 
 enum shfl_form { SHFL_SPIN, SHFL_RW, SHFL_PARK, SHFL_RW_PARK };

@@ -1,5 +1,6 @@
 /* Waking ahead of the turn. A sleeper takes some microseconds to come, so where holds are shorter than that a pass that is woken when it
- * becomes the queue's head is late. Where turns follow so fast, the head therefore wakes those that stand next while it waits itself.
+ * becomes the queue's head is late. Where turns follow so fast, whoever has freed the lock therefore wakes those that stand behind the
+ * next one, when nobody waits for it any more.
  *
  * C can't see the queue, so each place has a hint: who stands behind it. Whoever queues writes it, and a shuffler mends it where it moves
  * a waiter. A hint that is wrong wakes somebody early, or leaves one to the wakeup at its turn. Included by shfl_queueing.h. */
@@ -11,7 +12,7 @@
 extern "C" {
 #endif
 
-/* How many are kept awake behind the head, and at most how long apart two turns are where it wakes them. */
+/* How many are kept awake behind the next one, and at most how long apart two turns are where they are. */
 #ifndef SHFL_AHEAD
 #define SHFL_AHEAD 2
 #endif
@@ -26,6 +27,7 @@ static inline void shfl_stand_behind(struct shfl_pass *pass) {
     struct shfl_parking *parking = pass->parking;
     uint32_t own = pass->me + 1;
     shfl_store(shfl_behind(parking, pass->me), 0);
+    shfl_store(&shfl_place_of(parking, pass->me)->late, 0);
     uint32_t before = __atomic_exchange_n(&parking->joined, own, __ATOMIC_SEQ_CST);
     if (before != 0 && before != own) shfl_store(shfl_behind(parking, before - 1), own);
 }
@@ -49,13 +51,18 @@ static inline void shfl_wake_ahead(struct shfl_parking *parking, uint32_t whom, 
     }
 }
 
-/* After a release: the lock goes to the successor, and those behind it are next. */
+/* After a release: the lock waits for the successor, which is late if it comes to its round only now. */
+static inline void shfl_make_late(struct shfl_pass *pass) { shfl_store(&shfl_place_of(pass->parking, pass->successor - 1)->late, 1); }
+
+static inline bool shfl_is_late(struct shfl_pass *pass) { return shfl_load(&shfl_place_of(pass->parking, pass->me)->late) != 0; }
+
+/* After that: those behind the successor are next. */
 __attribute__((noinline, unused)) static void shfl_wake_behind_successor(struct shfl_pass *pass) {
-    uint32_t whom = pass->successor - 1;
-    pass->successor = 0;
+    uint32_t whom = pass->successor - 1, count = pass->ahead;
+    pass->successor = pass->ahead = 0;
     if (pass->shuffler) shfl_ring(&shfl_place_of(pass->parking, pass->shuffler - 1)->asleep);
     pass->shuffler = 0;
-    shfl_wake_ahead(pass->parking, whom, SHFL_AHEAD);
+    shfl_wake_ahead(pass->parking, whom, count);
 }
 
 /* What a round has grouped so far: the batch's last, and the one that the walk stands at. */

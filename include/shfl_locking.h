@@ -63,6 +63,7 @@ static inline void shfl_unlock(struct shfl_pass *pass) {
     if (shfl_leave(pass)) {
         while (shfl_step(pass, false)) shfl_hint();
     }
+    if (pass->successor) shfl_make_late(pass);
     if (shfl_load(&parking->head_asleep)) shfl_ring(&parking->head_asleep);
     else if (shfl_load(&parking->outside)) shfl_after_passing(pass);
     if (pass->successor) shfl_wake_behind_successor(pass);

@@ -23,7 +23,7 @@ extern "C" {
 #endif
 
 /* 1 while the thread of a pass sleeps or is about to, else 0; and shfl_ahead.h. Each is on a cache line of its own. */
-struct shfl_place { uint32_t asleep, behind, unused[14]; };
+struct shfl_place { uint32_t asleep, behind, late, unused[13]; };
 
 /* All of it is read and written atomically. What each unlock reads stands in the first 16 bytes. */
 struct shfl_parking {

@@ -11,13 +11,16 @@
 extern "C" {
 #endif
 
-/* For how long a thread looks for its turn before it sleeps, and for how long where more than SHFL_NEAR wait: its turn is far, and
- * the processor is better left to others. */
+/* For how long a thread looks for its turn before it sleeps; for how long where more than SHFL_NEAR wait: its turn is far, and the
+ * processor is better left to others; and for how long again when it was woken: another may have been woken to the same processor. */
 #ifndef SHFL_LOOKING_NS
 #define SHFL_LOOKING_NS 20000
 #endif
 #ifndef SHFL_LOOKING_FAR_NS
 #define SHFL_LOOKING_FAR_NS 2000
+#endif
+#ifndef SHFL_LOOKING_AGAIN_NS
+#define SHFL_LOOKING_AGAIN_NS 5000
 #endif
 #ifndef SHFL_NEAR
 #define SHFL_NEAR 3
@@ -72,7 +75,7 @@ static inline void shfl_sleep_or_announce(struct shfl_looks *looks, bool naps) {
     uint64_t most = naps ? (uint64_t)SHFL_NAP_NS << (looks->naps < 7 ? looks->naps : 7) : SHFL_ASLEEP_NS;
     if (naps) looks->naps++;
     shfl_futex_wait(looks->asleep, 1, most);
-    if (shfl_load(looks->asleep) == 0) looks->until = shfl_clock() + SHFL_LOOKING_NS;
+    if (shfl_load(looks->asleep) == 0) looks->until = shfl_clock() + SHFL_LOOKING_AGAIN_NS;
 }
 
 /* A pause after a step that looked in vain, or ended a round that moved nobody and led to a look for the own turn. */
@@ -109,9 +112,11 @@ static inline void shfl_call(struct shfl_pass *pass, struct shfl_calls *calls, s
     if (calls->last.kind >= SHFL_WATCH_GROUPED) shfl_ring(&shfl_place_of(parking, calls->last.whom)->asleep);
     bool calls_it = watch.kind == SHFL_WATCH_READY || (watch.kind == SHFL_WATCH_GROUPED && !calls->grouped);
     bool slept = calls_it && shfl_ring(&shfl_place_of(parking, watch.whom)->asleep);
-    if (watch.kind == SHFL_WATCH_READY && shfl_turns_are_fast(parking)) {
-        if (slept) shfl_wake_ahead(parking, watch.whom, 1);
+    if (watch.kind == SHFL_WATCH_READY) {
+        bool fast = shfl_turns_are_fast(parking);
+        if (slept && fast) shfl_wake_ahead(parking, watch.whom, 1);
         pass->successor = watch.whom + 1;
+        pass->ahead = fast ? SHFL_AHEAD : 0;
         pass->shuffler = calls->grouped ? calls->batch.last + 1 : 0;
     }
     calls->last = watch;
@@ -127,14 +132,26 @@ static inline void shfl_call(struct shfl_pass *pass, struct shfl_calls *calls, s
     }
 }
 
+/* The answer to what the next step asks: that of the policy. A round that would move nobody is skipped: that of a pass without a policy,
+ * and that of a head that is late, which would end at its first question. After a look in vain the next step is that look again, and
+ * asks nothing. */
+static inline bool shfl_choice(struct shfl_pass *pass, bool looked) {
+    if (!pass->attached) return true;
+    if (looked) return false;
+    uint8_t asks = shfl_ask(pass).kind;
+    if (asks == SHFL_ASK_SKIP && shfl_is_late(pass)) return true;
+    return asks != SHFL_ASK_NOTHING && shfl_answer(pass);
+}
+
 /* Steps until the pass holds the lock and owes no step, answering by the attached policy. The pass has acquired. */
 static inline void shfl_drive_by(struct shfl_pass *pass, bool yields) {
     struct shfl_looks looks = {NULL, 0, 0, 0, yields};
     struct shfl_calls calls = {{0, 0}, false, {0, 0}};
     struct shfl_watch watch = shfl_watch(pass);
-    for (;;) {
-        uint8_t outcome = shfl_advance(pass, pass->attached && shfl_answer(pass));
-        if (outcome == SHFL_IN_VAIN || outcome == SHFL_IN_VAIN_OPEN) {
+    for (bool looked = false;;) {
+        uint8_t outcome = shfl_advance(pass, shfl_choice(pass, looked));
+        looked = outcome == SHFL_IN_VAIN || outcome == SHFL_IN_VAIN_OPEN;
+        if (looked) {
             if (outcome == SHFL_IN_VAIN_OPEN) shfl_disable_stealing(pass);
             shfl_pause_looking(pass, &looks, watch.kind == SHFL_WATCH_OWN_TURN, false);
             continue;

@@ -47,7 +47,7 @@ fi
 
 # without any patience the lock is exact too
 "$cc" -std=gnu11 -O2 -Wall -Wextra -Werror -DSHFL_PAUSES=0 -DSHFL_YIELDS=0 -DSHFL_TRYING_NS=0 -DSHFL_TRYING_AGAIN_NS=0 -DSHFL_TRIES=1 -DSHFL_LOOKING_NS=0 \
-    -DSHFL_LOOKING_FAR_NS=0 -DSHFL_NAP_NS=1 -DSHFL_PASSED=1 -DSHFL_PASSED_NS=0 -I "$top/include" "$top/examples/c/counter.c" \
+    -DSHFL_LOOKING_FAR_NS=0 -DSHFL_LOOKING_AGAIN_NS=0 -DSHFL_NAP_NS=1 -DSHFL_PASSED=1 -DSHFL_PASSED_NS=0 -I "$top/include" "$top/examples/c/counter.c" \
     "$top/include/shfl_heap.c" "$archive" -o "$room/hasty" -lpthread || exit 1
 "$room/hasty" 2000 >"$room/got" || { echo "tests/c.sh: without patience: $(cat "$room/got")" >&2; failed=1; }
 
