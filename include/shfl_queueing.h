@@ -136,11 +136,10 @@ static inline void shfl_call(struct shfl_pass *pass, struct shfl_calls *calls, s
  * and that of a head that is late, which would end at its first question. After a look in vain the next step is that look again, and
  * asks nothing. */
 static inline bool shfl_choice(struct shfl_pass *pass, bool looked) {
-    if (!pass->attached) return true;
     if (looked) return false;
     uint8_t asks = shfl_ask(pass).kind;
-    if (asks == SHFL_ASK_SKIP && shfl_is_late(pass)) return true;
-    return asks != SHFL_ASK_NOTHING && shfl_answer(pass);
+    if (asks == SHFL_ASK_SKIP && (!pass->attached || shfl_is_late(pass))) return true;
+    return pass->attached && asks != SHFL_ASK_NOTHING && shfl_answer(pass);
 }
 
 /* Steps until the pass holds the lock and owes no step, answering by the attached policy. The pass has acquired. */
