@@ -86,8 +86,7 @@ SHFL_COLD struct shfl_stat *shfl_count_anew(struct shfl_counted *at, uint32_t lo
 }
 
 /* The thread with this mark holds the lock alone. Who comes again after itself hands nothing over, whatever its socket is now. */
-SHFL_COLD void shfl_count_hand_over(uint32_t lock, uint32_t mark) {
-    struct shfl_parking *parking = shfl_parking_of(lock);
+SHFL_COLD void shfl_count_hand_over(struct shfl_parking *parking, uint32_t mark) {
     uint32_t last = __atomic_load_n(&parking->last, __ATOMIC_RELAXED);
     if (last != mark) __atomic_store_n(&parking->last, mark, __ATOMIC_RELAXED);
     uint32_t other = last ^ mark;

@@ -99,6 +99,7 @@ struct shfl_thread {
     uint32_t mark;
     uint32_t holding; /* how many locks it has, or is about to take the longer way */
     uint32_t unusual, number; /* bits: why it looks twice when it gives a lock back; its number */
+    uint32_t *giving; /* the lock that it gives back */
     struct shfl_counted *counts;
     struct shfl_again *again;
     uint32_t again_room, again_count;
@@ -207,7 +208,7 @@ int shfl_put_into(uint32_t lock, const void *address, uint32_t class_of);
 
 /* counts.c */
 struct shfl_stat *shfl_count_anew(struct shfl_counted *at, uint32_t lock, uint64_t tag);
-void shfl_count_hand_over(uint32_t lock, uint32_t mark);
+void shfl_count_hand_over(struct shfl_parking *parking, uint32_t mark);
 void shfl_count_waited(struct shfl_thread *me, uint32_t lock, uint64_t since);
 void shfl_count_end(uint32_t lock);
 void shfl_sum_lock(uint32_t lock, struct shfl_stat *out, struct shfl_waits *waits);

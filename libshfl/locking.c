@@ -53,10 +53,13 @@ static SHFL_COLD int other_answer(struct shfl_thread *me, uint32_t *word, uint32
     return answer == SHFL_NO_MEMORY ? ENOMEM : EINVAL;
 }
 
-void shfl_count_taken_anew(struct shfl_thread *me, uint32_t number, bool shared) {
-    uint32_t lock = number - 1;
-    shfl_more(shared ? &shfl_counts_of(me, lock)->taken : &shfl_parking_of(lock)->taken, 1);
-    if (!shared) shfl_count_hand_over(lock, shfl_mark_of(me));
+void shfl_wake_next_behind(struct shfl_thread *me, struct shfl_parking *behind) { shfl_wake_next(me, behind - 1); }
+
+void shfl_count_taken_anew(struct shfl_thread *me, struct shfl_parking *behind, bool shared) {
+    struct shfl_parking *parking = behind - 1;
+    uint32_t lock = (uint32_t)(parking - shfl_process.parkings);
+    shfl_more(shared ? &shfl_counts_of(me, lock)->taken : &parking->taken, 1);
+    if (!shared) shfl_count_hand_over(parking, shfl_mark_of(me));
     shfl_happens(me, lock, shared ? SHFL_TAKES_SHARED : SHFL_TAKES_ALONE);
 }
 
@@ -67,8 +70,8 @@ static int had_not(struct shfl_thread *me, int error) {
 }
 
 /* The thread has the lock. */
-static int had(struct shfl_thread *me, uint32_t *word, uint32_t lock, bool shared) {
-    shfl_count_taken(me, lock + 1, shared);
+static int had(struct shfl_thread *me, const uint32_t *word, bool shared) {
+    shfl_count_taken(me, word, shared);
     shfl_took(me, word);
     return 0;
 }
@@ -83,15 +86,16 @@ SHFL_COLD int shfl_take_first(uint32_t *word, bool shared) {
 }
 
 /* An attempt in the first arena was answered so, which knows no lock of another one; and none is known before its first use. */
-int shfl_take_after(struct shfl_thread *me, uint32_t *word, uint32_t number, bool shared, uint8_t answer, const void *caller) {
-    uint32_t lock = number - 1;
+int shfl_take_after(uint32_t *word, bool shared, uint8_t answer, const void *caller) {
+    struct shfl_thread *me = shfl_me;
+    uint32_t lock = __atomic_load_n(word, __ATOMIC_ACQUIRE) - 1;
     shfl_taking(me);
     if (answer == SHFL_BAD) {
         int error = shfl_number(word, shfl_class_behind(word), &lock);
         if (error) return had_not(me, error);
         answer = shfl_attempt(me, lock, shared);
     }
-    if (answer == SHFL_DONE) return had(me, word, lock, shared);
+    if (answer == SHFL_DONE) return had(me, word, shared);
     if (answer != SHFL_BUSY) return had_not(me, other_answer(me, word, lock, shared, answer, EDEADLK));
     if (shared) shfl_ring(&shfl_parking_of(lock)->head_asleep);
     if (!caller) return had_not(me, EBUSY);
@@ -102,7 +106,7 @@ int shfl_take_after(struct shfl_thread *me, uint32_t *word, uint32_t number, boo
     int error = shfl_wait(me, lock, shared);
     if (rested) shfl_fork_goes_on();
     shfl_count_waited(me, lock, since);
-    return error ? had_not(me, error) : had(me, word, lock, shared);
+    return error ? had_not(me, error) : had(me, word, shared);
 }
 
 /* A reader that tries in vain is counted for a moment. Who wanted to write may have found that, and sleep now beside a free lock; so where somebody sleeps it tries again. */
@@ -122,7 +126,7 @@ int shfl_try(uint32_t *word, bool shared) {
     if (error) return error;
     shfl_taking(me);
     uint8_t answer = try_as(me, lock, shared);
-    if (answer == SHFL_DONE) return had(me, word, lock, shared);
+    if (answer == SHFL_DONE) return had(me, word, shared);
     shfl_not_taken(me);
     if (answer != SHFL_BUSY) return other_answer(me, word, lock, shared, answer, EBUSY);
     shfl_count_contended(me, lock);
@@ -158,7 +162,7 @@ int shfl_take_until(uint32_t *word, bool shared, clockid_t clock, const struct t
     uint8_t answer = shfl_attempt(me, lock, shared);
     if (answer == SHFL_BUSY) error = wait_until(me, lock, shared, clock, deadline);
     else if (answer != SHFL_DONE) return had_not(me, other_answer(me, word, lock, shared, answer, EDEADLK));
-    return error ? had_not(me, error) : had(me, word, lock, shared);
+    return error ? had_not(me, error) : had(me, word, shared);
 }
 
 /* Whether the lock with this number is where it was. The system looks, since the program may have given the memory away. */
@@ -238,20 +242,20 @@ static SHFL_COLD bool leave_number(struct shfl_thread *me, uint32_t *word, uint3
     return true;
 }
 
-static SHFL_COLD int refuse_to_give(uint32_t *word) { return shfl_refuse(EPERM, word, "a thread gives a lock back that it doesn't have"); }
+SHFL_COLD int shfl_refuse_to_give(const uint32_t *word) { return shfl_refuse(EPERM, word, "a thread gives a lock back that it doesn't have"); }
 
 static int give_back_in_place(struct shfl_thread *me, uint32_t *word, uint32_t lock) {
-    if (shfl_release(me, lock) != SHFL_DONE) return refuse_to_give(word);
+    if (shfl_release(me, lock) != SHFL_DONE) return shfl_refuse_to_give(word);
     shfl_given(me, word);
     shfl_wake_next(me, shfl_parking_of(lock));
     return 0;
 }
 
-/* The first arena knows no lock of another one. */
-int shfl_not_given_back(uint32_t *word) {
-    struct shfl_thread *me = shfl_me;
+/* The thread has the lock that it was about to give back. The first arena knows no lock of another one. */
+int shfl_not_given_back(struct shfl_thread *me) {
+    uint32_t *word = me->giving;
     uint32_t number = __atomic_load_n(word, __ATOMIC_ACQUIRE);
-    return me && number > shfl_process.arena_locks ? give_back_in_place(me, word, number - 1) : refuse_to_give(word);
+    return number > shfl_process.arena_locks ? give_back_in_place(me, word, number - 1) : shfl_refuse_to_give(word);
 }
 
 static int give_back_looking(struct shfl_thread *me, uint32_t *word, uint32_t lock) {

@@ -3,13 +3,19 @@
 #ifndef SHFL_LOCKING_H
 #define SHFL_LOCKING_H
 #include "inside.h"
+#pragma GCC visibility push(hidden)
 
-/* The same where this thread has no seat yet, or the lock no number; where an attempt has found what it answers; where a lock was taken again. */
+/* `shfl_me` by a name of its own, for who asks again behind a call: so the compiler finds the place anew, and saves no register for it before. */
+extern __thread struct shfl_thread *shfl_me_again __attribute__((tls_model("initial-exec")));
+
+/* Taking and giving back where this thread has no seat yet, or the lock no number; where an attempt has found what it answers; where a lock was taken again. */
 int shfl_take_first(uint32_t *word, bool shared);
-int shfl_take_after(struct shfl_thread *me, uint32_t *word, uint32_t number, bool shared, uint8_t answer, const void *caller);
+int shfl_take_after(uint32_t *word, bool shared, uint8_t answer, const void *caller);
 int shfl_give_back_other(struct shfl_thread *me, uint32_t *word, uint32_t number);
-int shfl_not_given_back(uint32_t *word);
-void shfl_count_taken_anew(struct shfl_thread *me, uint32_t number, bool shared);
+int shfl_not_given_back(struct shfl_thread *me);
+int shfl_refuse_to_give(const uint32_t *word);
+void shfl_count_taken_anew(struct shfl_thread *me, struct shfl_parking *behind, bool shared);
+void shfl_wake_next_behind(struct shfl_thread *me, struct shfl_parking *behind);
 bool shfl_renumber(struct shfl_thread *me, uint32_t lock);
 void shfl_leave_seat(struct shfl_thread *me); /* process.c: of a thread that ends, with its last lock */
 
@@ -24,28 +30,34 @@ SHFL_IN_LINE struct shfl_counted *shfl_known_at(struct shfl_thread *me, uint32_t
     return at;
 }
 
-/* The parking of the lock of this number, which isn't 0. */
-SHFL_IN_LINE struct shfl_parking *shfl_parking_by(uint32_t number) { return &shfl_process.parkings[(size_t)number - 1]; }
-
-/* Who has the lock alone counts at the lock, and in line if it was the last one, too, and none is recorded; a reader in its own table. */
-SHFL_IN_LINE void shfl_count_taken(struct shfl_thread *me, uint32_t number, bool shared) {
-    struct shfl_parking *parking = shfl_parking_by(number);
-    struct shfl_counted *at = shared ? shfl_known_at(me, number - 1) : NULL;
-    bool counts = shared ? at->tag == shfl_tag(number - 1)
-                         : __atomic_load_n(&parking->last, __ATOMIC_RELAXED) == __atomic_load_n(&me->mark, __ATOMIC_RELAXED);
-    if (SHFL_LIKELY(counts)) shfl_more(shared ? &at->counts.taken : &parking->taken, 1);
-    else shfl_count_taken_anew(me, number, shared);
+/* Behind the parking of the lock of this number, which isn't 0: so the number isn't made smaller first. */
+SHFL_IN_LINE struct shfl_parking *shfl_behind_parking(uint32_t number) {
+    struct shfl_parking *behind = &shfl_process.parkings[number];
+    __asm__("" : "+r"(behind));
+    return behind;
 }
 
-/* Where the word has no number yet, the seat is asked for a lock that isn't there, and refuses it. */
+/* Who has the lock alone counts at the lock, and in line if it was the last one, too, and none is recorded; a reader in its own table. */
+SHFL_IN_LINE void shfl_count_taken(struct shfl_thread *me, const uint32_t *word, bool shared) {
+    uint32_t number = __atomic_load_n(word, __ATOMIC_RELAXED);
+    struct shfl_parking *behind = shfl_behind_parking(number);
+    struct shfl_counted *at = shared ? shfl_known_at(me, number - 1) : NULL;
+    bool counts = shared ? at->tag == shfl_tag(number - 1)
+                         : __atomic_load_n(&behind[-1].last, __ATOMIC_RELAXED) == __atomic_load_n(&me->mark, __ATOMIC_RELAXED);
+    if (SHFL_LIKELY(counts)) shfl_more(shared ? &at->counts.taken : &behind[-1].taken, 1);
+    else shfl_count_taken_anew(me, behind, shared);
+}
+
+/* Where the word has no number yet, the seat is asked for a lock that isn't there, and refuses it. What is known before the attempt is read again behind it: a register that
+ * keeps it would have to be saved and restored, and each instruction between the operations of two locks is waited for. */
 SHFL_IN_LINE int shfl_take(uint32_t *word, bool shared) {
     struct shfl_thread *me = shfl_me;
-    uint32_t number = __atomic_load_n(word, __ATOMIC_ACQUIRE);
     if (!SHFL_LIKELY(me != NULL)) return shfl_take_first(word, shared);
-    uint8_t answer = shfl_seat_attempt(&me->seat, number - 1, shared);
-    if (!SHFL_LIKELY(answer == SHFL_DONE)) return shfl_take_after(me, word, number, shared, answer, SHFL_CALLER(me));
+    uint8_t answer = shfl_seat_attempt(&me->seat, __atomic_load_n(word, __ATOMIC_ACQUIRE) - 1, shared);
+    if (!SHFL_LIKELY(answer == SHFL_DONE)) return shfl_take_after(word, shared, answer, SHFL_CALLER(shfl_me_again));
+    me = shfl_me_again;
     shfl_taken(me, word);
-    shfl_count_taken(me, number, shared);
+    shfl_count_taken(me, word, shared);
     return 0;
 }
 
@@ -53,12 +65,15 @@ SHFL_IN_LINE int shfl_take(uint32_t *word, bool shared) {
 SHFL_IN_LINE int shfl_give_back(uint32_t *word) {
     struct shfl_thread *me = shfl_me;
     uint32_t number = __atomic_load_n(word, __ATOMIC_ACQUIRE);
-    if (!SHFL_LIKELY(me != NULL)) return shfl_not_given_back(word);
+    if (!SHFL_LIKELY(me != NULL)) return shfl_refuse_to_give(word);
     if (!SHFL_LIKELY(__atomic_load_n(&me->unusual, __ATOMIC_RELAXED) == 0)) return shfl_give_back_other(me, word, number);
-    if (!SHFL_LIKELY(shfl_seat_release(&me->seat, number - 1) == SHFL_DONE)) return shfl_not_given_back(word);
-    shfl_given(me, word);
-    struct shfl_parking *parking = shfl_parking_by(number);
-    if (!SHFL_LIKELY(__atomic_load_n(&parking->sleepers, __ATOMIC_SEQ_CST) == 0)) shfl_wake_next(me, parking);
+    me->giving = word;
+    if (!SHFL_LIKELY(shfl_seat_release(&me->seat, number - 1) == SHFL_DONE)) return shfl_not_given_back(shfl_me_again);
+    me = shfl_me_again;
+    shfl_given(me, me->giving);
+    struct shfl_parking *behind = shfl_behind_parking(number);
+    if (!SHFL_LIKELY(__atomic_load_n(&behind[-1].sleepers, __ATOMIC_SEQ_CST) == 0)) shfl_wake_next_behind(me, behind);
     return 0;
 }
+#pragma GCC visibility pop
 #endif

@@ -8,6 +8,7 @@
 
 struct shfl_process shfl_process;
 __thread struct shfl_thread *shfl_me;
+extern __thread struct shfl_thread *shfl_me_again __attribute__((alias("shfl_me")));
 
 /* This thread has begun to end. It may use locks still, and libc may have called its last destructor, so its seat goes back with its last lock. */
 static __thread bool ends __attribute__((tls_model("initial-exec")));

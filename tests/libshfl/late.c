@@ -11,7 +11,7 @@ static void use(shfl_mutex_t *lock) { IS(shfl_mutex_lock(lock) || shfl_mutex_unl
 int main(void) {
     use(&used);
     use(&gone);
-    struct shfl_parking *parking = shfl_parking_by(gone.number);
+    struct shfl_parking *parking = shfl_parking_of(gone.number - 1);
     for (int r = 0; r < 10; r++) {
         parking->outside = 1; /* as it was when the one before looked */
         IS(shfl_mutex_destroy(&gone), 0);
@@ -22,7 +22,7 @@ int main(void) {
         IS(fresh[0].number != fresh[1].number && fresh[0].number != used.number && fresh[1].number != used.number, 1);
         IS(shfl_mutex_destroy(&fresh[1]) || shfl_mutex_destroy(&fresh[0]), 0);
         use(&gone);
-        IS(shfl_parking_by(gone.number) == parking, 1);
+        IS(shfl_parking_of(gone.number - 1) == parking, 1);
     }
     puts("who looks late whom to wake disturbs no other lock");
     return 0;
