@@ -17,15 +17,6 @@ use shfl_core::asks::attempt_access;
 use shfl_core::words::{Access, Word};
 use shfl_line::Mode;
 
-// The word that refuses an attempt, by a call out of line: so what comes where the lock is free stands right behind the look.
-#[cold]
-#[inline(never)]
-fn refused_by(word: u64) -> u64
-    ensures { result ≡ word }
-{
-    word
-}
-
 /// The first step of an attempt of a seat that has no step to make, on the word at this place. A writer looks at the word before its
 /// operation, and one that isn't 0 refuses it there: a processor begins an operation that may change a word only when all before it is
 /// over, and a load at once, so the word is on its way while what stands before is still under way, of several locks at a time; and who
@@ -73,7 +64,7 @@ pub fn attempt_once<V, M: AttemptTerms>(
                 shared, seat, at, look,
             );
             if word != 0 {
-                return refused_by(word);
+                return word;
             }
             perform_at::<Option<V>, SeatView, Opening, LawfulArena, AttemptPlay<M>>(
                 shared, seat, at, access,
