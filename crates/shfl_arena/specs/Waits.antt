@@ -9,7 +9,7 @@ use Rattle.shfl_line.specs.Line.{is_write}
 use Rattle.shfl_core.specs.Asking.{answer_of}
 use Rattle.shfl_core.specs.Plan.{moving}
 use Rattle.shfl_laws.specs.Holds.{is_ending}
-use Rattle.shfl_arena.specs.declared.trying.TheConstants.{FEW_ATTEMPTS}
+use Rattle.shfl_arena.specs.declared.trying.TheConstants.{MOST_ATTEMPTS}
 use Rattle.shfl_arena.specs.declared.view.Decision.{Decision}
 use Rattle.shfl_arena.specs.Threads.{mode_held}
 use Rattle.shfl_arena.specs.SeatModels.{SeatModel, entering}
@@ -26,7 +26,7 @@ AsksInRounds anchor old new told told' = AsksBy (answers_of anchor) old new told
 
 -- how many attempts a seat makes at most before it queues, where the chooser may move waiters up or may not
 abbrev pub attempts_before : Bool → ℕ
-attempts_before moves_waiters = cond moves_waiters 1 FEW_ATTEMPTS
+attempts_before moves_waiters = cond moves_waiters 1 MOST_ATTEMPTS
 
 -- a seat that tried so often at most to take a lock in a mode without queueing, and holds what it held
 pub record TriedInVain {X : Type 0} (mode : Mode) (attempts : ℕ) (old now : SeatModel X) : Type 0 where

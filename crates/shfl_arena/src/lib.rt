@@ -30,6 +30,6 @@ pub use laws::{
 pub use performing::perform;
 pub use seats::ArenaSeat;
 pub use shape::Shape;
-pub use trying::FEW_ATTEMPTS;
+pub use trying::MOST_ATTEMPTS;
 pub use view::{Decision, ThreadView};
 pub use waiting::{free, wait_for};

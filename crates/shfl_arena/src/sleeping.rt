@@ -14,13 +14,19 @@ pub(crate) fn stand_of(phase: Phase) -> Stand {
 }
 
 impl<V: Drop> Arena<V> {
-    /// The seat at the lock of its last call, as its pauses know it.
-    pub(crate) fn waiter(&self, seat: &ArenaSeat<V>) -> Waiter<'_> {
+    /// The seat at this lock, as its pauses know it.
+    pub(crate) fn waiter_at(&self, seat: &ArenaSeat<V>, lock: u32) -> Waiter<'_> {
         Waiter {
             number: seat.number(),
+            lock,
             sleepers: &self.sleepers,
-            front: self.fronts.of(seat.lock()),
+            front: self.fronts.of(lock),
         }
+    }
+
+    /// The seat at the lock of its last call.
+    pub(crate) fn waiter(&self, seat: &ArenaSeat<V>) -> Waiter<'_> {
+        self.waiter_at(seat, seat.lock())
     }
 
     // Wakes the thread that a step has made the head of the lock's queue.
@@ -72,12 +78,12 @@ impl<V: Drop> Arena<V> {
         }
     }
 
-    /// Wakes the head of a lock's queue where it sleeps, and those whose turn comes after the next one. It is made for whoever has just
-    /// freed the lock; where nobody waits it loads one word.
+    /// Wakes the head of a lock's queue where it sleeps, or one that sleeps outside it, and those whose turn comes after the next one. It is made for the
+    /// thread of this number when it has just freed the lock; where nobody waits it loads two words.
     #[inline(always)]
-    pub(crate) fn rouse_after(&self, lock: u32) {
+    pub(crate) fn rouse_after(&self, lock: u32, number: u32) {
         if let Some(front) = self.fronts.of(lock) {
-            self.sleepers.after_free(front);
+            self.sleepers.after_free(front, lock, number);
         }
     }
 }

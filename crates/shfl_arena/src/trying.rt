@@ -7,30 +7,42 @@ ghost use Rattle.shfl_arena.specs.Waits.{TookAtOnce, TriedInVain, WaitsFor, atte
 
 use crate::arena::Arena;
 use crate::seats::ArenaSeat;
-use shfl_line::{Form, Mode};
+use shfl_line::Mode;
 use std::sync::Wait;
-use waiter_sleep::{give_way, spins_after};
+use waiter_sleep::{Attempted, Tries};
 
-/// How many attempts a seat makes at most before it queues, where the chooser moves nobody up.
-pub const FEW_ATTEMPTS: u32 = 32;
+/// How many attempts a seat makes at most before it queues, where the chooser moves nobody up. Mostly it makes some ten, and sleeps in between.
+pub const MOST_ATTEMPTS: u32 = 1000;
 
 /// How many attempts a seat makes at most before it queues, where the chooser may move waiters up or may not.
 #[inline(always)]
 pub(crate) fn attempts_before(moves_waiters: bool) -> u32
     ensures { result ≡ attempts_before moves_waiters }
 {
-    if moves_waiters { 1 } else { FEW_ATTEMPTS }
+    if moves_waiters { 1 } else { MOST_ATTEMPTS }
 }
 
-// Lets others go on after this attempt.
-fn back_off<Rt: Wait>(rt: &Rt, form: Form, tried: u32) {
-    if !spins_after(tried) {
-        give_way(rt, form, tried);
+// What comes after an attempt in vain at a lock: whether the seat tries again.
+fn tries_again<V: Drop, Rt: Wait>(
+    rt: &Rt,
+    arena: &Arena<V>,
+    seat: &ArenaSeat<V>,
+    lock: u32,
+    tries: &mut Tries,
+) -> bool {
+    let waiter = arena.waiter_at(seat, lock);
+    match tries.after_attempt(&waiter) {
+        Attempted::Again => true,
+        Attempted::Queues => false,
+        Attempted::GivesWay => {
+            tries.give_way(rt, &waiter);
+            true
+        }
     }
 }
 
-/// Makes at most so many attempts to take a lock without queueing: whether the seat holds it. Each attempt fails while stealing is
-/// disabled, as it is while others queue.
+/// Makes at most so many attempts to take a lock without queueing, with the pauses that `tries` has between them: whether the seat holds it. Each attempt
+/// fails while stealing is disabled, as it is while others queue.
 pub(crate) fn try_first<V: Drop, Rt: Wait>(
     rt: &Rt,
     arena: &Arena<V>,
@@ -38,6 +50,7 @@ pub(crate) fn try_first<V: Drop, Rt: Wait>(
     lock: u32,
     mode: Mode,
     attempts: u32,
+    tries: &mut Tries,
 ) -> bool
     requires arena { seat.old.arena ≡ arena.now.id }
     requires rests { plan.moving seat.old.own ≡ false }
@@ -54,7 +67,9 @@ pub(crate) fn try_first<V: Drop, Rt: Wait>(
         if seat.attempt(arena, lock, mode).is_ok() {
             return true;
         }
-        back_off(rt, seat.form(), tried);
+        if !tries_again(rt, arena, seat, lock, tries) {
+            return false;
+        }
     }
     false
 }

@@ -18,7 +18,7 @@ use crate::trying::{attempts_before, try_first};
 use shfl_core::{Ask, Nap, Phase};
 use shfl_line::{Attr, Chooser, Mode};
 use std::sync::Wait;
-use waiter_sleep::Pauses;
+use waiter_sleep::{Pauses, Tries};
 
 // The policy's answer to what the next step asks. The first question of a round opens it.
 fn answer<C: Chooser, Rt: Wait>(rt: &Rt, chooser: &mut C, anchor: &Attr, ask: Ask) -> bool
@@ -89,7 +89,7 @@ fn keep_disabled<V: Drop>(arena: &Arena<V>, seat: &mut ArenaSeat<V>, lock: u32, 
 }
 
 /// Takes a lock that the seat doesn't hold, in a mode, and waits until it holds the lock and owes no step. It tries without queueing, once
-/// where the chooser may move waiters up and else a few times (`FEW_ATTEMPTS`), and then queues; while it tries it asks nothing. The
+/// where the chooser may move waiters up and else up to `MOST_ATTEMPTS` times, and then queues; while it tries it asks nothing. The
 /// chooser answers what the steps ask: it is opened before a round's first question, and closed after the round's last step. `anchor`
 /// has the attributes of the thread. A step that looked in vain is followed by a pause, and no other but the last of a round that moved
 /// nobody: the thread spins, and then sleeps until it is made ready, or finds the lock freed, or for a while. At the queue's head a look in vain that
@@ -117,14 +117,18 @@ pub fn wait_for<V: Drop, C: Chooser, Rt: Wait>(
         (C.told chooser.old) (C.told chooser.new) }
 {
     let attempts = attempts_before(chooser.may_move_waiters());
-    if try_first(rt, arena, seat, lock, mode, attempts) {
+    let mut tries = Tries::begin(mode);
+    if try_first(rt, arena, seat, lock, mode, attempts, &mut tries) {
+        tries.end(rt, &arena.waiter_at(seat, lock));
         return;
     }
+    tries.queue(rt, &arena.waiter_at(seat, lock));
     let _ = seat.acquire(lock, mode);
     let mut pauses = Pauses::begin(&arena.waiter(seat));
     for _ in rt.forever() {
         if !seat.moving() {
             pauses.end(&arena.waiter(seat));
+            tries.end(rt, &arena.waiter_at(seat, lock));
             return;
         }
         let outcome = step_on(rt, arena, seat, anchor, chooser);
@@ -147,5 +151,5 @@ pub fn free<V: Drop>(arena: &Arena<V>, seat: &mut ArenaSeat<V>, lock: u32, mode:
     ensures { Frees lock mode seat.old seat.new }
 {
     seat.leave(arena, lock, mode);
-    arena.rouse_after(lock);
+    arena.rouse_after(lock, seat.number());
 }

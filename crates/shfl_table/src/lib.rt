@@ -35,7 +35,7 @@ pub use outcomes::Outcome;
 pub use passes::Pass;
 pub use performing::perform;
 pub use plain_words::{a_board_in_plain_words, what_threads_did_is_a_run};
-pub use queueing::{FEW_ATTEMPTS, Queueing};
+pub use queueing::{MOST_ATTEMPTS, Queueing};
 pub use view::{Decision, Given, Part};
 pub use visits::Visit;
 pub use waiting::{free, wait_by, wait_for};

@@ -9,12 +9,12 @@ pub enum Queueing {
     AtOnce,
     /// After so many attempts in vain.
     After { attempts: u32 },
-    /// At once where the chooser may move waiters up, and else after a few attempts.
+    /// At once where the chooser may move waiters up, and else after up to `MOST_ATTEMPTS` attempts.
     ByPolicy,
 }
 
-/// How many attempts are a few.
-pub const FEW_ATTEMPTS: u32 = 32;
+/// How many attempts a pass makes at most before it queues, where its chooser moves nobody up. Mostly it makes some ten, and sleeps in between.
+pub const MOST_ATTEMPTS: u32 = 1000;
 
 /// How many attempts a pass makes at most before it queues, where the chooser may move waiters up or may not.
 #[inline(always)]
@@ -24,6 +24,6 @@ pub(crate) fn attempts_before(queueing: Queueing, moves_waiters: bool) -> u32
     match queueing {
         Queueing::AtOnce => 0,
         Queueing::After { attempts } => attempts,
-        Queueing::ByPolicy => { if moves_waiters { 0 } else { FEW_ATTEMPTS } }
+        Queueing::ByPolicy => { if moves_waiters { 0 } else { MOST_ATTEMPTS } }
     }
 }

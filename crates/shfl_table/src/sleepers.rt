@@ -22,6 +22,7 @@ impl<V: Kept + Drop> SharedBoard<V> {
     pub(crate) fn waiter(&self, number: u32) -> Waiter<'_> {
         Waiter {
             number,
+            lock: 0,
             sleepers: &self.sleepers,
             front: Some(&self.front),
         }

@@ -10,25 +10,37 @@ use crate::passes::Pass;
 use shfl_line::Mode;
 use std::sync::Wait;
 use syn_outer::{Gate, Point};
-use waiter_sleep::{give_way, spins_after};
+use waiter_sleep::{Attempted, Tries};
 
-// Lets others go on after this attempt. The gate is told before the processor is given away.
-fn back_off<V: Kept + Drop, G: Gate, Rt: Wait>(rt: &Rt, pass: &Pass<V>, tried: u32, gate: &G) {
-    if spins_after(tried) {
-        return;
+// What comes after an attempt in vain: whether the pass tries again. The gate is told before the processor is given away.
+fn tries_again<V: Kept + Drop, G: Gate, Rt: Wait>(
+    rt: &Rt,
+    board: &SharedBoard<V>,
+    pass: &Pass<V>,
+    tries: &mut Tries,
+    gate: &G,
+) -> bool {
+    let waiter = board.waiter(pass.number());
+    match tries.after_attempt(&waiter) {
+        Attempted::Again => true,
+        Attempted::Queues => false,
+        Attempted::GivesWay => {
+            gate.at(rt, pass.number(), Point::GivesWay);
+            tries.give_way(rt, &waiter);
+            true
+        }
     }
-    gate.at(rt, pass.number(), Point::GivesWay);
-    give_way(rt, pass.rules.form, tried);
 }
 
-/// Makes at most so many attempts to take the lock without queueing: whether the pass holds it. Each attempt fails while stealing is
-/// disabled, as it is while others queue.
+/// Makes at most so many attempts to take the lock without queueing, with the pauses that `tries` has between them: whether the pass holds it. Each
+/// attempt fails while stealing is disabled, as it is while others queue.
 pub(crate) fn try_first<V: Kept + Drop, G: Gate, Rt: Wait>(
     rt: &Rt,
     board: &SharedBoard<V>,
     pass: &mut Pass<V>,
     mode: Mode,
     attempts: u32,
+    tries: &mut Tries,
     gate: &G,
 ) -> bool
     requires board { pass.old.board ≡ board.now.id }
@@ -44,7 +56,9 @@ pub(crate) fn try_first<V: Kept + Drop, G: Gate, Rt: Wait>(
         if pass.attempt(board, mode).is_ok() {
             return true;
         }
-        back_off(rt, pass, tried, gate);
+        if !tries_again(rt, board, pass, tries, gate) {
+            return false;
+        }
     }
     false
 }

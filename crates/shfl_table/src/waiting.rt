@@ -24,7 +24,7 @@ use shfl_core::{Ask, Nap, Phase};
 use shfl_line::{Attr, Chooser, Mode};
 use std::sync::Wait;
 use syn_outer::{Gate, Point};
-use waiter_sleep::Pauses;
+use waiter_sleep::{Pauses, Tries};
 
 // The policy's answer to what the next step asks. The first question of a round opens it.
 fn answer<C: Chooser, Rt: Wait>(rt: &Rt, chooser: &mut C, anchor: &Attr, ask: Ask) -> bool
@@ -163,8 +163,8 @@ fn keep_disabled<V: Kept + Drop>(board: &SharedBoard<V>, pass: &mut Pass<V>, out
     }
 }
 
-/// Takes the lock in a mode, and waits until the pass holds it and owes no step. `queueing` says how often it tries before it joins the
-/// queue; while it tries it asks nothing. The chooser answers what the steps ask: it is opened before a round's first question, and
+/// Takes the lock in a mode, and waits until the pass holds it and owes no step. `queueing` says how often it tries at most before it joins the
+/// queue, and it may queue sooner; while it tries it asks nothing. The chooser answers what the steps ask: it is opened before a round's first question, and
 /// closed after the round's last step. `anchor` has the attributes of the pass. The gate is told when the pass has joined the queue,
 /// after each round, and before it gives its processor away. A step that looked in vain is followed by a pause, and no other but the last of a round that moved nobody: the
 /// pass spins, and then sleeps until it is made ready, or finds the lock freed, or for a while.
@@ -193,14 +193,18 @@ pub fn wait_by<V: Kept + Drop, C: Chooser, G: Gate, Rt: Wait>(
         (C.told chooser.old) (C.told chooser.new) }
 {
     let attempts = attempts_before(queueing, chooser.may_move_waiters());
-    if try_first(rt, board, pass, mode, attempts, gate) {
+    let mut tries = Tries::begin(mode);
+    if try_first(rt, board, pass, mode, attempts, &mut tries, gate) {
+        tries.end(rt, &board.waiter(pass.number()));
         return;
     }
+    tries.queue(rt, &board.waiter(pass.number()));
     let _ = pass.acquire(mode);
     let mut pauses = Pauses::begin(&board.waiter(pass.number()));
     for _ in rt.forever() {
         if !pass.moving() {
             pauses.end(&board.waiter(pass.number()));
+            tries.end(rt, &board.waiter(pass.number()));
             return;
         }
         let outcome = step_on(rt, board, pass, anchor, chooser, gate);
@@ -210,7 +214,7 @@ pub fn wait_by<V: Kept + Drop, C: Chooser, G: Gate, Rt: Wait>(
     unreachable!()
 }
 
-/// Waits as `wait_by` does: it queues at once where the chooser may move waiters up, and else tries a few times before.
+/// Waits as `wait_by` does: it queues at once where the chooser may move waiters up, and else tries before, up to `MOST_ATTEMPTS` times.
 pub fn wait_for<V: Kept + Drop, C: Chooser, G: Gate, Rt: Wait>(
     rt: &Rt,
     board: &SharedBoard<V>,
@@ -246,7 +250,8 @@ pub fn wait_for<V: Kept + Drop, C: Chooser, G: Gate, Rt: Wait>(
     );
 }
 
-/// Frees the lock, with all values put back, and with one history, and wakes the queue's head where that sleeps, and those who come next.
+/// Frees the lock, with all values put back, and with one history, and wakes the queue's head where that sleeps, and those who come next, or one that sleeps
+/// outside the queue.
 #[inline(always)]
 pub fn free<V: Kept + Drop>(board: &SharedBoard<V>, pass: &mut Pass<V>)
     requires board { pass.old.board ≡ board.now.id }
@@ -263,5 +268,5 @@ pub fn free<V: Kept + Drop>(board: &SharedBoard<V>, pass: &mut Pass<V>)
 {
     let _ = pass.release();
     let _ = pass.step(board, false);
-    board.sleepers.after_free(&board.front);
+    board.sleepers.after_free(&board.front, 0, pass.number());
 }

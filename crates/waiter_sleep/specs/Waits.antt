@@ -1,16 +1,7 @@
 -- What a waiter does between two looks.
 use Rattle.std.specs.Prelude.{Bool, true, false}
-use Rattle.shfl_line.specs.declared.events.Form.{Form}
-use Rattle.shfl_line.specs.declared.events.Form.TheVariants.{Spin, Rw, Park, RwPark}
 use Rattle.waiter_sleep.specs.declared.pauses.Pause.{Pause}
 use Rattle.waiter_sleep.specs.declared.pauses.Pause.TheVariants.{Look, Yield, Sleep}
-
--- the waiters of a form sleep
-abbrev pub sleeps : Form → Bool
-sleeps Spin = false
-sleeps Rw = false
-sleeps Park = true
-sleeps RwPark = true
 
 -- the waiter gives its processor away
 abbrev pub gives_way : Pause → Bool

@@ -1,4 +1,6 @@
 //! What whoever frees a lock looks at: who sleeps at the head of its queue, and whom it has made the head.
+use crate::outside::Outside;
+use crate::passing::Passing;
 use crossbeam_utils::CachePadded;
 use std::sync::atomic::{AtomicU64, Ordering};
 
@@ -19,12 +21,15 @@ struct Front {
     noted: AtomicU64,
     // How many wait in the queue.
     waiting: AtomicU64,
+    // Who waits outside it.
+    outside: Outside,
 }
 
 /// What is known of a queue's front. Where several queues share one, each may overwrite what another has noted.
 #[derive(Drop)]
 pub struct QueueFront {
     front: CachePadded<Front>,
+    passing: CachePadded<Passing>,
 }
 
 // The waiter whose number plus 1 this is, if it is not 0.
@@ -42,7 +47,9 @@ impl QueueFront {
             front: CachePadded::new(Front {
                 noted: AtomicU64::new(0),
                 waiting: AtomicU64::new(0),
+                outside: Outside::new(),
             }),
+            passing: CachePadded::new(Passing::new()),
         }
     }
 
@@ -50,6 +57,18 @@ impl QueueFront {
     fn noted(&self) -> &AtomicU64 {
         let front: &Front = &self.front;
         &front.noted
+    }
+
+    /// Who waits for the lock outside its queue.
+    #[inline(always)]
+    pub(crate) fn outside(&self) -> &Outside {
+        let front: &Front = &self.front;
+        &front.outside
+    }
+
+    /// How many holds have passed those that sleep there.
+    pub(crate) fn passing(&self) -> &Passing {
+        &self.passing
     }
 
     // Puts an entry into a half of the word, where the half has `only`, or whatever it has.

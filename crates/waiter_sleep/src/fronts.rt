@@ -6,7 +6,7 @@ use std::alloc::Global;
 // How many fronts serve the queues of many locks.
 const MOST_FRONTS: u32 = 64;
 
-/// The fronts of many locks' queues: up to 64, of 128 bytes each, so that far locks share one. Its hints are then those of whoever came last, and a holder
+/// The fronts of many locks' queues: up to 64, of 256 bytes each, so that far locks share one. Its hints are then those of whoever came last, and a holder
 /// may wake a waiter of another lock, which looks once more than it needs to.
 #[derive(Drop)]
 pub struct QueueFronts {

@@ -5,15 +5,19 @@
 mod backing_off;
 mod front;
 mod fronts;
+mod outside;
+mod passing;
 mod pauses;
 mod sleeper;
 mod sleepers;
+mod tries;
 mod waiter;
 
-pub use backing_off::{give_way, sleeps, spins_after};
+pub use backing_off::spins_after;
 pub use front::QueueFront;
 pub use fronts::QueueFronts;
 pub use pauses::{Pause, Pauses, Stand};
 pub use sleeper::Sleeper;
 pub use sleepers::Sleepers;
+pub use tries::{Attempted, Tries};
 pub use waiter::Waiter;

@@ -22,6 +22,8 @@ struct Place {
     state: AtomicU64,
     // The number plus 1 of the waiter behind it in the queue, or 0.
     behind: AtomicU64,
+    // 1 where the waiter has called another one to queue since it waited last.
+    aside: AtomicU64,
 }
 
 /// Where one waiter sleeps, and which waiter stands behind it in the queue. Its words have cache lines to themselves: it takes 128 bytes.
@@ -37,6 +39,7 @@ impl Sleeper {
             place: CachePadded::new(Place {
                 state: AtomicU64::new(EMPTY),
                 behind: AtomicU64::new(0),
+                aside: AtomicU64::new(0),
             }),
         }
     }
@@ -66,6 +69,22 @@ impl Sleeper {
             0 => None,
             next => Some(((next - 1) & 4294967295) as u32),
         }
+    }
+
+    // Its waiter lets one pass the next time that it waits.
+    pub(crate) fn set_aside(&self) {
+        let place: &Place = &self.place;
+        place.aside.store(1, Ordering::SeqCst);
+    }
+
+    // Whether it does so now.
+    pub(crate) fn takes_aside(&self) -> bool {
+        let place: &Place = &self.place;
+        let aside = place.aside.load(Ordering::SeqCst) != 0;
+        if aside {
+            place.aside.store(0, Ordering::SeqCst);
+        }
+        aside
     }
 
     // Whether the state was this one, and is the other now.

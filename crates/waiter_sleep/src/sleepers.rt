@@ -2,6 +2,7 @@
 ghost use Rattle.std.specs.Prelude.{◌≡◌};
 
 use crate::front::QueueFront;
+use crate::passing::Calls;
 use crate::sleeper::Sleeper;
 use shfl_line::NoMemory;
 use std::alloc::Global;
@@ -99,20 +100,47 @@ impl Sleepers {
         }
     }
 
-    // Wakes the head where it sleeps, and those whose turn comes after the next one.
-    fn rouse_noted(&self, front: &QueueFront) {
-        self.rouse_head(front);
+    // Calls one that sleeps outside the queue, where it is its turn. Whoever calls one to queue steps aside when it comes again.
+    fn call_outside(&self, front: &QueueFront, lock: u32, number: u32) {
+        let outside = front.outside();
+        if !outside.sleeps_for(lock) {
+            return;
+        }
+        match front.passing().passes(outside.is_left_alone()) {
+            Calls::Nobody => {}
+            Calls::One => {
+                let _ = outside.call(lock);
+            }
+            Calls::OneToQueue => {
+                if outside.call(lock) {
+                    if let Some(sleeper) = self.place(number) {
+                        sleeper.set_aside();
+                    }
+                }
+            }
+        }
+    }
+
+    // Wakes the head where it sleeps, or else one that sleeps outside the queue; and those whose turn comes after the next one.
+    fn rouse_noted(&self, front: &QueueFront, lock: u32, number: u32) {
+        match front.asleep() {
+            Some(head) => {
+                let _ = self.rouse(head);
+            }
+            None => self.call_outside(front, lock, number),
+        }
         if let Some(successor) = front.take_successor() {
             self.rouse_behind(successor, AHEAD);
         }
     }
 
-    /// Wakes the queue's head where it sleeps, and those whose turn comes after the next one. It is made for whoever has just freed the
-    /// lock, so that nobody waits for it; where nothing is noted it loads one word.
+    /// Wakes the queue's head where it sleeps, or calls one that sleeps outside it where none is there; and wakes those whose turn comes after the next
+    /// one. It is made for the waiter of this number when it has just freed this lock, so that nobody waits for it; where nobody waits it loads
+    /// two words.
     #[inline(always)]
-    pub fn after_free(&self, front: &QueueFront) {
-        if front.is_noted() {
-            self.rouse_noted(front);
+    pub fn after_free(&self, front: &QueueFront, lock: u32, number: u32) {
+        if front.is_noted() || front.outside().sleeps() {
+            self.rouse_noted(front, lock, number);
         }
     }
 }

@@ -8,6 +8,8 @@ use crate::sleepers::Sleepers;
 pub struct Waiter<'a> {
     /// Its number among the sleepers.
     pub number: u32,
+    /// The number of the lock among those that share fronts.
+    pub lock: u32,
     pub sleepers: &'a Sleepers,
     pub front: Option<&'a QueueFront>,
 }
@@ -16,6 +18,14 @@ impl Waiter<'_> {
     // Where it sleeps.
     pub(crate) fn place(&self) -> Option<&Sleeper> {
         self.sleepers.place(self.number)
+    }
+
+    // Whether it has called another one to queue since it waited last.
+    pub(crate) fn steps_aside(&self) -> bool {
+        match self.place() {
+            Some(sleeper) => sleeper.takes_aside(),
+            None => false,
+        }
     }
 
     // It is about to sleep at the queue's head.

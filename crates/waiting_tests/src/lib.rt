@@ -9,3 +9,5 @@ mod orders;
 mod rounds;
 #[cfg(test)]
 mod sleeping;
+#[cfg(test)]
+mod trying;

@@ -2,7 +2,7 @@
 use crate::checks::{holds, same};
 use std::alloc::Global;
 use std::process::Abort;
-use waiter_sleep::{Pause, Pauses, QueueFront, QueueFronts, Sleepers, Stand, Waiter, spins_after};
+use waiter_sleep::{Pause, Pauses, QueueFront, QueueFronts, Sleepers, Stand, Waiter};
 
 // Places for so many waiters.
 fn places(rt: &impl Abort, alloc: Global, count: u32) -> Sleepers {
@@ -37,6 +37,7 @@ impl Queue {
     fn waiter(&self, number: u32) -> Waiter<'_> {
         Waiter {
             number,
+            lock: 0,
             sleepers: &self.sleepers,
             front: Some(&self.front),
         }
@@ -111,7 +112,7 @@ fn who_frees_the_lock_wakes_the_next_three(rt: HostRuntime) {
     let sleepers = in_a_row(&rt, rt.alloc());
     let front = QueueFront::new();
     all_but_the_head_sleep(&rt, &sleepers, &front);
-    sleepers.after_free(&front);
+    sleepers.after_free(&front, 0, 9);
     for number in 1..4 {
         was_woken(&rt, &sleepers, number);
     }
@@ -143,7 +144,7 @@ fn who_frees_the_lock_wakes_the_head_that_sleeps(rt: HostRuntime) {
     front.announce(3);
     is_asleep(&rt, &front, Some(3));
     sleeps(&rt, &sleepers, 3);
-    sleepers.after_free(&front);
+    sleepers.after_free(&front, 0, 9);
     was_woken(&rt, &sleepers, 3);
     front.rise(2);
     is_asleep(&rt, &front, Some(3));
@@ -221,7 +222,7 @@ fn the_head_that_sleeps_is_noted(rt: HostRuntime) {
     let first = first_pause(&mut pauses, &waiter, Stand::Head);
     same(&rt, &first, &(1001, Pause::Sleep { micros: 50 }));
     is_asleep(&rt, &queue.front, Some(2));
-    queue.sleepers.after_free(&queue.front);
+    queue.sleepers.after_free(&queue.front, 0, 9);
     pauses.take(&rt, &waiter, first.1);
     same(&rt, &pauses.after_look(&waiter, Stand::Head), &Pause::Look);
     pauses.end(&waiter);
@@ -233,6 +234,7 @@ fn a_waiter_without_a_place_yields(rt: HostRuntime) {
     let sleepers = places(&rt, rt.alloc(), 0);
     let waiter = Waiter {
         number: 1,
+        lock: 0,
         sleepers: &sleepers,
         front: None,
     };
@@ -243,12 +245,4 @@ fn a_waiter_without_a_place_yields(rt: HostRuntime) {
     let leaving = first_pause(&mut pauses, &waiter, Stand::Leaving);
     same(&rt, &leaving, &(1000, Pause::Yield));
     pauses.end(&waiter);
-}
-
-#[test]
-fn the_first_ten_attempts_are_followed_by_spinning(rt: HostRuntime) {
-    holds(&rt, spins_after(0));
-    holds(&rt, spins_after(9));
-    holds(&rt, !spins_after(10));
-    holds(&rt, !spins_after(u32::MAX));
 }
