@@ -18,7 +18,7 @@ use crate::trying::{attempts_before, try_first};
 use shfl_core::{Ask, Nap, Phase};
 use shfl_line::{Attr, Chooser, Mode};
 use std::sync::Wait;
-use waiter_sleep::{Pauses, Tries};
+use waiter_sleep::{Pauses, tries_of};
 
 // The policy's answer to what the next step asks. The first question of a round opens it.
 fn answer<C: Chooser, Rt: Wait>(rt: &Rt, chooser: &mut C, anchor: &Attr, ask: Ask) -> bool
@@ -117,11 +117,11 @@ pub fn wait_for<V: Drop, C: Chooser, Rt: Wait>(
         (C.told chooser.old) (C.told chooser.new) }
 {
     let attempts = attempts_before(chooser.may_move_waiters());
-    let mut tries = Tries::begin(mode);
-    if try_first(rt, arena, seat, lock, mode, attempts, &mut tries) {
-        tries.end(rt, &arena.waiter_at(seat, lock));
+    let mut tried = None;
+    if try_first(rt, arena, seat, lock, mode, attempts, &mut tried) {
         return;
     }
+    let mut tries = tries_of(tried, mode);
     tries.queue(rt, &arena.waiter_at(seat, lock));
     let _ = seat.acquire(lock, mode);
     let mut pauses = Pauses::begin(&arena.waiter(seat));

@@ -10,18 +10,20 @@ use crate::passes::Pass;
 use shfl_line::Mode;
 use std::sync::Wait;
 use syn_outer::{Gate, Point};
-use waiter_sleep::{Attempted, Tries};
+use waiter_sleep::{Attempted, Tries, tries_of};
 
-// What comes after an attempt in vain: whether the pass tries again. The gate is told before the processor is given away.
+// What comes after an attempt in vain, and whether the pass tries again. The gate is told before the processor is given away.
 fn tries_again<V: Kept + Drop, G: Gate, Rt: Wait>(
     rt: &Rt,
     board: &SharedBoard<V>,
     pass: &Pass<V>,
-    tries: &mut Tries,
+    mode: Mode,
+    tries: Option<Tries>,
     gate: &G,
-) -> bool {
+) -> (Tries, bool) {
+    let mut tries = tries_of(tries, mode);
     let waiter = board.waiter(pass.number());
-    match tries.after_attempt(&waiter) {
+    let goes_on = match tries.after_attempt(&waiter) {
         Attempted::Again => true,
         Attempted::Queues => false,
         Attempted::GivesWay => {
@@ -29,18 +31,20 @@ fn tries_again<V: Kept + Drop, G: Gate, Rt: Wait>(
             tries.give_way(rt, &waiter);
             true
         }
-    }
+    };
+    (tries, goes_on)
 }
 
-/// Makes at most so many attempts to take the lock without queueing, with the pauses that `tries` has between them: whether the pass holds it. Each
-/// attempt fails while stealing is disabled, as it is while others queue.
+/// Makes at most so many attempts to take the lock without queueing, with pauses between them: whether the pass holds it. Each attempt fails while
+/// stealing is disabled, as it is while others queue. What it remembers of them is made when one was in vain, since an operation waits for what is written before.
+#[inline(always)]
 pub(crate) fn try_first<V: Kept + Drop, G: Gate, Rt: Wait>(
     rt: &Rt,
     board: &SharedBoard<V>,
     pass: &mut Pass<V>,
     mode: Mode,
     attempts: u32,
-    tries: &mut Tries,
+    tries: &mut Option<Tries>,
     gate: &G,
 ) -> bool
     requires board { pass.old.board ≡ board.now.id }
@@ -54,9 +58,14 @@ pub(crate) fn try_first<V: Kept + Drop, G: Gate, Rt: Wait>(
 {
     for tried in 0..attempts {
         if pass.attempt(board, mode).is_ok() {
+            if let Some(tries) = tries {
+                tries.end(rt, &board.waiter(pass.number()));
+            }
             return true;
         }
-        if !tries_again(rt, board, pass, tries, gate) {
+        let (now, goes_on) = tries_again(rt, board, pass, mode, tries.take(), gate);
+        *tries = Some(now);
+        if !goes_on {
             return false;
         }
     }

@@ -24,7 +24,7 @@ use shfl_core::{Ask, Nap, Phase};
 use shfl_line::{Attr, Chooser, Mode};
 use std::sync::Wait;
 use syn_outer::{Gate, Point};
-use waiter_sleep::{Pauses, Tries};
+use waiter_sleep::{Pauses, tries_of};
 
 // The policy's answer to what the next step asks. The first question of a round opens it.
 fn answer<C: Chooser, Rt: Wait>(rt: &Rt, chooser: &mut C, anchor: &Attr, ask: Ask) -> bool
@@ -193,11 +193,11 @@ pub fn wait_by<V: Kept + Drop, C: Chooser, G: Gate, Rt: Wait>(
         (C.told chooser.old) (C.told chooser.new) }
 {
     let attempts = attempts_before(queueing, chooser.may_move_waiters());
-    let mut tries = Tries::begin(mode);
-    if try_first(rt, board, pass, mode, attempts, &mut tries, gate) {
-        tries.end(rt, &board.waiter(pass.number()));
+    let mut tried = None;
+    if try_first(rt, board, pass, mode, attempts, &mut tried, gate) {
         return;
     }
+    let mut tries = tries_of(tried, mode);
     tries.queue(rt, &board.waiter(pass.number()));
     let _ = pass.acquire(mode);
     let mut pauses = Pauses::begin(&board.waiter(pass.number()));

@@ -19,5 +19,5 @@ pub use fronts::QueueFronts;
 pub use pauses::{Pause, Pauses, Stand};
 pub use sleeper::Sleeper;
 pub use sleepers::Sleepers;
-pub use tries::{Attempted, Tries};
+pub use tries::{Attempted, Tries, tries_of};
 pub use waiter::Waiter;

@@ -39,7 +39,7 @@ enum Stage {
     Risen { queues: bool },
 }
 
-/// What a waiter remembers of its attempts.
+/// What a waiter remembers of its attempts in vain.
 #[derive(Drop)]
 pub struct Tries {
     reads: bool,
@@ -55,7 +55,6 @@ pub struct Tries {
 
 impl Tries {
     /// A waiter that comes to take the lock in this mode.
-    #[inline(always)]
     pub fn begin(mode: Mode) -> Tries {
         Tries {
             reads: matches!(mode, Mode::Read),
@@ -186,8 +185,8 @@ impl Tries {
         self.stage = Stage::Trying;
     }
 
-    // The waiter has the lock, and is counted no more. A reader calls another one that may share it, where nobody else waits awake.
-    fn leave<R: Wait>(&mut self, rt: &R, waiter: &Waiter<'_>) {
+    /// The waiter has the lock, and is counted no more. A reader calls another one that may share it, where nobody else waits awake.
+    pub fn end<R: Wait>(&mut self, rt: &R, waiter: &Waiter<'_>) {
         let Some(front) = waiter.front else {
             return;
         };
@@ -204,12 +203,12 @@ impl Tries {
             let _ = outside.call(waiter.lock);
         }
     }
+}
 
-    /// The waiter has the lock.
-    #[inline(always)]
-    pub fn end<R: Wait>(&mut self, rt: &R, waiter: &Waiter<'_>) {
-        if !matches!(self.stage, Stage::New) {
-            self.leave(rt, waiter);
-        }
+/// What a waiter remembers that comes to take the lock in this mode, where it doesn't yet.
+pub fn tries_of(tries: Option<Tries>, mode: Mode) -> Tries {
+    match tries {
+        Some(tries) => tries,
+        None => Tries::begin(mode),
     }
 }
