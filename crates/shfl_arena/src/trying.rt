@@ -9,7 +9,7 @@ use crate::arena::Arena;
 use crate::seats::ArenaSeat;
 use shfl_line::Mode;
 use std::sync::Wait;
-use waiter_sleep::{Attempted, Tries, tries_of};
+use waiter_sleep::Attempted;
 
 /// How many attempts a seat makes at most before it queues, where the chooser moves nobody up. Mostly it makes some ten, and sleeps in between.
 pub const MOST_ATTEMPTS: u32 = 1000;
@@ -22,31 +22,28 @@ pub(crate) fn attempts_before(moves_waiters: bool) -> u32
     if moves_waiters { 1 } else { MOST_ATTEMPTS }
 }
 
-// What comes after an attempt in vain at a lock, and whether the seat tries again.
+// What comes after the attempt of this number in vain at a lock: whether the seat tries again.
 fn tries_again<V: Drop, Rt: Wait>(
     rt: &Rt,
     arena: &Arena<V>,
     seat: &ArenaSeat<V>,
     lock: u32,
     mode: Mode,
-    tries: Option<Tries>,
-) -> (Tries, bool) {
-    let mut tries = tries_of(tries, mode);
+    tried: u32,
+) -> bool {
     let waiter = arena.waiter_at(seat, lock);
-    let goes_on = match tries.after_attempt(&waiter) {
+    match waiter.after_attempt(tried) {
         Attempted::Again => true,
         Attempted::Queues => false,
         Attempted::GivesWay => {
-            tries.give_way(rt, &waiter);
+            waiter.give_way(rt, mode);
             true
         }
-    };
-    (tries, goes_on)
+    }
 }
 
 /// Makes at most so many attempts to take a lock without queueing, with pauses between them: whether the seat holds it. Each attempt fails while
-/// stealing is disabled, as it is while others queue. What it remembers of them is made when one was in vain, since an operation waits for what is written before.
-#[inline(always)]
+/// stealing is disabled, as it is while others queue.
 pub(crate) fn try_first<V: Drop, Rt: Wait>(
     rt: &Rt,
     arena: &Arena<V>,
@@ -54,7 +51,6 @@ pub(crate) fn try_first<V: Drop, Rt: Wait>(
     lock: u32,
     mode: Mode,
     attempts: u32,
-    tries: &mut Option<Tries>,
 ) -> bool
     requires arena { seat.old.arena ≡ arena.now.id }
     requires rests { plan.moving seat.old.own ≡ false }
@@ -69,14 +65,12 @@ pub(crate) fn try_first<V: Drop, Rt: Wait>(
 {
     for tried in 0..attempts {
         if seat.attempt(arena, lock, mode).is_ok() {
-            if let Some(tries) = tries {
-                tries.end(rt, &arena.waiter_at(seat, lock));
+            if tried != 0 {
+                arena.waiter_at(seat, lock).end(rt, mode);
             }
             return true;
         }
-        let (now, goes_on) = tries_again(rt, arena, seat, lock, mode, tries.take());
-        *tries = Some(now);
-        if !goes_on {
+        if !tries_again(rt, arena, seat, lock, mode, tried) {
             return false;
         }
     }

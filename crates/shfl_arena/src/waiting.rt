@@ -18,7 +18,7 @@ use crate::trying::{attempts_before, try_first};
 use shfl_core::{Ask, Nap, Phase};
 use shfl_line::{Attr, Chooser, Mode};
 use std::sync::Wait;
-use waiter_sleep::{Pauses, tries_of};
+use waiter_sleep::Pauses;
 
 // The policy's answer to what the next step asks. The first question of a round opens it.
 fn answer<C: Chooser, Rt: Wait>(rt: &Rt, chooser: &mut C, anchor: &Attr, ask: Ask) -> bool
@@ -117,18 +117,16 @@ pub fn wait_for<V: Drop, C: Chooser, Rt: Wait>(
         (C.told chooser.old) (C.told chooser.new) }
 {
     let attempts = attempts_before(chooser.may_move_waiters());
-    let mut tried = None;
-    if try_first(rt, arena, seat, lock, mode, attempts, &mut tried) {
+    if try_first(rt, arena, seat, lock, mode, attempts) {
         return;
     }
-    let mut tries = tries_of(tried, mode);
-    tries.queue(rt, &arena.waiter_at(seat, lock));
+    arena.waiter_at(seat, lock).queue(rt);
     let _ = seat.acquire(lock, mode);
     let mut pauses = Pauses::begin(&arena.waiter(seat));
     for _ in rt.forever() {
         if !seat.moving() {
             pauses.end(&arena.waiter(seat));
-            tries.end(rt, &arena.waiter_at(seat, lock));
+            arena.waiter_at(seat, lock).end(rt, mode);
             return;
         }
         let outcome = step_on(rt, arena, seat, anchor, chooser);

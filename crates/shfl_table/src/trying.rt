@@ -10,41 +10,37 @@ use crate::passes::Pass;
 use shfl_line::Mode;
 use std::sync::Wait;
 use syn_outer::{Gate, Point};
-use waiter_sleep::{Attempted, Tries, tries_of};
+use waiter_sleep::Attempted;
 
-// What comes after an attempt in vain, and whether the pass tries again. The gate is told before the processor is given away.
+// What comes after the attempt of this number in vain: whether the pass tries again. The gate is told before the processor is given away.
 fn tries_again<V: Kept + Drop, G: Gate, Rt: Wait>(
     rt: &Rt,
     board: &SharedBoard<V>,
     pass: &Pass<V>,
     mode: Mode,
-    tries: Option<Tries>,
+    tried: u32,
     gate: &G,
-) -> (Tries, bool) {
-    let mut tries = tries_of(tries, mode);
+) -> bool {
     let waiter = board.waiter(pass.number());
-    let goes_on = match tries.after_attempt(&waiter) {
+    match waiter.after_attempt(tried) {
         Attempted::Again => true,
         Attempted::Queues => false,
         Attempted::GivesWay => {
             gate.at(rt, pass.number(), Point::GivesWay);
-            tries.give_way(rt, &waiter);
+            waiter.give_way(rt, mode);
             true
         }
-    };
-    (tries, goes_on)
+    }
 }
 
 /// Makes at most so many attempts to take the lock without queueing, with pauses between them: whether the pass holds it. Each attempt fails while
-/// stealing is disabled, as it is while others queue. What it remembers of them is made when one was in vain, since an operation waits for what is written before.
-#[inline(always)]
+/// stealing is disabled, as it is while others queue.
 pub(crate) fn try_first<V: Kept + Drop, G: Gate, Rt: Wait>(
     rt: &Rt,
     board: &SharedBoard<V>,
     pass: &mut Pass<V>,
     mode: Mode,
     attempts: u32,
-    tries: &mut Option<Tries>,
     gate: &G,
 ) -> bool
     requires board { pass.old.board ≡ board.now.id }
@@ -58,14 +54,12 @@ pub(crate) fn try_first<V: Kept + Drop, G: Gate, Rt: Wait>(
 {
     for tried in 0..attempts {
         if pass.attempt(board, mode).is_ok() {
-            if let Some(tries) = tries {
-                tries.end(rt, &board.waiter(pass.number()));
+            if tried != 0 {
+                board.waiter(pass.number()).end(rt, mode);
             }
             return true;
         }
-        let (now, goes_on) = tries_again(rt, board, pass, mode, tries.take(), gate);
-        *tries = Some(now);
-        if !goes_on {
+        if !tries_again(rt, board, pass, mode, tried, gate) {
             return false;
         }
     }

@@ -24,7 +24,7 @@ use shfl_core::{Ask, Nap, Phase};
 use shfl_line::{Attr, Chooser, Mode};
 use std::sync::Wait;
 use syn_outer::{Gate, Point};
-use waiter_sleep::{Pauses, tries_of};
+use waiter_sleep::Pauses;
 
 // The policy's answer to what the next step asks. The first question of a round opens it.
 fn answer<C: Chooser, Rt: Wait>(rt: &Rt, chooser: &mut C, anchor: &Attr, ask: Ask) -> bool
@@ -193,18 +193,16 @@ pub fn wait_by<V: Kept + Drop, C: Chooser, G: Gate, Rt: Wait>(
         (C.told chooser.old) (C.told chooser.new) }
 {
     let attempts = attempts_before(queueing, chooser.may_move_waiters());
-    let mut tried = None;
-    if try_first(rt, board, pass, mode, attempts, &mut tried, gate) {
+    if try_first(rt, board, pass, mode, attempts, gate) {
         return;
     }
-    let mut tries = tries_of(tried, mode);
-    tries.queue(rt, &board.waiter(pass.number()));
+    board.waiter(pass.number()).queue(rt);
     let _ = pass.acquire(mode);
     let mut pauses = Pauses::begin(&board.waiter(pass.number()));
     for _ in rt.forever() {
         if !pass.moving() {
             pauses.end(&board.waiter(pass.number()));
-            tries.end(rt, &board.waiter(pass.number()));
+            board.waiter(pass.number()).end(rt, mode);
             return;
         }
         let outcome = step_on(rt, board, pass, anchor, chooser, gate);

@@ -11,6 +11,7 @@ mod pauses;
 mod sleeper;
 mod sleepers;
 mod tries;
+mod trying;
 mod waiter;
 
 pub use backing_off::spins_after;
@@ -19,5 +20,5 @@ pub use fronts::QueueFronts;
 pub use pauses::{Pause, Pauses, Stand};
 pub use sleeper::Sleeper;
 pub use sleepers::Sleepers;
-pub use tries::{Attempted, Tries, tries_of};
+pub use tries::Attempted;
 pub use waiter::Waiter;

@@ -1,4 +1,5 @@
 //! The place where one waiter sleeps.
+use crate::tries::Remembered;
 use crossbeam_utils::CachePadded;
 use std::hint;
 use std::sync::Wait;
@@ -24,6 +25,8 @@ struct Place {
     behind: AtomicU64,
     // 1 where the waiter has called another one to queue since it waited last.
     aside: AtomicU64,
+    // What it remembers of its attempts in vain.
+    remembered: Remembered,
 }
 
 /// Where one waiter sleeps, and which waiter stands behind it in the queue. Its words have cache lines to themselves: it takes 128 bytes.
@@ -40,6 +43,7 @@ impl Sleeper {
                 state: AtomicU64::new(EMPTY),
                 behind: AtomicU64::new(0),
                 aside: AtomicU64::new(0),
+                remembered: Remembered::new(),
             }),
         }
     }
@@ -48,6 +52,12 @@ impl Sleeper {
     fn state(&self) -> &AtomicU64 {
         let place: &Place = &self.place;
         &place.state
+    }
+
+    // What its waiter remembers of its attempts in vain.
+    pub(crate) fn remembered(&self) -> &Remembered {
+        let place: &Place = &self.place;
+        &place.remembered
     }
 
     /// The waiter of this number stands behind it now.

@@ -1,10 +1,10 @@
 //! What waiters do between attempts in vain, on one thread: when they sleep outside the queue, who calls them, and when they queue.
-use crate::checks::{holds, same};
+use crate::checks::same;
 use shfl_line::Mode;
 use std::alloc::Global;
 use std::process::Abort;
 use std::sync::Wait;
-use waiter_sleep::{Attempted, QueueFront, Sleepers, Tries, Waiter};
+use waiter_sleep::{Attempted, QueueFront, Sleepers, Waiter};
 
 /// Who waits for one lock, or for others that share its front.
 #[derive(Drop)]
@@ -41,9 +41,9 @@ impl Room {
 }
 
 // How many attempts in vain are followed by the next one at once, and what comes then.
-fn first_other(tries: &mut Tries, waiter: &Waiter<'_>) -> (u32, Attempted) {
+fn first_other(waiter: &Waiter<'_>) -> (u32, Attempted) {
     for again in 0..100 {
-        let next = tries.after_attempt(waiter);
+        let next = waiter.after_attempt(again);
         if next != Attempted::Again {
             return (again, next);
         }
@@ -52,94 +52,90 @@ fn first_other(tries: &mut Tries, waiter: &Waiter<'_>) -> (u32, Attempted) {
 }
 
 // It tries in vain until it is about to sleep, after so many attempts more.
-fn lies_down(rt: &impl Abort, waiter: &Waiter<'_>, mode: Mode, attempts: u32) -> Tries {
-    let mut tries = Tries::begin(mode);
-    let found = first_other(&mut tries, waiter);
-    same(rt, &found, &(attempts, Attempted::GivesWay));
-    tries
+fn lies_down(rt: &impl Abort, waiter: &Waiter<'_>, attempts: u32) {
+    same(rt, &first_other(waiter), &(attempts, Attempted::GivesWay));
 }
 
 // It sleeps, and what comes after the next attempt in vain.
-fn sleeps<R: Abort + Wait>(rt: &R, tries: &mut Tries, waiter: &Waiter<'_>, due: Attempted) {
-    tries.give_way(rt, waiter);
-    same(rt, &tries.after_attempt(waiter), &due);
+fn sleeps<R: Abort + Wait>(rt: &R, waiter: &Waiter<'_>, mode: Mode, due: Attempted) {
+    waiter.give_way(rt, mode);
+    same(rt, &waiter.after_attempt(9), &due);
 }
 
 #[test]
 fn who_sleeps_in_vain_queues(rt: HostRuntime) {
     let room = Room::new(&rt, rt.alloc());
     let waiter = room.waiter(1);
-    let mut tries = lies_down(&rt, &waiter, Mode::Write, 7);
-    sleeps(&rt, &mut tries, &waiter, Attempted::Queues);
-    tries.queue(&rt, &waiter);
-    tries.end(&rt, &waiter);
+    lies_down(&rt, &waiter, 7);
+    sleeps(&rt, &waiter, Mode::Write, Attempted::Queues);
+    waiter.queue(&rt);
+    waiter.end(&rt, Mode::Write);
+    lies_down(&rt, &waiter, 7);
+    waiter.end(&rt, Mode::Write);
 }
 
 #[test]
 fn who_frees_the_lock_calls_one_that_sleeps_outside(rt: HostRuntime) {
     let room = Room::new(&rt, rt.alloc());
     let waiter = room.waiter(1);
-    let mut tries = lies_down(&rt, &waiter, Mode::Write, 7);
+    lies_down(&rt, &waiter, 7);
     room.free(0);
-    sleeps(&rt, &mut tries, &waiter, Attempted::Again);
-    tries.end(&rt, &waiter);
+    sleeps(&rt, &waiter, Mode::Write, Attempted::Again);
+    waiter.end(&rt, Mode::Write);
 }
 
 #[test]
 fn the_fourth_hold_that_passes_calls_one_to_queue_and_its_holder_steps_aside(rt: HostRuntime) {
     let room = Room::new(&rt, rt.alloc());
     let waiter = room.waiter(1);
-    let mut tries = lies_down(&rt, &waiter, Mode::Write, 7);
+    lies_down(&rt, &waiter, 7);
     let beside = room.waiter(2);
-    let mut awake = Tries::begin(Mode::Write);
-    same(&rt, &awake.after_attempt(&beside), &Attempted::Again);
+    same(&rt, &beside.after_attempt(0), &Attempted::Again);
     for _ in 0..4 {
         room.free(3);
     }
-    sleeps(&rt, &mut tries, &waiter, Attempted::Queues);
+    sleeps(&rt, &waiter, Mode::Write, Attempted::Queues);
     let holder = room.waiter(3);
-    let mut aside = lies_down(&rt, &holder, Mode::Write, 1);
-    aside.end(&rt, &holder);
-    let mut later = lies_down(&rt, &holder, Mode::Write, 7);
-    later.end(&rt, &holder);
-    awake.end(&rt, &beside);
-    tries.end(&rt, &waiter);
+    lies_down(&rt, &holder, 1);
+    holder.end(&rt, Mode::Write);
+    lies_down(&rt, &holder, 7);
+    holder.end(&rt, Mode::Write);
+    beside.end(&rt, Mode::Write);
+    waiter.end(&rt, Mode::Write);
 }
 
 #[test]
 fn a_reader_that_has_the_lock_calls_one_that_sleeps(rt: HostRuntime) {
     let room = Room::new(&rt, rt.alloc());
     let waiter = room.waiter(1);
-    let mut tries = lies_down(&rt, &waiter, Mode::Read, 7);
-    let beside = room.waiter(2);
-    let mut reader = Tries::begin(Mode::Read);
-    same(&rt, &reader.after_attempt(&beside), &Attempted::Again);
-    reader.end(&rt, &beside);
-    sleeps(&rt, &mut tries, &waiter, Attempted::Again);
-    tries.end(&rt, &waiter);
+    lies_down(&rt, &waiter, 7);
+    let reader = room.waiter(2);
+    same(&rt, &reader.after_attempt(0), &Attempted::Again);
+    reader.end(&rt, Mode::Read);
+    sleeps(&rt, &waiter, Mode::Read, Attempted::Again);
+    waiter.end(&rt, Mode::Read);
 }
 
 #[test]
 fn who_waits_for_another_lock_of_the_front_queues_in_place_of_sleeping(rt: HostRuntime) {
     let room = Room::new(&rt, rt.alloc());
     let waiter = room.waiter(1);
-    let mut tries = lies_down(&rt, &waiter, Mode::Write, 7);
+    lies_down(&rt, &waiter, 7);
     let far = room.waiter_at(2, 64);
-    let mut other = Tries::begin(Mode::Write);
-    same(&rt, &first_other(&mut other, &far), &(6, Attempted::Queues));
-    other.end(&rt, &far);
-    tries.end(&rt, &waiter);
-    let mut alone = lies_down(&rt, &far, Mode::Write, 7);
-    alone.end(&rt, &far);
+    same(&rt, &first_other(&far), &(6, Attempted::Queues));
+    far.end(&rt, Mode::Write);
+    waiter.end(&rt, Mode::Write);
+    lies_down(&rt, &far, 7);
+    far.end(&rt, Mode::Write);
 }
 
-// How often it yields until it queues.
-fn yields_before_queueing<R: Wait>(rt: &R, tries: &mut Tries, waiter: &Waiter<'_>) -> u32 {
-    for yields in 1..100 {
-        tries.give_way(rt, waiter);
-        if tries.after_attempt(waiter) != Attempted::GivesWay {
-            return yields;
+// After which attempt it queues, having yielded before, from the sixth on.
+fn queues_after(rt: &impl Wait, waiter: &Waiter<'_>) -> u32 {
+    for tried in 6..100 {
+        if waiter.after_attempt(tried) == Attempted::Queues {
+            return tried;
         }
+        waiter.give_way(rt, Mode::Write);
     }
     100
 }
@@ -153,13 +149,7 @@ fn who_cannot_sleep_yields_and_then_queues(rt: HostRuntime) {
         sleepers: &room.sleepers,
         front: None,
     };
-    let mut tries = Tries::begin(Mode::Write);
-    same(
-        &rt,
-        &first_other(&mut tries, &waiter),
-        &(6, Attempted::GivesWay),
-    );
-    same(&rt, &yields_before_queueing(&rt, &mut tries, &waiter), &32);
-    holds(&rt, tries.after_attempt(&waiter) == Attempted::Queues);
-    tries.end(&rt, &waiter);
+    same(&rt, &first_other(&waiter), &(6, Attempted::GivesWay));
+    same(&rt, &queues_after(&rt, &waiter), &38);
+    waiter.end(&rt, Mode::Write);
 }
