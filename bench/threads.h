@@ -8,7 +8,7 @@
 #include <stdio.h>
 #include <stdlib.h>
 
-enum { LINE = 128, MOST_THREADS = 64 };
+enum { LINE = 128, MOST_THREADS = 256 };
 
 static inline void nap(uint64_t ns) {
     struct timespec t = {(time_t)(ns / 1000000000), (long)(ns % 1000000000)};

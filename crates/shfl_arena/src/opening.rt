@@ -161,7 +161,7 @@ impl<V: Drop> Arena<V> {
 
     /// An arena of so many locks, 1 to 2^24, and a seat for each of these threads, 1 to 65,535, with its attributes. Each lock is of
     /// this form, and bounds a batch by `limit`, 1 to 1,024. A lock takes 16 bytes, or, spread, a cache line for each of its two words;
-    /// a thread takes 80, its seat, and 128 for its place to sleep; and what is known of the queues' heads takes 128 for each lock up to 64 locks.
+    /// a thread takes 80, its seat, and 128 for its place to sleep; and what is known of the queues takes 256 for each lock up to 64 locks.
     /// `values` stand behind the first locks: none, or one for each. No memory is taken after this.
     pub fn open(
         alloc: Global,
