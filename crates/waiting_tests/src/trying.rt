@@ -85,13 +85,13 @@ fn who_frees_the_lock_calls_one_that_sleeps_outside(rt: HostRuntime) {
 }
 
 #[test]
-fn the_fourth_hold_that_passes_calls_one_to_queue_and_its_holder_steps_aside(rt: HostRuntime) {
+fn the_eighth_hold_that_passes_calls_one_to_queue_and_its_holder_steps_aside(rt: HostRuntime) {
     let room = Room::new(&rt, rt.alloc());
     let waiter = room.waiter(1);
     lies_down(&rt, &waiter, 7);
     let beside = room.waiter(2);
     same(&rt, &beside.after_attempt(0), &Attempted::Again);
-    for _ in 0..4 {
+    for _ in 0..8 {
         room.free(3);
     }
     sleeps(&rt, &waiter, Mode::Write, Attempted::Queues);
