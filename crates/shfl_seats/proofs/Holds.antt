@@ -6,7 +6,6 @@ use Rattle.shfl_line.specs.declared.events.Mode.{Mode}
 use Rattle.shfl_core.specs.Waiting.{idle}
 use Rattle.shfl_arena.specs.Threads.{mode_held, without_lock}
 use Rattle.shfl_arena.proofs.Threads.{mode-none, mode-holds-after}
-use Rattle.shfl_seats.specs.Listed.{listed, StandsAlone}
 use Rattle.shfl_seats.specs.Tickets.{Agree}
 
 pub mode-added : (l : ℕ) (m : Mode) (xs : List (ℕ × Mode)) → mode_held l xs ≡ None → mode_held l (xs ++ (l, m) ∷ []) ≡ Some m
@@ -24,16 +23,6 @@ mode-added-else k l m (x ∷ xs) n = ap (λ z. cond (x.0 == k) (Some x.1) z) (mo
 
 pub mode-left-out : (k l : ℕ) (xs : List (ℕ × Mode)) → k ≢ l → mode_held k (without_lock l xs) ≡ mode_held k xs
 mode-left-out k l xs n = mode-holds-after k l (idle 0) xs n
-
--- leaving out what isn't there
-pub left-none : (l : ℕ) (xs : List (ℕ × Mode)) → mode_held l xs ≡ None → without_lock l xs ≡ xs
-left-none l [] e = refl
-left-none l (x ∷ xs) e = by (x.0 == l) (left-none l xs) e
-  where
-    by : (b : Bool) → (mode_held l xs ≡ None → without_lock l xs ≡ xs) → cond b (Some x.1) (mode_held l xs) ≡ None
-        → cond b (without_lock l xs) (x ∷ without_lock l xs) ≡ x ∷ xs
-    by true h e = absurd (cc)
-    by false h e = ap (λ z. x ∷ z) (h e)
 
 -- at one lock this, and at the others as before
 pub agree-by : (l : ℕ) (o : Option Mode) (kept kept' holds holds' : List (ℕ × Mode)) → Agree kept holds
@@ -54,32 +43,3 @@ left-out l (x ∷ xs) = by (x.0 == l) (left-out l xs)
         → cond (not b) (x ∷ filter (λ y. not (y.0 == l)) xs) (filter (λ y. not (y.0 == l)) xs) ≡ cond b (without_lock l xs) (x ∷ without_lock l xs)
     by true e = e
     by false e = ap (λ z. x ∷ z) e
-
--- of the one by itself and the others: a lock is added to the others
-pub listed-added : (f : Option (ℕ × Mode)) (xs ys : List (ℕ × Mode)) → listed f (xs ++ ys) ≡ listed f xs ++ ys
-listed-added None xs ys = refl
-listed-added (Some x) xs ys = refl
-
-pub alone-added : (l : ℕ) (m : Mode) (f : Option (ℕ × Mode)) (xs : List (ℕ × Mode)) → mode_held l (listed f xs) ≡ None → StandsAlone f xs → StandsAlone f (xs ++ (l, m) ∷ [])
-alone-added l m None xs free alone = tt
-alone-added l m (Some x) xs free alone = mode-added-else x.0 l m xs apart ∙ alone
-  where
-    apart : x.0 ≢ l
-    apart i = let t : (x.0 == l) ≡ true = grind (arith, nat_tests) in let e : cond true (Some x.1) (mode_held l xs) ≡ None = subst (λ b. cond b (Some x.1) (mode_held l xs) ≡ None) t free in cc
-
--- the one by itself is left out
-pub first-left : (l : ℕ) (f : Option (ℕ × Mode)) (x : ℕ × Mode) (xs : List (ℕ × Mode)) → f ≡ Some x → x.0 ≡ l → StandsAlone f xs → xs ≡ without_lock l (listed f xs)
-first-left l f x xs e i alone = subst (λ (z : Option (ℕ × Mode)). xs ≡ without_lock l (listed z xs)) (sym e) (here (subst (λ (z : Option (ℕ × Mode)). StandsAlone z xs) e alone))
-  where
-    here : mode_held x.0 xs ≡ None → xs ≡ cond (x.0 == l) (without_lock l xs) (x ∷ without_lock l xs)
-    here a = let t : (x.0 == l) ≡ true = grind (arith, nat_tests) in
-        sym (ap (λ b. cond b (without_lock l xs) (x ∷ without_lock l xs)) t ∙ left-none l xs (subst (λ n. mode_held n xs ≡ None) i a))
-
--- or one of the others
-pub others-left : (l : ℕ) (f : Option (ℕ × Mode)) (xs : List (ℕ × Mode)) → ((x : ℕ × Mode) → f ≡ Some x → x.0 ≢ l) → listed f (without_lock l xs) ≡ without_lock l (listed f xs)
-others-left l None xs n = refl
-others-left l (Some x) xs n = let d = n x refl in let o : (x.0 == l) ≡ false = grind (arith, nat_tests) in sym (ap (λ b. cond b (without_lock l xs) (x ∷ without_lock l xs)) o)
-
-pub alone-left : (l : ℕ) (f : Option (ℕ × Mode)) (xs : List (ℕ × Mode)) → ((x : ℕ × Mode) → f ≡ Some x → x.0 ≢ l) → StandsAlone f xs → StandsAlone f (without_lock l xs)
-alone-left l None xs n alone = tt
-alone-left l (Some x) xs n alone = mode-left-out x.0 l xs (n x refl) ∙ alone

@@ -1,6 +1,7 @@
 //! What a caller does with a seat. Each argument is judged when it runs: what doesn't fit is an answer, and then nothing changes.
 ghost use Rattle.std.specs.Prelude.{◌≡◌, ◌≢◌, ◌↔◌, ◌<◌, ℕ, true, false, not, IsTrue, IsSome, Some, None};
 ghost use Rattle.shfl_core.specs.Plan as plan;
+ghost use Rattle.shfl_core.specs.Waiting.{MayUse};
 ghost use Rattle.shfl_arena.specs.SeatModels.{entering};
 ghost use Rattle.shfl_arena.specs.SeatSteps.{TakesStep, WinsAttempt, LosesAttempt};
 ghost use Rattle.shfl_arena.specs.Threads.{mode_held};
@@ -18,13 +19,46 @@ use shfl_core::found::shares;
 use shfl_line::{Attr, Mode};
 
 impl SeatTicket {
+    // Whether the form of the locks has this mode.
+    #[inline(always)]
+    fn admits(&self, mode: Mode) -> bool
+        ensures { IsTrue result ↔ MayUse self.now.seat.arena.rules.form mode }
+    {
+        matches!(mode, Mode::Write) || shares(self.seat.form())
+    }
+
     // Whether there is such a lock that may be taken in this mode, and the seat has no step to make.
     fn may_use(&self, lock: u32, mode: Mode) -> bool
         ensures { IsTrue result ↔ MayUseLock lock mode self.now }
     {
-        !self.moving()
-            && lock < self.share.locks
-            && (matches!(mode, Mode::Write) || shares(self.seat.form()))
+        !self.moving() && lock < self.share.locks && self.admits(mode)
+    }
+
+    // The same of a seat that holds nothing. False doesn't mean that it may not.
+    #[inline(always)]
+    fn may_use_bare(&self, lock: u32, mode: Mode) -> bool
+        ensures { result ≡ true → MayUseLock lock mode self.now }
+    {
+        self.seat.is_bare() && lock < self.share.locks && self.admits(mode)
+    }
+
+    // An attempt of a seat that holds something, or of what doesn't fit. That is rare, and stays out of line so that the usual way is short.
+    #[cold]
+    #[inline(never)]
+    fn attempt_otherwise(&mut self, lock: u32, mode: Mode) -> Answer
+        ensures bad { (result ≡ Bad) ↔ ¬ (MayUseLock lock mode self.old) }
+        ensures held { result ≡ Held → IsSome (mode_held lock self.old.seat.holds) }
+        ensures done { result ≡ Done → WinsAttempt lock mode self.old.seat self.new.seat }
+        ensures busy { result ≡ Busy
+            → (word : ℕ) × LosesAttempt lock mode word self.old.seat self.new.seat }
+        ensures others { result ≢ NotHeld }
+        ensures refused { result ≢ Done → result ≢ Busy → self.new ≡ self.old }
+        ensures kept { self.new ≡ record self.old { seat = self.new.seat } }
+    {
+        if !self.may_use(lock, mode) {
+            return Answer::Bad;
+        }
+        self.seat.attempt_beside(&self.share.arena, lock, mode)
     }
 
     /// Takes a lock by one operation, behind a look at its word that changes nothing, or finds a word that refuses it. It waits for nobody.
@@ -39,8 +73,8 @@ impl SeatTicket {
         ensures refused { result ≢ Done → result ≢ Busy → self.new ≡ self.old }
         ensures kept { self.new ≡ record self.old { seat = self.new.seat } }
     {
-        if !self.may_use(lock, mode) {
-            return Answer::Bad;
+        if !self.may_use_bare(lock, mode) {
+            return self.attempt_otherwise(lock, mode);
         }
         self.seat.attempt(&self.share.arena, lock, mode)
     }
@@ -91,8 +125,9 @@ impl SeatTicket {
         came_of(nap, before, self.seat.phase())
     }
 
-    /// Gives a lock back, in the mode in which the seat holds it, by one operation.
-    pub fn release(&mut self, lock: u32) -> Answer
+    // Gives back a lock that isn't held by a writer alone, or what doesn't fit. That stays out of line too.
+    #[inline(never)]
+    fn release_otherwise(&mut self, lock: u32) -> Answer
         ensures bad { (result ≡ Bad) ↔ ¬ (MayUseLock lock Write self.old) }
         ensures not_held { result ≡ NotHeld → mode_held lock self.old.seat.holds ≡ None }
         ensures done { result ≡ Done → (mode : Mode)
@@ -104,6 +139,24 @@ impl SeatTicket {
     {
         if !self.may_use(lock, Mode::Write) {
             return Answer::Bad;
+        }
+        self.seat.release(&self.share.arena, lock)
+    }
+
+    /// Gives a lock back, in the mode in which the seat holds it, by one operation.
+    #[inline(always)]
+    pub fn release(&mut self, lock: u32) -> Answer
+        ensures bad { (result ≡ Bad) ↔ ¬ (MayUseLock lock Write self.old) }
+        ensures not_held { result ≡ NotHeld → mode_held lock self.old.seat.holds ≡ None }
+        ensures done { result ≡ Done → (mode : Mode)
+            × (mode_held lock self.old.seat.holds ≡ Some mode)
+            × Frees lock mode self.old.seat self.new.seat }
+        ensures others { (result ≢ Held) × (result ≢ Busy) × (result ≢ NoRoom) }
+        ensures refused { result ≢ Done → self.new ≡ self.old }
+        ensures kept { self.new ≡ record self.old { seat = self.new.seat } }
+    {
+        if !self.seat.writes_alone(lock) || lock >= self.share.locks {
+            return self.release_otherwise(lock);
         }
         self.seat.release(&self.share.arena, lock)
     }

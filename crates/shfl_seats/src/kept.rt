@@ -11,35 +11,37 @@ ghost use Rattle.shfl_arena.specs.Waits.{Frees};
 ghost use Rattle.shfl_seats.specs.declared.answers.Answer.TheVariants.{Done, Busy, Held, NotHeld, Bad, NoMemory as NoRoom};
 
 use crate::answers::Answer;
-use crate::held::{add, forget, holds_none, make_room, mode_of, note};
+use crate::held::{Stand, alone, forget, gather, mode_of, note, spread};
 use shfl_arena::{Arena, ArenaSeat};
 use shfl_core::{Ask, Nap, Phase, Watch};
 use shfl_line::{Attr, Form, Mode, NoMemory};
 use std::alloc::Global;
 use std::marker::Model;
 
-/// A seat with the locks that it holds: one by itself, and a list of the others.
+/// A seat with the locks that it holds. Whether it rests and holds none, or one alone, is told by one word.
 #[derive(Drop)]
 pub(crate) struct KeptSeat {
-    pub(crate) first: Option<(u32, Mode)>,
+    pub(crate) stand: Stand,
     pub(crate) others: Vec<(u32, Mode)>,
     pub(crate) seat: ArenaSeat<()>,
 }
 
 impl Model for KeptSeat {
     ghost use Rattle.std.specs.Prelude.{◌≡◌, ◌<◌, true, vec_len, vec_capacity};
+    ghost use Rattle.shfl_seats.specs.declared.held.Stand.TheVariants.{InList};
     ghost use Rattle.shfl_core.specs.Plan.{moving};
     ghost use Rattle.shfl_arena.specs.SeatModels.{SeatModel};
     ghost use Rattle.shfl_seats.specs.Tickets.{Agree};
-    ghost use Rattle.shfl_seats.specs.Listed.{StandsAlone, listed};
+    ghost use Rattle.shfl_seats.specs.Listed.{LeavesEmpty, listed};
 
     ghost Value = { SeatModel (Unit {0}) };
 
     ghost view = { λ k. k.seat };
 
-    ghost invariant = { λ k. Agree (listed k.first k.others.items) k.seat.holds
-        × StandsAlone k.first k.others.items
-        × (moving k.seat.own ≡ true → vec_len k.others < vec_capacity k.others) };
+    ghost invariant = { λ k. Agree (listed k.stand k.others.items) k.seat.holds
+        × LeavesEmpty k.stand k.others.items
+        × (moving k.seat.own ≡ true
+        → (k.stand ≡ InList) × (vec_len k.others < vec_capacity k.others)) };
 }
 
 impl KeptSeat {
@@ -49,7 +51,7 @@ impl KeptSeat {
         ensures { result ≡ seat }
     {
         KeptSeat {
-            first: None,
+            stand: Stand::Bare,
             others: Vec::new(alloc),
             seat,
         }
@@ -82,6 +84,23 @@ impl KeptSeat {
         self.seat.nap()
     }
 
+    /// Whether it holds nothing and has no step to make, which one word tells. It may be false of such a seat.
+    #[inline(always)]
+    pub(crate) fn is_bare(&self) -> bool
+        ensures { result ≡ true → plan.moving self.now.own ≡ false }
+    {
+        matches!(self.stand, Stand::Bare)
+    }
+
+    /// Whether it holds this lock alone, as a writer, and has no step to make, which is told likewise.
+    #[inline(always)]
+    pub(crate) fn writes_alone(&self, lock: u32) -> bool
+        ensures { result ≡ true → plan.moving self.now.own ≡ false }
+    {
+        matches!(self.stand, Stand::Writes { lock: one } if one == lock)
+    }
+
+    #[inline(always)]
     pub(crate) fn form(&self) -> Form
         ensures { result ≡ self.now.arena.rules.form }
     {
@@ -104,13 +123,13 @@ impl KeptSeat {
     pub(crate) fn hold(&self, lock: u32) -> Option<Mode>
         ensures { result ≡ mode_held lock self.now.holds }
     {
-        mode_of(self.first, self.others.as_slice(), lock)
+        mode_of(self.stand, self.others.as_slice(), lock)
     }
 
     // Attempts a lock beside others that the seat holds. That is rare, and stays out of line so that the usual way is short.
     #[cold]
     #[inline(never)]
-    fn attempt_beside(&mut self, arena: &Arena<()>, lock: u32, mode: Mode) -> Answer
+    pub(crate) fn attempt_beside(&mut self, arena: &Arena<()>, lock: u32, mode: Mode) -> Answer
         requires arena { self.old.arena ≡ arena.now.id }
         requires rests { plan.moving self.old.own ≡ false }
         requires lock { lock < self.old.arena.shape.locks }
@@ -124,13 +143,14 @@ impl KeptSeat {
         if self.hold(lock).is_some() {
             return Answer::Held;
         }
-        if !make_room(self.first, &mut self.others) {
+        if !spread(&mut self.stand, &mut self.others) {
             return Answer::NoMemory;
         }
         if self.seat.attempt(arena, lock, mode).is_err() {
+            gather(&mut self.stand, &mut self.others);
             return Answer::Busy;
         }
-        add(&mut self.first, &mut self.others, lock, mode);
+        note(&mut self.stand, &mut self.others, lock, Some(mode));
         Answer::Done
     }
 
@@ -148,11 +168,11 @@ impl KeptSeat {
         ensures others { (result ≢ NotHeld) × (result ≢ Bad) }
         ensures same { result ≢ Done → result ≢ Busy → self.new ≡ self.old }
     {
-        if !holds_none(self.first, self.others.as_slice()) {
+        if !matches!(self.stand, Stand::Bare) {
             return self.attempt_beside(arena, lock, mode);
         }
         if self.seat.attempt(arena, lock, mode).is_ok() {
-            self.first = Some((lock, mode));
+            self.stand = alone(lock, mode);
             return Answer::Done;
         }
         Answer::Busy
@@ -170,7 +190,7 @@ impl KeptSeat {
         }) }
         ensures err { OnErr result (self.new ≡ self.old) }
     {
-        if self.others.reserve(1).is_err() {
+        if !spread(&mut self.stand, &mut self.others) {
             return Err(NoMemory);
         }
         let _ = self.seat.acquire(lock, mode);
@@ -190,7 +210,7 @@ impl KeptSeat {
         if !self.seat.moving() {
             let lock = self.seat.lock();
             let hold = self.seat.hold();
-            note(&mut self.first, &mut self.others, lock, hold);
+            note(&mut self.stand, &mut self.others, lock, hold);
         }
         true
     }
@@ -198,7 +218,7 @@ impl KeptSeat {
     // Gives back a lock that doesn't stand by itself. That is rare, and stays out of line so that the usual way is short.
     #[cold]
     #[inline(never)]
-    fn release_other(&mut self, arena: &Arena<()>, lock: u32) -> Answer
+    pub(crate) fn release_other(&mut self, arena: &Arena<()>, lock: u32) -> Answer
         requires arena { self.old.arena ≡ arena.now.id }
         requires no_values { self.old.arena.table.slots ≡ 0 }
         requires rests { plan.moving self.old.own ≡ false }
@@ -213,7 +233,7 @@ impl KeptSeat {
             return Answer::NotHeld;
         };
         self.seat.leave(arena, lock, mode);
-        forget(&mut self.first, &mut self.others, lock);
+        forget(&mut self.stand, &mut self.others, lock);
         Answer::Done
     }
 
@@ -230,15 +250,19 @@ impl KeptSeat {
         ensures others { (result ≢ Busy) × (result ≢ Held) × (result ≢ Bad) × (result ≢ NoRoom) }
         ensures refused { result ≢ Done → self.new ≡ self.old }
     {
-        let Some(kept) = self.first else {
-            return self.release_other(arena, lock);
-        };
-        if kept.0 != lock {
-            return self.release_other(arena, lock);
+        match self.stand {
+            Stand::Writes { lock: one } if one == lock => {
+                self.seat.leave(arena, lock, Mode::Write);
+                self.stand = Stand::Bare;
+                Answer::Done
+            }
+            Stand::Reads { lock: one } if one == lock => {
+                self.seat.leave(arena, lock, Mode::Read);
+                self.stand = Stand::Bare;
+                Answer::Done
+            }
+            _ => self.release_other(arena, lock),
         }
-        self.seat.leave(arena, lock, kept.1);
-        self.first = None;
-        Answer::Done
     }
 
     /// Disables stealing at a lock, beside the steps.

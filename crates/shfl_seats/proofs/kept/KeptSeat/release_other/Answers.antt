@@ -4,7 +4,7 @@ use Rattle.shfl_seats.proofs.kept.KeptSeat.release_other.Goals as goal
 
 pub invariant_of-self : goal.invariant_of-self
 invariant_of-self c = let i = c.self.inside in (
-  freed-agree c.args.lock c.in-Some.mode i.seat c.leave.new.self (listed i.first i.others.items) (listed c.forget.new.first c.forget.new.others.items) c.self.invariant.0 c.forget.ensures.items c.leave.ensures,
-  c.forget.ensures.alone,
+  freed-agree c.args.lock c.in-Some.mode i.seat c.leave.new.self (listed i.stand i.others.items) (listed c.forget.new.stand c.forget.new.others.items) c.self.invariant.0 c.forget.ensures.items c.leave.ensures,
+  c.forget.ensures.empty,
   λ moves. absurd (let rests = c.leave.ensures.rests in cc),
 )
