@@ -13,6 +13,7 @@ mod outcomes;
 mod pausing;
 mod performing;
 mod plays;
+mod seat_attempts;
 mod seats;
 pub mod shape;
 mod sleeping;

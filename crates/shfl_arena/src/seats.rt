@@ -1,23 +1,23 @@
 //! The seats of an arena, and their calls.
-ghost use Rattle.std.specs.Prelude.{◌≡◌, ◌<◌, ◌∷◌, true, false, not, IfOk, IfErr, None, Some};
+ghost use Rattle.std.specs.Prelude.{◌≡◌, ◌<◌, ◌∷◌, true, false, not, None, Some};
 ghost use Rattle.shfl_line.specs.declared.events.Mode.TheVariants.{Write};
 ghost use Rattle.shfl_core.specs.Plan as plan;
 ghost use Rattle.shfl_core.specs.Take as take;
 ghost use Rattle.shfl_core.specs.Waiting.{MayUse};
+ghost use Rattle.shfl_core.specs.declared.phase.Phase.TheVariants.{Idle};
 ghost use Rattle.shfl_arena.specs.SeatModels.{entering, leaving};
-ghost use Rattle.shfl_arena.specs.SeatSteps.{TakesStep, WinsAttempt, LosesAttempt, TriesOnce};
+ghost use Rattle.shfl_arena.specs.SeatSteps.{TakesStep};
 ghost use Rattle.shfl_arena.specs.Threads.{mode_held};
 ghost use Rattle.shfl_arena.specs.ValueMoves.{HasInFront};
 ghost use Rattle.shfl_arena.specs.Waits.{Frees};
 
 use crate::arena::Arena;
-use crate::attempting::attempt_once;
 use crate::leaving::leave_once;
 use crate::operation::{disable_once, operate, store_attribute};
 use crate::shape::{Shape, lock_place_by};
 use crate::view::SeatView;
 use atomic_table::Seat;
-use shfl_core::asks::{attempt_row_in_place, idle_pass, is_moving};
+use shfl_core::asks::{idle_pass, is_moving};
 use shfl_core::rows::take_row_in_place;
 use shfl_core::{PassState, Phase, Rules};
 use shfl_line::{Attr, Mode};
@@ -184,55 +184,6 @@ impl<V: Drop> ArenaSeat<V> {
         true
     }
 
-    // The first step of an attempt.
-    #[inline(always)]
-    fn attempt_first(&mut self, arena: &Arena<V>, lock: u32, mode: Mode) -> u64
-        requires arena { self.old.arena ≡ arena.now.id }
-        requires rests { plan.moving self.old.own ≡ false }
-        requires lock { lock < self.old.arena.shape.locks }
-        requires mode { MayUse self.old.arena.rules.form mode }
-        requires free { mode_held lock self.old.holds ≡ None }
-        ensures { TriesOnce lock mode result self.old self.new }
-    {
-        let shared = &arena.table.shared;
-        let at = lock_place_by(self.shape.spread, self.stride, lock);
-        let found = attempt_once::<V, Brand>(
-            shared,
-            &mut self.seat,
-            self.shape,
-            self.rules,
-            lock,
-            at,
-            mode,
-        );
-        // (not before, since the operation would wait for what is written first)
-        self.own = idle_pass(self.own.reg.me);
-        self.lock = lock;
-        attempt_row_in_place(mode, &mut self.own, found);
-        found
-    }
-
-    /// Takes a lock that it doesn't hold by one operation, or finds a word that refuses it: under `Write` any but 0, under `Read` one
-    /// that a writer has or whose stealing is disabled. Under `Write` it looks at the word first, and where that refuses it makes no
-    /// operation. A refused reader takes its count back, by a second operation. It waits for nobody.
-    #[inline(always)]
-    pub fn attempt(&mut self, arena: &Arena<V>, lock: u32, mode: Mode) -> Result<(), u64>
-        requires arena { self.old.arena ≡ arena.now.id }
-        requires rests { plan.moving self.old.own ≡ false }
-        requires lock { lock < self.old.arena.shape.locks }
-        requires mode { MayUse self.old.arena.rules.form mode }
-        requires free { mode_held lock self.old.holds ≡ None }
-        ensures ok { IfOk result (λ _. WinsAttempt lock mode self.old self.new) }
-        ensures err { IfErr result (λ word. LosesAttempt lock mode word self.old self.new) }
-    {
-        let found = self.attempt_first(arena, lock, mode);
-        if self.held() {
-            return Ok(());
-        }
-        let _ = self.step(arena, false);
-        Err(found)
-    }
-
     /// Gives back a lock that it holds in this mode, with its value in and in front where it has one: `release` and the step that follows, in
     /// one. Nobody is woken, which `free` does besides; it is for callers whose threads wait in places of their own.
     #[inline(always)]
@@ -243,7 +194,8 @@ impl<V: Drop> ArenaSeat<V> {
         requires holds { mode_held lock self.old.holds ≡ Some mode }
         requires value { mode ≡ Write → lock < self.old.arena.table.slots
             → HasInFront lock self.old.values }
-        ensures { Frees lock mode self.old self.new }
+        ensures frees { Frees lock mode self.old self.new }
+        ensures own { self.new.own ≡ record self.old.own { phase = Idle } }
     {
         let shared = &arena.table.shared;
         let at = lock_place_by(self.shape.spread, self.stride, lock);

@@ -1,6 +1,6 @@
 use Rattle.std.proofs.Common.{sym, ◌∙◌}
 use Rattle.shfl_arena.proofs.Attempts.{took, refused}
-use Rattle.shfl_arena.proofs.seats.ArenaSeat.attempt.Goals as goal
+use Rattle.shfl_arena.proofs.seats.ArenaSeat.attempt_from.Goals as goal
 
 pub returns-then-held-clause-ok : goal.returns-then-held-clause-ok
 returns-then-held-clause-ok g c = took c.args.self.now c.attempt_first-found.new.self c.args.lock c.attempt_first-found.result c.requires.free c.args.mode c.attempt_first-found.ensures (sym c.held.ensures ∙ c.if-held.true)
