@@ -1,11 +1,11 @@
 -- The list of the locks that a seat holds, when one is added or left out.
-use Rattle.std.proofs.Common.{◌≡◌, ◌≢◌, ℕ, ◌==◌, Bool, true, false, cond, List, [], ◌∷◌, ◌++◌, refl, sym, ap, ◌∙◌, subst, arith}
+use Rattle.std.proofs.Common.{◌≡◌, ◌≢◌, ℕ, ◌==◌, Bool, true, false, cond, List, [], ◌∷◌, ◌++◌, refl, sym, ap, ◌∙◌, arith}
 use Rattle.std.specs.Prelude.{Option, Some, None, not, filter}
 use Rattle.std.proofs.lemmas.Bool.Decides.{nat_tests}
 use Rattle.shfl_line.specs.declared.events.Mode.{Mode}
 use Rattle.shfl_core.specs.Waiting.{idle}
 use Rattle.shfl_arena.specs.Threads.{mode_held, without_lock}
-use Rattle.shfl_arena.proofs.Threads.{mode-none, mode-holds-after}
+use Rattle.shfl_arena.proofs.Threads.{mode-holds-after}
 use Rattle.shfl_seats.specs.Tickets.{Agree}
 
 pub mode-added : (l : ℕ) (m : Mode) (xs : List (ℕ × Mode)) → mode_held l xs ≡ None → mode_held l (xs ++ (l, m) ∷ []) ≡ Some m

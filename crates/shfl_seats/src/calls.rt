@@ -34,16 +34,15 @@ impl SeatTicket {
         !self.moving() && lock < self.share.locks && self.admits(mode)
     }
 
-    // The same of a seat that holds nothing. False doesn't mean that it may not.
+    // The same of a seat that took its last lock in this mode and gave it back. False doesn't mean that it may not.
     #[inline(always)]
-    fn may_use_bare(&self, lock: u32, mode: Mode) -> bool
+    fn may_use_again(&self, lock: u32, mode: Mode) -> bool
         ensures { result ≡ true → MayUseLock lock mode self.now }
     {
-        self.seat.is_bare() && lock < self.share.locks && self.admits(mode)
+        self.seat.is_free(mode) && lock < self.share.locks && self.admits(mode)
     }
 
-    // An attempt of a seat that holds something, or of what doesn't fit. That is rare, and stays out of line so that the usual way is short.
-    #[cold]
+    // An attempt of another seat, or of what doesn't fit. That is rarer, and stays out of line so that the usual way is short.
     #[inline(never)]
     fn attempt_otherwise(&mut self, lock: u32, mode: Mode) -> Answer
         ensures bad { (result ≡ Bad) ↔ ¬ (MayUseLock lock mode self.old) }
@@ -58,7 +57,7 @@ impl SeatTicket {
         if !self.may_use(lock, mode) {
             return Answer::Bad;
         }
-        self.seat.attempt_beside(&self.share.arena, lock, mode)
+        self.seat.attempt(&self.share.arena, lock, mode)
     }
 
     /// Takes a lock by one operation, behind a look at its word that changes nothing, or finds a word that refuses it. It waits for nobody.
@@ -73,7 +72,7 @@ impl SeatTicket {
         ensures refused { result ≢ Done → result ≢ Busy → self.new ≡ self.old }
         ensures kept { self.new ≡ record self.old { seat = self.new.seat } }
     {
-        if !self.may_use_bare(lock, mode) {
+        if !self.may_use_again(lock, mode) {
             return self.attempt_otherwise(lock, mode);
         }
         self.seat.attempt(&self.share.arena, lock, mode)
@@ -137,7 +136,8 @@ impl SeatTicket {
         ensures refused { result ≢ Done → self.new ≡ self.old }
         ensures kept { self.new ≡ record self.old { seat = self.new.seat } }
     {
-        if !self.may_use(lock, Mode::Write) {
+        let reads = self.seat.reads_alone(lock) && lock < self.share.locks;
+        if !reads && !self.may_use(lock, Mode::Write) {
             return Answer::Bad;
         }
         self.seat.release(&self.share.arena, lock)

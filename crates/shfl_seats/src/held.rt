@@ -1,7 +1,7 @@
 //! The locks that a seat holds, each with its mode: none, or one alone, which is told without a list; or those of a list.
-ghost use Rattle.std.specs.Prelude.{◌≡◌, ◌≢◌, ◌≤◌, ◌<◌, ℕ, true, false, cond, Some, None, vec_len, vec_capacity};
+ghost use Rattle.std.specs.Prelude.{◌≡◌, ◌≢◌, ◌≤◌, ◌<◌, ℕ, true, false, [], ◌∷◌, cond, Some, None, vec_len, vec_capacity};
 ghost use Rattle.shfl_arena.specs.Threads.{mode_held, without_lock};
-ghost use Rattle.shfl_seats.specs.Listed.{LeavesEmpty, alone, listed};
+ghost use Rattle.shfl_seats.specs.Listed.{LeavesEmpty, TellsNoPass, alone, listed, won};
 ghost use Rattle.shfl_seats.specs.declared.held.Stand.TheVariants.{InList};
 
 use shfl_line::Mode;
@@ -9,10 +9,14 @@ use shfl_line::Mode;
 /// What a seat holds, as far as it is told without the list. Of all but the last the seat has no step to make, and the list is empty.
 #[derive(Clone, Copy, Debug, PartialEq, Eq, Drop)]
 pub(crate) enum Stand {
-    /// It holds nothing.
+    /// It holds nothing, and its pass is as one that did nothing: the next attempt is spared blanking it.
     Bare,
-    /// It holds this lock alone, as a writer.
+    /// It holds nothing.
+    Idle,
+    /// It holds this lock alone, as a writer, by an attempt that won: it becomes bare when it gives the lock back.
     Writes { lock: u32 },
+    /// It holds this lock alone, as a writer.
+    Owns { lock: u32 },
     /// It holds this lock alone, as a reader.
     Reads { lock: u32 },
     /// It holds what the list says.
@@ -42,20 +46,30 @@ pub(crate) fn mode_of(stand: Stand, others: &[(u32, Mode)], lock: u32) -> Option
     ensures { result ≡ mode_held lock (listed stand others.now) }
 {
     match stand {
-        Stand::Bare => None,
-        Stand::Writes { lock: one } => only(one == lock, Mode::Write),
+        Stand::Bare | Stand::Idle => None,
+        Stand::Writes { lock: one } | Stand::Owns { lock: one } => only(one == lock, Mode::Write),
         Stand::Reads { lock: one } => only(one == lock, Mode::Read),
         Stand::InList => mode_in(others, lock),
     }
 }
 
-/// This lock alone is held.
+/// The lock alone is held, by an attempt that won.
 #[inline(always)]
-pub(crate) fn alone(lock: u32, mode: Mode) -> Stand
-    ensures { result ≡ alone lock mode }
+pub(crate) fn won(lock: u32, mode: Mode) -> Stand
+    ensures { result ≡ won lock mode }
 {
     match mode {
         Mode::Write => Stand::Writes { lock },
+        Mode::Read => Stand::Reads { lock },
+    }
+}
+
+// The lock alone is held.
+fn alone(lock: u32, mode: Mode) -> Stand
+    ensures { result ≡ alone lock mode }
+{
+    match mode {
+        Mode::Write => Stand::Owns { lock },
         Mode::Read => Stand::Reads { lock },
     }
 }
@@ -73,9 +87,9 @@ pub(crate) fn spread(stand: &mut Stand, others: &mut Vec<(u32, Mode)>) -> bool
         return false;
     }
     match *stand {
-        Stand::Writes { lock } => others.push_reserved((lock, Mode::Write)),
+        Stand::Writes { lock } | Stand::Owns { lock } => others.push_reserved((lock, Mode::Write)),
         Stand::Reads { lock } => others.push_reserved((lock, Mode::Read)),
-        Stand::Bare | Stand::InList => {}
+        Stand::Bare | Stand::Idle | Stand::InList => {}
     }
     *stand = Stand::InList;
     true
@@ -86,12 +100,13 @@ pub(crate) fn gather(stand: &mut Stand, others: &mut Vec<(u32, Mode)>)
     requires list { stand.old ≡ InList }
     ensures items { listed stand.new others.new.items ≡ others.old.items }
     ensures empty { LeavesEmpty stand.new others.new.items }
+    ensures pass { TellsNoPass stand.new }
 {
     if others.len() > 1 {
         return;
     }
     *stand = match others.pop() {
-        None => Stand::Bare,
+        None => Stand::Idle,
         Some((lock, mode)) => alone(lock, mode),
     };
 }
@@ -118,20 +133,32 @@ fn list_hold(others: &mut Vec<(u32, Mode)>, lock: u32, hold: Option<Mode>)
     }
 }
 
+// What of one lock is left where another one, or the same, is held no more.
+fn one_left(one: u32, mode: Mode, lock: u32) -> Stand
+    ensures items { listed result [] ≡ without_lock lock ((one, mode) ∷ []) }
+    ensures empty { LeavesEmpty result [] }
+    ensures pass { TellsNoPass result }
+{
+    if one == lock {
+        return Stand::Idle;
+    }
+    alone(one, mode)
+}
+
 /// The lock is held no more.
 pub(crate) fn forget(stand: &mut Stand, others: &mut Vec<(u32, Mode)>, lock: u32)
     requires empty { LeavesEmpty stand.old others.old.items }
     ensures items { listed stand.new others.new.items
         ≡ without_lock lock (listed stand.old others.old.items) }
     ensures empty { LeavesEmpty stand.new others.new.items }
+    ensures pass { TellsNoPass stand.new }
 {
     match *stand {
-        Stand::Bare => {}
-        Stand::Writes { lock: one } | Stand::Reads { lock: one } => {
-            if one == lock {
-                *stand = Stand::Bare;
-            }
+        Stand::Bare | Stand::Idle => *stand = Stand::Idle,
+        Stand::Writes { lock: one } | Stand::Owns { lock: one } => {
+            *stand = one_left(one, Mode::Write, lock);
         }
+        Stand::Reads { lock: one } => *stand = one_left(one, Mode::Read, lock),
         Stand::InList => {
             leave_out(others, lock);
             gather(stand, others);
@@ -147,6 +174,7 @@ pub(crate) fn note(stand: &mut Stand, others: &mut Vec<(u32, Mode)>, lock: u32, 
     ensures elsewhere { (l : ℕ) → l ≢ lock → mode_held l (listed stand.new others.new.items)
         ≡ mode_held l others.old.items }
     ensures empty { LeavesEmpty stand.new others.new.items }
+    ensures pass { TellsNoPass stand.new }
 {
     list_hold(others, lock, hold);
     gather(stand, others);

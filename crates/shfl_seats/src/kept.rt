@@ -2,7 +2,6 @@
 ghost use Rattle.std.specs.Prelude.{◌≡◌, ◌≢◌, ◌<◌, ℕ, true, false, [], IfOk, IsSome, OnErr, None, Some};
 ghost use Rattle.shfl_line.specs.declared.events.Mode.{Mode as HeldMode};
 ghost use Rattle.shfl_core.specs.Plan as plan;
-ghost use Rattle.shfl_core.specs.Waiting as waiting;
 ghost use Rattle.shfl_core.specs.Waiting.{MayUse};
 ghost use Rattle.shfl_arena.specs.SeatModels.{entering};
 ghost use Rattle.shfl_arena.specs.SeatSteps.{TakesStep, WinsAttempt, LosesAttempt};
@@ -11,10 +10,9 @@ ghost use Rattle.shfl_arena.specs.Waits.{Frees};
 ghost use Rattle.shfl_seats.specs.declared.answers.Answer.TheVariants.{Done, Busy, Held, NotHeld, Bad, NoMemory as NoRoom};
 
 use crate::answers::Answer;
-use crate::held::{Stand, alone, forget, gather, mode_of, note, spread};
+use crate::held::{Stand, forget, gather, note, spread, won};
 use shfl_arena::{Arena, ArenaSeat};
-use shfl_core::{Ask, Nap, Phase, Watch};
-use shfl_line::{Attr, Form, Mode, NoMemory};
+use shfl_line::{Attr, Mode, NoMemory};
 use std::alloc::Global;
 use std::marker::Model;
 
@@ -32,7 +30,7 @@ impl Model for KeptSeat {
     ghost use Rattle.shfl_core.specs.Plan.{moving};
     ghost use Rattle.shfl_arena.specs.SeatModels.{SeatModel};
     ghost use Rattle.shfl_seats.specs.Tickets.{Agree};
-    ghost use Rattle.shfl_seats.specs.Listed.{LeavesEmpty, listed};
+    ghost use Rattle.shfl_seats.specs.Listed.{HasBlankPass, LeavesEmpty, listed};
 
     ghost Value = { SeatModel (Unit {0}) };
 
@@ -40,6 +38,7 @@ impl Model for KeptSeat {
 
     ghost invariant = { λ k. Agree (listed k.stand k.others.items) k.seat.holds
         × LeavesEmpty k.stand k.others.items
+        × HasBlankPass k.stand k.seat.own
         × (moving k.seat.own ≡ true
         → (k.stand ≡ InList) × (vec_len k.others < vec_capacity k.others)) };
 }
@@ -51,85 +50,16 @@ impl KeptSeat {
         ensures { result ≡ seat }
     {
         KeptSeat {
-            stand: Stand::Bare,
+            stand: Stand::Idle,
             others: Vec::new(alloc),
             seat,
         }
     }
 
-    pub(crate) fn number(&self) -> u32
-        ensures { result ≡ self.now.own.reg.me }
-    {
-        self.seat.number()
-    }
-
-    #[inline(always)]
-    pub(crate) fn moving(&self) -> bool
-        ensures { result ≡ plan.moving self.now.own }
-    {
-        self.seat.moving()
-    }
-
-    #[inline(always)]
-    pub(crate) fn phase(&self) -> Phase
-        ensures { result ≡ self.now.own.phase }
-    {
-        self.seat.phase()
-    }
-
-    #[inline(always)]
-    pub(crate) fn nap(&self) -> Nap
-        ensures { result ≡ self.now.own.nap }
-    {
-        self.seat.nap()
-    }
-
-    /// Whether it holds nothing and has no step to make, which one word tells. It may be false of such a seat.
-    #[inline(always)]
-    pub(crate) fn is_bare(&self) -> bool
-        ensures { result ≡ true → plan.moving self.now.own ≡ false }
-    {
-        matches!(self.stand, Stand::Bare)
-    }
-
-    /// Whether it holds this lock alone, as a writer, and has no step to make, which is told likewise.
-    #[inline(always)]
-    pub(crate) fn writes_alone(&self, lock: u32) -> bool
-        ensures { result ≡ true → plan.moving self.now.own ≡ false }
-    {
-        matches!(self.stand, Stand::Writes { lock: one } if one == lock)
-    }
-
-    #[inline(always)]
-    pub(crate) fn form(&self) -> Form
-        ensures { result ≡ self.now.arena.rules.form }
-    {
-        self.seat.form()
-    }
-
-    pub(crate) fn ask(&self) -> Ask
-        ensures { result ≡ waiting.ask self.now.arena.rules self.now.own }
-    {
-        self.seat.ask()
-    }
-
-    pub(crate) fn watch(&self) -> Watch
-        ensures { result ≡ waiting.watch_at self.now.own.reg self.now.own.phase }
-    {
-        self.seat.watch()
-    }
-
-    /// How it holds this lock, if it does.
-    pub(crate) fn hold(&self, lock: u32) -> Option<Mode>
-        ensures { result ≡ mode_held lock self.now.holds }
-    {
-        mode_of(self.stand, self.others.as_slice(), lock)
-    }
-
     // Attempts a lock beside others that the seat holds. That is rare, and stays out of line so that the usual way is short.
     #[cold]
     #[inline(never)]
-    pub(crate) fn attempt_beside(&mut self, arena: &Arena<()>, lock: u32, mode: Mode) -> Answer
+    fn attempt_beside(&mut self, arena: &Arena<()>, lock: u32, mode: Mode) -> Answer
         requires arena { self.old.arena ≡ arena.now.id }
         requires rests { plan.moving self.old.own ≡ false }
         requires lock { lock < self.old.arena.shape.locks }
@@ -168,11 +98,19 @@ impl KeptSeat {
         ensures others { (result ≢ NotHeld) × (result ≢ Bad) }
         ensures same { result ≢ Done → result ≢ Busy → self.new ≡ self.old }
     {
-        if !matches!(self.stand, Stand::Bare) {
+        if matches!(self.stand, Stand::Bare) {
+            if self.seat.attempt_blank(arena, lock, mode).is_ok() {
+                self.stand = won(lock, mode);
+                return Answer::Done;
+            }
+            self.stand = Stand::Idle;
+            return Answer::Busy;
+        }
+        if !matches!(self.stand, Stand::Idle) {
             return self.attempt_beside(arena, lock, mode);
         }
         if self.seat.attempt(arena, lock, mode).is_ok() {
-            self.stand = alone(lock, mode);
+            self.stand = won(lock, mode);
             return Answer::Done;
         }
         Answer::Busy
@@ -218,7 +156,7 @@ impl KeptSeat {
     // Gives back a lock that doesn't stand by itself. That is rare, and stays out of line so that the usual way is short.
     #[cold]
     #[inline(never)]
-    pub(crate) fn release_other(&mut self, arena: &Arena<()>, lock: u32) -> Answer
+    fn release_other(&mut self, arena: &Arena<()>, lock: u32) -> Answer
         requires arena { self.old.arena ≡ arena.now.id }
         requires no_values { self.old.arena.table.slots ≡ 0 }
         requires rests { plan.moving self.old.own ≡ false }
@@ -258,7 +196,7 @@ impl KeptSeat {
             }
             Stand::Reads { lock: one } if one == lock => {
                 self.seat.leave(arena, lock, Mode::Read);
-                self.stand = Stand::Bare;
+                self.stand = Stand::Idle;
                 Answer::Done
             }
             _ => self.release_other(arena, lock),

@@ -8,6 +8,7 @@ mod judged;
 mod kept;
 mod opening;
 mod policies;
+mod standing;
 mod ticket;
 
 pub use answers::{Answer, Progress, answer_told, progress_told};

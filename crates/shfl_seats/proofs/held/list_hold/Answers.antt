@@ -1,4 +1,4 @@
-use Rattle.std.proofs.Common.{◌≡◌, sym, ap, ◌∙◌}
+use Rattle.std.proofs.Common.{sym, ap, ◌∙◌}
 use Rattle.shfl_arena.specs.Threads.{mode_held}
 use Rattle.shfl_arena.proofs.Threads.{mode-none}
 use Rattle.shfl_seats.proofs.Holds.{mode-added, mode-added-else, mode-left-out}
