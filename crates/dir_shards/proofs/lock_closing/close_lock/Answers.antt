@@ -20,6 +20,10 @@ loop-k-init c = let before = c.args.passes.now in let d = c.index-passes-0.resul
       told = subst (HaveTold 1 before) (sym (ap (λ (z : ClosingModel). z.parts) n)) (told_more 0 before [] (slice_index_or before 0 d) _ (none_told before) was e.asked e.part);
     }
 
+pub take_last-first-requires : goal.take_last-first-requires
+take_last-first-requires c = let ends = c.requires.last 0 c.index-passes-0.result c.requires.some in
+    let l = ap length ends.1 in let m = length-append ends.0 (c.args.board.id ∷ []) in omega (arith, l, m)
+
 pub take_last-pass-requires : goal.take_last-pass-requires
 take_last-pass-requires c = let v = c.loop-k.invariant in let before = c.args.passes.now in let k = c.loop-k.k in let d = c.index-passes-k.result in
     let long = v.passes.long in let test = c.loop-k-test.true in
