@@ -32,4 +32,4 @@ kept_sync = search (sendable, crosses, shard_sync, journal_send, seat_sync) dept
 
 -- so may be the directory
 pub dir_sync : IsSync sharded.the_row
-dir_sync = search (sendable, crosses, shard_sync, journal_send, kept_send, kept_sync, shared.the_sync, lease.the_sync) depth 60
+dir_sync = search (sendable, crosses, shard_sync, journal_send, kept_send, kept_sync, shared.the_sync, lease.the_sync) depth 60 fits 20000
