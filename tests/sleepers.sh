@@ -15,7 +15,7 @@ asleep() { cat "/proc/$1"/task/*/stat 2>/dev/null | sed -n 's/^\([0-9]*\) (.*) S
 
 "$program" all >"$room/got" &
 process=$!
-# the queue's head naps, and so is awake now and then: whoever was seen asleep counts. On a busy machine it comes to that late, since it yields before
+# the queue's head naps, and so is awake now and then: whoever was seen asleep counts. On a busy machine it comes to that late, since it tries before
 : >"$room/seen"
 for ((tenth = 0; tenth < 30; tenth++)); do
     sleep 0.1
