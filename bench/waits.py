@@ -8,10 +8,12 @@ HEADS = {
     "readers": "The same with 80 of 100 holds for reading",
     "busy": "The same beside sixteen busy programs",
     "rattle": "Threads that take the lock in Rattle again and again",
+    "rattle-readers": "The same with 80 of 100 holds for reading, the lock in Rattle",
     "rattle-busy": "The same beside sixteen busy programs, the lock in Rattle",
 }
 # a part's peer, a second one, and ours, where that isn't the mutex, the MCS lock and all forms
-PEERS = {"readers": ("rwlock", None, ["rw", "rwpark"]), "rattle": ("mutex", None, OURS), "rattle-busy": ("mutex", None, OURS)}
+PEERS = {"rattle": ("mutex", None, OURS), "rattle-busy": ("mutex", None, OURS)}
+PEERS["readers"] = PEERS["rattle-readers"] = ("rwlock", None, ["rw", "rwpark"])
 
 
 def runs_of(path):

@@ -2,8 +2,8 @@
 # How threads wait: the lock for C in its four forms beside pthread's locks and an MCS lock that yields, in turn. Words:
 #   waits.sh [ROUNDS [PART ..]]
 # A part is storms, readers, busy, handover, asleep or policy; all, in this order, where none is given; ROUNDS is 20 where it is left
-# out. The parts rattle, rattle-busy and rattle-asleep are run where they are named: the lock in Rattle beside pthread's mutex, by the
-# program waits, with the crates below proved first. With WAITS_ROOM set, the runs are kept in that folder, and the tables are of all that
+# out. The parts rattle, rattle-readers, rattle-busy and rattle-asleep are run where they are named: the lock in Rattle beside pthread's, by
+# the program waits, with the crates below proved first. With WAITS_ROOM set, the runs are kept in that folder, and the tables are of all that
 # are there, so that many sittings make one table; and so is that program. WAITS_THREADS has the numbers of threads of storms, readers
 # and rattle (2 4 8 16 64). WAITS_RUN is put before each program that is timed, and RESULTS_ONLY set prints the tables alone.
 set -u
@@ -68,10 +68,11 @@ storms() {
     done
 }
 
+# of the locks, with 80 of 100 holds for reading
 readers() {
-    local threads hold
+    local part="$1" threads hold
     for threads in "${crowds[@]}"; do
-        for hold in 0 1000 10000 100000; do storm readers "$threads" "$hold" "$hold" 80 rwlock rw rwpark; done
+        for hold in 0 1000 10000 100000; do storm "$part" "$threads" "$hold" "$hold" 80 "${@:2}"; done
     done
 }
 
@@ -134,8 +135,10 @@ if [ -z "${RESULTS_ONLY:-}" ]; then
             case "$part" in
             storms) storms storms mutex mcs "${ours[@]}" ;;
             busy) busy busy '4 16' mutex mcs "${ours[@]}" ;;
-            readers | handover | asleep | policy) "$part" ;;
+            readers) readers readers rwlock rw rwpark ;;
+            handover | asleep | policy) "$part" ;;
             rattle) storms rattle mutex "${in_rattle[@]}" ;;
+            rattle-readers) readers rattle-readers rwlock rattle-rw rattle-rwpark ;;
             rattle-busy) busy rattle-busy 16 mutex "${in_rattle[@]}" ;;
             rattle-asleep) asleep_in_rattle ;;
             *) echo "waits.sh: no part is called $part" >&2; exit 2 ;;
