@@ -179,8 +179,8 @@ impl<O: Object + Drop> RwCellOf<Book<O>, Entry<O>, O> {
 
     /// Takes the lock, makes the write on every copy and frees the lock. The gate is called before
     /// the lock is asked for, while the pass waits in the queue, while it holds the lock, and after
-    /// it freed it. Where the chooser may move waiters it queues at once; else it tries a few times
-    /// before, and no more. Takes no memory.
+    /// it freed it. Where the chooser may move waiters it queues at once; else it tries before, at
+    /// most 1,000 times, and sleeps in between. Takes no memory.
     pub fn write<C: Chooser, G: Gate, Rt: Wait>(
         &self,
         rt: &Rt,

@@ -137,7 +137,7 @@ pub fn wait_for<V: Drop, C: Chooser, Rt: Wait>(
 }
 
 /// Frees a lock that the seat holds in this mode, with its value in and in front where it has one, and wakes the queue's head where that sleeps, and those
-/// who come next.
+/// who come next, or one that sleeps outside the queue.
 #[inline(always)]
 pub fn free<V: Drop>(arena: &Arena<V>, seat: &mut ArenaSeat<V>, lock: u32, mode: Mode)
     requires arena { seat.old.arena ≡ arena.now.id }

@@ -33,7 +33,7 @@ const LIMIT: u16 = 1024;
 
 impl<T: Drop> Mutexes<T> {
     /// A lock for each value, 1 to 2^24, and a seat for each of these threads, 1 to 65,535, with its attributes. In the forms `Park` and
-    /// `RwPark` waiters sleep. A lock takes 16 bytes beside its value, or, `spread`, a cache line for each of its two words.
+    /// `RwPark` waiters of the queue have wakeup words of their own. A lock takes 16 bytes beside its value, or, `spread`, a cache line for each of its two words.
     pub fn open(
         alloc: Global,
         values: Vec<T>,

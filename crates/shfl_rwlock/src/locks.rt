@@ -53,7 +53,7 @@ fn laid<T: Drop>(alloc: Global, values: Vec<T>) -> Result<Vec<RwLock<T>>, NoMemo
 
 impl<T: Drop> RwLocks<T> {
     /// A lock for each value, 1 to 2^24, and a seat for each of these threads, 1 to 65,535, with its attributes. The form is `Rw`, or `RwPark`,
-    /// whose waiters sleep. A lock takes 16 bytes beside its value in a `std::sync::RwLock`, or, `spread`, a cache line for each of its two words.
+    /// whose waiters have wakeup words of their own. A lock takes 16 bytes beside its value in a `std::sync::RwLock`, or, `spread`, a cache line for each of its two words.
     pub fn open(
         alloc: Global,
         values: Vec<T>,

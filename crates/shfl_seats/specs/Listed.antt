@@ -36,7 +36,7 @@ LeavesEmpty (Owns lock) others = others ≡ []
 LeavesEmpty (Reads lock) others = others ≡ []
 LeavesEmpty InList others = Unit {0}
 
--- the pass of a seat that made nothing but a writer's attempts that won, and gave back what they took
+-- the pass after a writer's attempt that won, and after what it took was given back
 abbrev pub HasBlankPass : Stand → PassState → Type 0
 HasBlankPass Bare own = own ≡ idle own.reg.me
 HasBlankPass Idle own = Unit {0}

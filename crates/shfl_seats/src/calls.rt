@@ -42,7 +42,7 @@ impl SeatTicket {
         self.seat.is_free(mode) && lock < self.share.locks && self.admits(mode)
     }
 
-    // An attempt of another seat, or of what doesn't fit. That is rarer, and stays out of line so that the usual way is short.
+    // An attempt of a seat that stands otherwise, or of what doesn't fit. That is rarer, and stays out of line so that the usual way is short.
     #[inline(never)]
     fn attempt_otherwise(&mut self, lock: u32, mode: Mode) -> Answer
         ensures bad { (result ≡ Bad) ↔ ¬ (MayUseLock lock mode self.old) }
@@ -124,7 +124,7 @@ impl SeatTicket {
         came_of(nap, before, self.seat.phase())
     }
 
-    // Gives back a lock that isn't held by a writer alone, or what doesn't fit. That stays out of line too.
+    // Gives back a lock that isn't held alone by a writer's attempt that won, or what doesn't fit. That stays out of line too.
     #[inline(never)]
     fn release_otherwise(&mut self, lock: u32) -> Answer
         ensures bad { (result ≡ Bad) ↔ ¬ (MayUseLock lock Write self.old) }

@@ -153,7 +153,7 @@ impl KeptSeat {
         true
     }
 
-    // Gives back a lock that doesn't stand by itself. That is rare, and stays out of line so that the usual way is short.
+    // Gives back one of several locks, or what it doesn't hold. That is rare, and stays out of line so that the usual way is short.
     #[cold]
     #[inline(never)]
     fn release_other(&mut self, arena: &Arena<()>, lock: u32) -> Answer
@@ -192,6 +192,11 @@ impl KeptSeat {
             Stand::Writes { lock: one } if one == lock => {
                 self.seat.leave(arena, lock, Mode::Write);
                 self.stand = Stand::Bare;
+                Answer::Done
+            }
+            Stand::Owns { lock: one } if one == lock => {
+                self.seat.leave(arena, lock, Mode::Write);
+                self.stand = Stand::Idle;
                 Answer::Done
             }
             Stand::Reads { lock: one } if one == lock => {

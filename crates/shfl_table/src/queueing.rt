@@ -7,7 +7,7 @@ ghost use Rattle.shfl_table.specs.Queueing.{attempts_before};
 pub enum Queueing {
     /// With its first step, unless that finds the lock free.
     AtOnce,
-    /// After so many attempts in vain.
+    /// After so many attempts in vain at most.
     After { attempts: u32 },
     /// At once where the chooser may move waiters up, and else after up to `MOST_ATTEMPTS` attempts.
     ByPolicy,

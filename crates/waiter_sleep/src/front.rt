@@ -116,7 +116,7 @@ impl QueueFront {
         number_of(found >> SUCCESSOR_BIT)
     }
 
-    /// Whether somebody sleeps there, or has been made the head: all that a holder looks at where nobody waits.
+    /// Whether somebody sleeps there, or has been made the head: one of the two words that a holder looks at where nobody waits.
     #[inline(always)]
     pub fn is_noted(&self) -> bool {
         self.noted().load(Ordering::SeqCst) != 0

@@ -8,9 +8,6 @@ const LEAST_APART: u64 = 8;
 
 const MOST_APART: u64 = 1000;
 
-// A sleeper that was called and hasn't come after so many times these holds has no processor, and another one is called.
-const LATE: u64 = 4;
-
 /// Whom the holder that leaves is to call.
 #[derive(Drop)]
 pub(crate) enum Calls {
@@ -25,8 +22,7 @@ pub(crate) enum Calls {
 pub(crate) struct Passing {
     // The holds that ended while somebody slept. Two that end at once may count as one.
     holds: AtomicU64,
-    // How many of them had ended when somebody was called last, and to queue.
-    called_at: AtomicU64,
+    // How many of them had ended when somebody was called to queue last.
     promoted_at: AtomicU64,
     // 1 where one was called to queue and hasn't come yet.
     promoted: AtomicU64,
@@ -38,7 +34,6 @@ impl Passing {
     pub(crate) fn new() -> Passing {
         Passing {
             holds: AtomicU64::new(0),
-            called_at: AtomicU64::new(0),
             promoted_at: AtomicU64::new(0),
             promoted: AtomicU64::new(0),
             apart: AtomicU64::new(LEAST_APART),
@@ -62,15 +57,10 @@ impl Passing {
         let apart = self.apart.load(Ordering::SeqCst);
         if self.since(&self.promoted_at, holds) >= apart {
             self.promoted_at.store(holds, Ordering::SeqCst);
-            self.called_at.store(holds, Ordering::SeqCst);
             self.promoted.store(1, Ordering::SeqCst);
             return Calls::OneToQueue;
         }
-        if alone || self.since(&self.called_at, holds) >= apart.saturating_mul(LATE) {
-            self.called_at.store(holds, Ordering::SeqCst);
-            return Calls::One;
-        }
-        Calls::Nobody
+        if alone { Calls::One } else { Calls::Nobody }
     }
 
     /// Whether who was called, and has come, is the one that is to queue.

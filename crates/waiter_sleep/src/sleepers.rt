@@ -121,13 +121,15 @@ impl Sleepers {
         }
     }
 
-    // Wakes the head where it sleeps, or else one that sleeps outside the queue; and those whose turn comes after the next one.
+    // Wakes the head where it sleeps, or else one that sleeps outside the queue; and those whose turn comes after the next one. The head may be another
+    // lock's, so where nobody waits awake one outside is called too.
     fn rouse_noted(&self, front: &QueueFront, lock: u32, number: u32) {
-        match front.asleep() {
-            Some(head) => {
-                let _ = self.rouse(head);
-            }
-            None => self.call_outside(front, lock, number),
+        let head = front.asleep();
+        if let Some(head) = head {
+            let _ = self.rouse(head);
+        }
+        if head.is_none() || front.outside().is_left_alone() {
+            self.call_outside(front, lock, number);
         }
         if let Some(successor) = front.take_successor() {
             self.rouse_behind(successor, AHEAD);

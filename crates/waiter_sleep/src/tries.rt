@@ -5,7 +5,7 @@ use crate::waiter::Waiter;
 use std::sync::Wait;
 use std::sync::atomic::{AtomicU64, Ordering};
 
-// After how many attempts a waiter sleeps outside the queue that has just come, and that has slept.
+// After how many attempts in vain a waiter spins, which then sleeps outside the queue: one that has just come, and one that has slept.
 pub(crate) const SPINS: u32 = 6;
 
 const SPINS_AGAIN: u32 = 3;

@@ -85,6 +85,17 @@ fn who_frees_the_lock_calls_one_that_sleeps_outside(rt: HostRuntime) {
 }
 
 #[test]
+fn who_frees_the_lock_calls_one_though_the_head_of_another_lock_sleeps(rt: HostRuntime) {
+    let room = Room::new(&rt, rt.alloc());
+    let waiter = room.waiter(1);
+    lies_down(&rt, &waiter, 7);
+    room.front.announce(2);
+    room.free(0);
+    sleeps(&rt, &waiter, Mode::Write, Attempted::Again);
+    waiter.end(&rt, Mode::Write);
+}
+
+#[test]
 fn the_eighth_hold_that_passes_calls_one_to_queue_and_its_holder_steps_aside(rt: HostRuntime) {
     let room = Room::new(&rt, rt.alloc());
     let waiter = room.waiter(1);
