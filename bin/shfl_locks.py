@@ -1,5 +1,5 @@
 """Which locks of a process are meant, and what came to them."""
-from shfl_places import Places, named
+from shfl_places import Places, named, shown
 from shfl_process import Failed, ask, locks_of
 
 
@@ -15,11 +15,18 @@ def meant(pid, selector):
     return [it for it in locks_of(pid) if is_meant(selector, it, places)]
 
 
+def none_meant(pid, selector):
+    """What is said where no lock is meant. (A lock of pthread's is shown some bytes behind its symbol.)"""
+    places = Places(pid)
+    near = sorted({shown(it, places) for it in locks_of(pid)} & {f"{selector}+{it:#x}" for it in range(256)})
+    return f"no lock in use is {selector}" + (f"; in use is {', '.join(near)}" if near else "")
+
+
 def one_meant(pid, selector):
     """The one lock that is meant; of several the one that was waited for longest."""
     found = sorted(meant(pid, selector), key=lambda it: (-it["waited_ns"], -it["taken"]))
     if not found:
-        raise Failed(1, f"no lock in use is {selector}")
+        raise Failed(1, none_meant(pid, selector))
     return found[0]
 
 

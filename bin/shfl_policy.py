@@ -25,7 +25,8 @@ CONTEXT = [f"-I{it}" for it in (f"{TOP}/examples/policies", f"{TOP}/../../share/
 
 def object_of(file, room):
     """The object of a C file, with the lines that its instructions come from, which change none of them."""
-    made_by(["clang", "-target", "bpf", "-O2", "-g", *CONTEXT, "-c", file, "-o", f"{room}/policy.o"])
+    # (as clang places blocks by itself a switch may jump back, which is refused)
+    made_by(["clang", "-target", "bpf", "-O2", "-mllvm", "-disable-block-placement", "-g", *CONTEXT, "-c", file, "-o", f"{room}/policy.o"])
     return f"{room}/policy.o"
 
 

@@ -2,7 +2,7 @@
 import os, re, signal, subprocess, sys, time
 
 import shfl_help
-from shfl_locks import put
+from shfl_locks import none_meant, put
 from shfl_policy import TOP, attach
 from shfl_process import Failed, ask, class_of, directory, sweep, sweep_one
 
@@ -43,7 +43,17 @@ def set_up(child, wishes):
         wishes = left
         time.sleep(0.05)
     for option, to, value in wishes:
-        print(f"shfl: {option} {to}={value}: not done in 10 seconds", file=sys.stderr)
+        print(f"shfl: {option} {to}={value}: {not_done(child, option, value)}", file=sys.stderr)
+
+
+def not_done(child, option, value):
+    """Why a wish didn't come to be."""
+    if child.poll() is not None:
+        return "not done: the program ended before"
+    try:
+        return "not done in 10 seconds" + (f": {none_meant(child.pid, value)}" if option == "--class" else "")
+    except Failed as failed:
+        return f"not done in 10 seconds: {failed}"
 
 
 def form_of(word):
@@ -68,6 +78,11 @@ def wish_of(option, text):
         class_of(to)
     except Failed as failed:
         raise Failed(2, f"{option} {form}: {failed}") from None
+    if option == "--policy":
+        try:
+            os.stat(value)
+        except OSError as error:
+            raise Failed(3, f"{value}: {error.strerror}") from None
     return option, to, value
 
 

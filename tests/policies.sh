@@ -70,15 +70,36 @@ while IFS='|' read -r _ policy hook anchor waiter batch answer _; do
 done < <(sed -n '/^| Policy | Hook/,/^$/p' docs/POLICIES.md)
 [ "$count" -gt 0 ] || failed=1
 
-# a second function in the file would run in the place of the policy
-if command -v clang >/dev/null && command -v llvm-objdump >/dev/null; then
-    two="$(mktemp --suffix=.c)"
-    trap 'rm -f "$two"' EXIT
-    printf '%s\n' 'unsigned long other(const void *c) { return 1; }' 'unsigned long policy(const void *c) { return 0; }' >"$two"
-    if bin/policy "$two" >/dev/null 2>&1 || [ $? -ne 1 ]; then
-        echo "bin/policy: a file with two functions isn't refused" >&2
+# what C comes to, where a clang for BPF stands ready: a file, the status that is due and what is told
+in_c() {
+    local said status
+    said="$(bin/policy "$1" 2>&1)"
+    status=$?
+    if [ "$status" != "$2" ] || [[ "$said" != *"$3"* ]]; then
+        echo "bin/policy: $4: status $status: $said" >&2
         failed=1
     fi
+}
+
+# the body of a policy in C
+c_policy() { printf '#include "%s/examples/policies/context.h"\nunsigned long policy(const struct context *c) { %s }\n' "$top" "$1" >"$room/it.c"; }
+
+if command -v clang >/dev/null && command -v llvm-objdump >/dev/null; then
+    room="$(mktemp -d)"
+    trap 'rm -rf "$room"' EXIT
+    printf '%s\n' 'unsigned long other(const void *c) { return 1; }' 'unsigned long policy(const void *c) { return 0; }' >"$room/it.c"
+    in_c "$room/it.c" 1 'more than one function' 'a second function, which would run in the place of the policy'
+    c_policy 'switch (c->waiter_class) { case 0: return 0; case 3: return c->waiter_prio > 2; case 5: return 1; case 9: return c->waiter_prio < 7;
+        case 12: return c->batch < 4; default: return c->waiter_socket == c->anchor_socket; }'
+    in_c "$room/it.c" 0 'policy program ' 'a switch'
+    c_policy 'return (c->batch < 4 && c->waiter_prio > 2) || (c->batch >= 4 && c->waiter_class > 2);'
+    in_c "$room/it.c" 0 'policy program ' 'a choice of two conditions'
+    c_policy 'if (c->batch < 4) return c->waiter_prio > 2; return c->waiter_class > 2;'
+    in_c "$room/it.c" 6 'choose between two fields' 'a choice of two fields'
+    c_policy 'volatile unsigned long x[4]; x[c->batch & 3] = c->waiter_prio; return x[0];'
+    in_c "$room/it.c" 6 'the stack' 'an array'
+    in_c --help 2 'usage' 'an option'
+    for name in socket priority batch_cap; do in_c "examples/policies/$name.c" 0 "$(tr -d ' \n' <"examples/policies/$name.hex")" "$name"; done
 fi
 [ "$failed" = 0 ] && echo "policies: $count questions are answered as told"
 exit "$failed"

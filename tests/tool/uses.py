@@ -20,6 +20,8 @@ def the_tool(target):
     with unittest.mock.patch.object(shfl_locks, "meant", lambda *_: [gone, *there]):
         must(shfl_locks.put(target.pid, "hot", "5") == 1, "a lock that has gone meanwhile")
     must(shfl("class", pid, "nobody", "5") == (1, "shfl: no lock in use is nobody\n"), "a lock that isn't there")
+    with unittest.mock.patch.object(shfl_locks, "locks_of", lambda _: ["it"]), unittest.mock.patch.object(shfl_locks, "shown", lambda *_: "hot+0x18"):
+        must(shfl_locks.none_meant(target.pid, "hot") == "no lock in use is hot; in use is hot+0x18", "a lock of pthread's by its symbol alone")
     must([(it["class"], it["locks"]) for it in told(pid)["classes"]] == [(0, 1), (5, 1)], "the classes")
     must(shfl("attach", pid, "5", f"{TOP}/examples/policies/socket.hex")[1].startswith("class 5: version 1; the one before is "), "the version")
     status, text = shfl("stat", pid)
@@ -74,6 +76,9 @@ def runs(target):
         status, text = shfl("run", *words, sys.argv[1], "3")
         must(status == 2 and text.startswith("shfl: ") and text.count("\n") == 1, f"run {words}: {status} {text}")
         must(words[0] != "--class" or "--class CLASS=SELECTOR" in text, f"run {words} doesn't tell the form: {text}")
+    must(shfl("run", "--policy", "5=/nowhere", sys.argv[1], "3") == (3, "shfl: /nowhere: No such file or directory\n"), "run with a policy that isn't there")
+    status, text = shfl("run", "--class", "5=hot", "true")
+    must((status, text) == (0, "shfl: --class 5=hot: not done: the program ended before\n"), f"run of what ends at once: {status} {text}")
     has_descriptors()
     has_signals()
     must(shfl("run", "--form", "rw")[0] == 2 and shfl("run", "--form")[0] == 2 and os.listdir(target.room) == [f"shfl-{target.pid}"], "run without a program")
