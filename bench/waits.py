@@ -110,7 +110,7 @@ def main():
         print("\nProcessor time of all threads in 2 s of holds of 100 ms, asleep, a policy by socket attached: milliseconds, median and worst.\n")
         plain_table(parts["asleep"], "Threads", ["mutex"] + OURS, 1, 0)
     if "rattle-asleep" in parts:
-        print("\nThe same of 16 threads with the lock in Rattle, by lock and policy: milliseconds, median and worst.\n")
+        print("\nProcessor time of 16 threads in 2 s of holds of 100 ms, asleep, with the lock in Rattle, by lock and policy: milliseconds, median and worst.\n")
         plain_table(parts["rattle-asleep"], "Lock, policy", ["time"], 1, 0)
     if "policy" in parts:
         print("\nEach queues at once: without a policy, and with one that moves nobody: thousand holds a second, median and worst.\n")
