@@ -7,7 +7,7 @@ ghost use Rattle.shfl_seats.specs.declared.held.Stand.TheVariants.{InList};
 use shfl_line::Mode;
 
 /// What a seat holds, as far as it is told without the list. Of all but the last the seat has no step to make, and the list is empty.
-#[derive(Clone, Copy, Debug, PartialEq, Eq, Drop)]
+#[derive(Clone, Copy, Drop)]
 pub(crate) enum Stand {
     /// It holds nothing, and its pass is as one that did nothing: the next attempt is spared blanking it.
     Bare,

@@ -5,7 +5,7 @@ ghost use Rattle.sim_text.specs.Queueing as tries;
 use crate::setup::{Queueing, Rule};
 use sim_setup::{BuiltIn, Tries};
 
-/// How many attempts a pass makes at most that tries by the policy, where that moves nobody up: as many as a pass of `shfl_table`.
+/// How many attempts a pass makes at most that tries by the policy, where that moves nobody up. One of `shfl_table` makes more, asleep between them.
 pub const FEW_ATTEMPTS: u32 = 32;
 
 fn may_move_waiters(rule: &Rule) -> bool

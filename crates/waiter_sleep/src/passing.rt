@@ -2,7 +2,7 @@
 use std::sync::atomic::{AtomicU64, Ordering};
 
 // Between two sleepers that are called to queue so many holds pass as passed while the last one came, times this, and within these.
-const TIMES_APART: u64 = 5;
+const TIMES_APART: u64 = 8;
 
 const LEAST_APART: u64 = 8;
 
