@@ -2,7 +2,7 @@
 # Makes the figures of docs/MEASURED.md anew: all.sh FOLDER [PART ..]. What is built and what each part told stays in FOLDER, so that many
 # sittings make one table; at the end of each the whole is written to FOLDER/measured.md, of the parts that are there. WAITS_ROUNDS is how many rounds of
 # waits.sh a sitting adds (20). The parts, with
-# the minutes that they take: build (as long as the proofs that aren't kept on this machine), free 1, crowd 2, many 4, threads 12, waits 30, rattle 7, readers 1, locks 10, cells 3,
+# the minutes that they take: build (as long as the proofs that aren't kept on this machine), free 1, crowd 2, many 4, threads 12, waits 30, rattle 7, seen 4, readers 1, locks 10, cells 3,
 # c 1, line 1, workers 1, shards 1, directory 4, assembly 1, policies 1, servers 6, programs 8; all, in this order, where none is given. The first
 # line of each part's file tells when it began and how much the machine did then. Not a part of the gate, and only of use where nothing else runs.
 set -u
@@ -11,7 +11,7 @@ top="$(cd "$(dirname "$(readlink -f "${BASH_SOURCE[0]}")")/.." && pwd)"
 mkdir -p "$1/told"
 room="$(cd "$1" && pwd)"
 shift
-every=(free crowd many threads waits rattle readers locks cells c line workers shards directory assembly policies servers programs)
+every=(free crowd many threads waits rattle seen readers locks cells c line workers shards directory assembly policies servers programs)
 parts=("$@")
 [ "${#parts[@]}" -gt 0 ] || parts=(build "${every[@]}")
 export LIBSHFL_PREFIX="$room/prefix" PRELOAD="$room/prefix/lib/libshfl_preload.so" CELLS_ROOM="$room/cells" WAITS_ROOM="$room/waits"

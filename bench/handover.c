@@ -1,10 +1,11 @@
 /* How long it takes from one holder to the next, and what sleeping costs. Words:
- *   handover LOCK WAITERS HOLD_US ROUNDS       one thread holds, the others queue or sleep, and then each takes the lock once. It
+ *   handover LOCK WAITERS HOLD_US ROUNDS [POLICY]
+ *                                              one thread holds, the others queue or sleep, and then each takes the lock once. It
  *                                              prints the median, the 99th of 100 and the longest time from just before an unlock to
  *                                              the next return from lock, in microseconds
  *   handover LOCK THREADS asleep MILLISECONDS POLICY
  *                                              holds of 100 ms asleep; it prints the processor time of all threads, in milliseconds
- * LOCK is as in waits.c, and ours queues at once. */
+ * LOCK is as in waits.c, and ours queues at once; WAITS_PINNED: threads.h. */
 #include "waits.h"
 #include "timing.h"
 
@@ -19,6 +20,7 @@ static double processor[MOST_THREADS];
 
 static void *wait_each_round(void *arg) {
     unsigned me = (unsigned)(uintptr_t)arg;
+    keep_to_one(me);
     for (int r = 0; r < rounds; r++) {
         pthread_barrier_wait(&barrier);
         take(me, false);
@@ -32,6 +34,7 @@ static void *wait_each_round(void *arg) {
 
 static void hand_over(uint64_t hold) {
     pthread_t threads[MOST_THREADS];
+    keep_to_one(0);
     pthread_barrier_init(&barrier, NULL, (unsigned)waiters + 1);
     for (int k = 1; k <= waiters; k++) {
         if (pthread_create(&threads[k], NULL, wait_each_round, (void *)(uintptr_t)k)) exit(2);
@@ -85,10 +88,10 @@ int main(int n, char **word) {
         close_lock(count);
         return 0;
     }
-    if (n != 5) return 2;
+    if (n != 5 && n != 6) return 2;
     waiters = atoi(word[2]);
     rounds = atoi(word[4]);
-    open_lock(word[1], waiters + 1, "none", "queue");
+    open_lock(word[1], waiters + 1, n == 6 ? word[5] : "none", "queue");
     hand_over(strtoull(word[3], NULL, 10));
     close_lock(waiters + 1);
     return 0;

@@ -2,7 +2,7 @@
  *   waits LOCK THREADS HOLD_NS THINK_NS READS_PERCENT MILLISECONDS [POLICY WHEN]
  * LOCK is spin, rw, park or rwpark, or of the peers mutex, mcs or rwlock; POLICY none, never or socket, WHEN policy, queue or try. It
  * prints holds a second, Jain's index of the threads' holds, the longest wait in milliseconds, how many of 1,000 holds of a writer came
- * after one of another socket, and the processors used. Status 1: two were in the section that may not be. */
+ * after one of another socket, and the processors used. WAITS_PINNED: threads.h. Status 1: two were in the section that may not be. */
 #include "waits.h"
 
 struct worker {
@@ -40,6 +40,7 @@ static void section(struct worker *own, bool reads) {
 
 static void *work(void *arg) {
     struct worker *own = arg;
+    keep_to_one(own->me);
     while (atomic_load(&going) == 0) sched_yield();
     while (atomic_load_explicit(&going, memory_order_relaxed) == 1) {
         own->draw = own->draw * 6364136223846793005u + 1442695040888963407u;

@@ -5,8 +5,8 @@
 #include <string.h>
 #include <sys/resource.h>
 
-enum lock_kind { SPIN, RW, PARK, RW_PARK, MUTEX, MCS, RWLOCK, KINDS };
-static const char *const kind_names[KINDS] = {"spin", "rw", "park", "rwpark", "mutex", "mcs", "rwlock"};
+enum lock_kind { SPIN, RW, PARK, RW_PARK, MUTEX, MCS, RWLOCK, WORD, KINDS };
+static const char *const kind_names[KINDS] = {"spin", "rw", "park", "rwpark", "mutex", "mcs", "rwlock", "word"};
 
 static enum lock_kind kind;
 static struct shfl_pass passes[MOST_THREADS];
@@ -39,10 +39,20 @@ static void mcs_unlock(struct mcs_node *own) {
     atomic_store(&next->waits, 0);
 }
 
+/* A word behind that queue, written by hand, as far as a lock of our kind has to be two: who is first in the queue takes the word, and makes the one behind the first. */
+static _Alignas(LINE) atomic_int word_taken;
+
+static void word_lock(struct mcs_node *own) {
+    mcs_lock(own);
+    for (unsigned looks = 0; atomic_load(&word_taken) || atomic_exchange(&word_taken, 1); looks++) mcs_look(looks);
+    mcs_unlock(own);
+}
+
 static void take(unsigned me, bool reads) {
     switch (kind) {
     case MUTEX: pthread_mutex_lock(&mutex); break;
     case MCS: mcs_lock(&mcs_nodes[me]); break;
+    case WORD: word_lock(&mcs_nodes[me]); break;
     case RWLOCK:
         if (reads) pthread_rwlock_rdlock(&rwlock);
         else pthread_rwlock_wrlock(&rwlock);
@@ -57,6 +67,7 @@ static void give(unsigned me) {
     switch (kind) {
     case MUTEX: pthread_mutex_unlock(&mutex); break;
     case MCS: mcs_unlock(&mcs_nodes[me]); break;
+    case WORD: atomic_store(&word_taken, 0); break;
     case RWLOCK: pthread_rwlock_unlock(&rwlock); break;
     default: shfl_unlock(&passes[me]);
     }
@@ -66,16 +77,19 @@ static bool is_ours(void) { return kind <= RW_PARK; }
 static inline bool has_readers(void) { return kind == RW || kind == RW_PARK || kind == RWLOCK; }
 
 /* A policy that groups those of one socket, and one that groups nobody. */
-static void attach_all(const char *policy, int count) {
-    static const uint8_t by_socket[] = {0x61, 0x12, 0, 0, 0, 0, 0, 0, 0x61, 0x11, 4, 0, 0, 0, 0, 0, 0xb7, 0, 0, 0, 1, 0, 0, 0,
-                                        0x1d, 0x21, 1, 0, 0, 0, 0, 0, 0xb7, 0, 0, 0, 0, 0, 0, 0, 0x95, 0, 0, 0, 0, 0, 0, 0};
-    static const uint8_t never[] = {0xb7, 0, 0, 0, 0, 0, 0, 0, 0x95, 0, 0, 0, 0, 0, 0, 0};
+static const uint8_t by_socket[] = {0x61, 0x12, 0, 0, 0, 0, 0, 0, 0x61, 0x11, 4, 0, 0, 0, 0, 0, 0xb7, 0, 0, 0, 1, 0, 0, 0,
+                                    0x1d, 0x21, 1, 0, 0, 0, 0, 0, 0xb7, 0, 0, 0, 0, 0, 0, 0, 0x95, 0, 0, 0, 0, 0, 0, 0};
+static const uint8_t never[] = {0xb7, 0, 0, 0, 0, 0, 0, 0, 0x95, 0, 0, 0, 0, 0, 0, 0};
+
+static inline void attach_one(unsigned me, const char *policy) {
     bool socket = strcmp(policy, "socket") == 0;
-    if (!socket && strcmp(policy, "never") != 0) return;
-    for (int k = 0; k < count; k++) {
-        size_t length = socket ? sizeof by_socket : sizeof never;
-        if (shfl_attach(&passes[k], 1, socket ? by_socket : never, length, never, 0).fault != 0) exit(2);
-    }
+    size_t length = socket ? sizeof by_socket : sizeof never;
+    if (shfl_attach(&passes[me], 1, socket ? by_socket : never, length, never, 0).fault != 0) exit(2);
+}
+
+static void attach_all(const char *policy, int count) {
+    if (strcmp(policy, "socket") != 0 && strcmp(policy, "never") != 0) return;
+    for (int k = 0; k < count; k++) attach_one((unsigned)k, policy);
 }
 
 /* Two sockets, thread by thread. When to queue is policy, queue or try. */

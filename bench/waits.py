@@ -1,4 +1,5 @@
 """The tables of waits.sh from its runs: waits.py RUNS."""
+import collections
 import statistics
 import sys
 
@@ -14,6 +15,10 @@ HEADS = {
 # a part's peer, a second one, and ours, where that isn't the mutex, the MCS lock and all forms
 PEERS = {"rattle": ("mutex", None, OURS), "rattle-busy": ("mutex", None, OURS)}
 PEERS["readers"] = PEERS["rattle-readers"] = ("rwlock", None, ["rw", "rwpark"])
+
+
+# of 1,000 of the processors' time: where the host took so much, a run is one of fewer processors
+CUT_SHORT = 20
 
 
 def runs_of(path):
@@ -69,9 +74,30 @@ def of_rows(rows, peer, ours):
     counts.append(sum(longest(by) <= 2 * median([run[2] for run in by[peer]]) for by in rows.values()))
     counts.append(sum(least(by, 1, median) >= 0.98 for by in rows.values()))
     counts.append(sum(least(by, 1, median) >= median([run[1] for run in by[peer]]) for by in rows.values()))
-    print("\nOf {} rows, of the worst of our forms: at least 0.8 of the {}'s holds by the medians {}, by the worst runs {};".format(
-        len(rows), peer, *counts[:2]), "by the medians the longest wait at most twice its {}, Jain's index at least 0.98 {},".format(*counts[2:4]),
+    each = [min(run[0] for run in by[lock]) >= 0.8 * min(run[0] for run in by[peer]) for by in rows.values() for lock in ours]
+    print("\nOf {} rows, of the worst of our forms: at least 0.8 of the {}'s holds by the medians {}, by the worst runs {} ({} of {} where each form is taken by itself);".format(
+        len(rows), peer, *counts[:2], sum(each), len(each)), "by the medians the longest wait at most twice its {}, Jain's index at least 0.98 {},".format(*counts[2:4]),
         "at least its {}".format(counts[4]))
+
+
+def low_runs(rows, peer, ours):
+    """which of our runs are under 0.8 of the peer's worst, and what the machine did meanwhile; then the worst runs without those that the host cut short"""
+    low, left, runs_there = [], 0, 0
+    for by in rows.values():
+        worst = min(run[0] for run in by[peer])
+        for lock in ours:
+            used = statistics.median(run[4] for run in by[lock])
+            low += [(number, run, used) for number, run in enumerate(by[lock], 1) if run[0] < 0.8 * worst]
+            runs_there += len(by[lock])
+        whole = {lock: [run[0] for run in by[lock] if run[-1] < CUT_SHORT] for lock in [peer] + ours}
+        left += all(whole.values()) and min(min(whole[lock]) for lock in ours) >= 0.8 * min(whole[peer])
+    numbers = collections.Counter(number for number, _, _ in low)
+    print("\nOf our {:,} runs {} are under 0.8 of the worst of the {}, in the rounds {}. In {} of these the host took {} of 100 of the".format(
+        runs_there, len(low), peer, ", ".join(f"{k} ({n})" for k, n in sorted(numbers.items())) or "none",
+        sum(run[-1] >= CUT_SHORT for _, run, _ in low), CUT_SHORT // 10),
+        "processors' time and more, {} used less than 0.8 of the processors of their lock's median.".format(sum(run[4] < 0.8 * used for _, run, used in low)),
+        "Of all runs the host took as much in {}. Without such runs, ours and the peer's, {} of {} rows have 0.8 by the worst runs.".format(
+            sum(run[-1] >= CUT_SHORT for by in rows.values() for lock in [peer] + ours for run in by[lock]), left, len(rows)))
 
 
 def plain_table(rows, title, locks, digits, pick):
@@ -103,9 +129,10 @@ def main():
         peer, other, ours = PEERS.get(part, ("mutex", "mcs", OURS))
         storm_table(rows, peer, other, ours)
         of_rows(rows, peer, ours)
+        low_runs(rows, peer, ours)
     if "handover" in parts:
         print("\nFrom an unlock to the next one's return from lock, by waiters and hold in us: microseconds, median and worst run of the medians.\n")
-        plain_table(parts["handover"], "Waiters, hold", ["mutex", "mcs"] + OURS, 2, 0)
+        plain_table(parts["handover"], "Waiters, hold", ["mutex", "mcs", "word"] + OURS, 2, 0)
     if "asleep" in parts:
         print("\nProcessor time of all threads in 2 s of holds of 100 ms, asleep, a policy by socket attached: milliseconds, median and worst.\n")
         plain_table(parts["asleep"], "Threads", ["mutex"] + OURS, 1, 0)

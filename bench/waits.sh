@@ -32,11 +32,22 @@ build() {
     esac
 }
 
-# one run: its part, the row of the table, the lock, and what it told
+# how long the machine's processors have stood idle, were taken by the host, and both with all else, in ticks
+machine() {
+    local cpu user nice system idle disk hard soft stolen rest
+    read -r cpu user nice system idle disk hard soft stolen rest </proc/stat
+    echo "$((idle + disk)) $stolen $((user + nice + system + idle + disk + hard + soft + stolen))"
+}
+
+# one run: its part, the row of the table, the lock, and what it told; then how many of 1,000 processors stood idle meanwhile, and how many the host took
 timed() {
-    local part="$1" row="$2" lock="$3" told
+    local part="$1" row="$2" lock="$3" told began ended ticks
     shift 3
+    read -ra began <<<"$(machine)"
     if told="$("${before[@]}" timeout 60 "$@")"; then
+        read -ra ended <<<"$(machine)"
+        ticks=$((ended[2] - began[2]))
+        told+=" $((ticks ? 1000 * (ended[0] - began[0]) / ticks : 0)) $((ticks ? 1000 * (ended[1] - began[1]) / ticks : 0))"
         echo "$part|$row|$lock|$told" >>"$room/runs"
     else
         echo "waits.sh: $*: status $?" >&2
@@ -90,13 +101,16 @@ busy() {
     wait "${others[@]}" 2>/dev/null
 }
 
-# waiters, the hold in microseconds
+# waiters, the hold in microseconds; then one waiter that spins, each thread on a processor of its own
 handover() {
     local row lock
     for row in "1 15" "1 200" "4 200" "15 500"; do
-        for lock in mutex mcs "${ours[@]}"; do
+        for lock in mutex mcs word "${ours[@]}"; do
             timed handover "$row" "$lock" "$room/handover" "$lock" ${row% *} ${row#* } 100
         done
+    done
+    for lock in mutex mcs word "${ours[@]}"; do
+        timed handover "1 15, apart" "$lock" env WAITS_PINNED=0,1 "$room/handover" "$lock" 1 15 100
     done
 }
 

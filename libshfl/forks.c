@@ -146,8 +146,8 @@ static void renumber_all(struct shfl_thread *me, uint32_t given) {
     }
 }
 
-/* Nobody else has a seat in the child. One that was at rest goes to a new thread; in the others a call stands in its midst, or a lock's words name them, so these stay. Those that were just
- * taking a free lock are looked for later. */
+/* Nobody else has a seat in the child. One that was at rest goes to a new thread; in the others a call stands in its midst, or a lock's words name them, so these stay. Each is looked
+ * at once more when it is needed. */
 static void free_seats_of_others(struct shfl_thread *me) {
     for (uint32_t k = 0; k < shfl_process.threads_seen; k++) {
         struct shfl_thread *thread = &shfl_process.threads[k];
@@ -158,8 +158,7 @@ static void free_seats_of_others(struct shfl_thread *me) {
     }
 }
 
-/* Who finds its lock free says so behind that step, so a fork may have come within its call. Then the seat moves, or has a lock, and stays where it is; or it rests, and the lock is held by
- * nobody who is there, as any of an absent thread. */
+/* Whoever takes a lock counts it before, and whoever gives one back behind that: so a seat that counts none rests and has none. That is looked at all the same, since the counts aren't proved. */
 bool shfl_rests(struct shfl_thread *thread) {
     if (!shfl_seat_set_attr(&thread->seat, thread->attr)) return false;
     for (uint32_t k = 0; k < shfl_fresh_locks; k++)

@@ -97,7 +97,7 @@ struct shfl_thread {
     struct shfl_seat seat;
     struct shfl_counted *known; /* where it looks first when it took a lock as a reader: its counts, or none while a lock is recorded */
     uint32_t mark;
-    uint32_t holding; /* how many locks it has, or is about to take the longer way */
+    uint32_t holding; /* how many locks it has, or is about to take */
     uint32_t unusual, number; /* bits: why it looks twice when it gives a lock back; its number */
     uint32_t *giving; /* the lock that it gives back */
     struct shfl_counted *counts;
@@ -239,9 +239,32 @@ static inline void shfl_happens(struct shfl_thread *me, uint32_t lock, enum shfl
     if (__atomic_load_n(&me->unusual, __ATOMIC_RELAXED) & SHFL_IS_WATCHED) shfl_record(me, lock, event, 0);
 }
 
-static inline void shfl_more(uint64_t *count, uint64_t more) {
+/* A look at a word, and a count of a thread's own, in one instruction: of an atomic access the compiler makes two or three, and those of a free lock are waited for. */
+#if defined(__x86_64__)
+SHFL_IN_LINE bool shfl_is_zero(const uint32_t *word) {
+    bool is;
+    __asm__ volatile("cmpl $0, %1" : "=@cce"(is) : "m"(*word));
+    return is;
+}
+SHFL_IN_LINE bool shfl_both_are_zero(const uint64_t *words) {
+    bool are;
+    __asm__ volatile("cmpq $0, %1" : "=@cce"(are) : "m"(*words) : "memory");
+    return are;
+}
+SHFL_IN_LINE bool shfl_is_same(const uint32_t *word, uint32_t as) {
+    bool is;
+    __asm__ volatile("cmpl %2, %1" : "=@cce"(is) : "m"(*word), "r"(as));
+    return is;
+}
+SHFL_IN_LINE void shfl_more(uint64_t *count, uint64_t more) { __asm__ volatile("addq %1, %0" : "+m"(*count) : "er"(more)); }
+#else
+SHFL_IN_LINE bool shfl_is_zero(const uint32_t *word) { return __atomic_load_n(word, __ATOMIC_RELAXED) == 0; }
+SHFL_IN_LINE bool shfl_both_are_zero(const uint64_t *words) { return __atomic_load_n(words, __ATOMIC_SEQ_CST) == 0; }
+SHFL_IN_LINE bool shfl_is_same(const uint32_t *word, uint32_t as) { return __atomic_load_n(word, __ATOMIC_RELAXED) == as; }
+SHFL_IN_LINE void shfl_more(uint64_t *count, uint64_t more) {
     __atomic_store_n(count, __atomic_load_n(count, __ATOMIC_RELAXED) + more, __ATOMIC_RELAXED);
 }
+#endif
 
 static inline uint64_t shfl_tag(uint32_t lock) {
     return (uint64_t)__atomic_load_n(&shfl_parking_of(lock)->generation, __ATOMIC_RELAXED) << 32 | (lock + 1);
@@ -289,11 +312,10 @@ enum { SHFL_NOTES = 1 };
 #else
 enum { SHFL_NOTES = 0 };
 #endif
-/* A lock is about to be taken the longer way, isn't taken, or is; is taken at once (a write before that would cost each free lock); is given back. */
+/* A lock is about to be taken, isn't taken, or is; is given back. */
 static inline void shfl_taking(struct shfl_thread *me) { me->holding++; }
 static inline void shfl_not_taken(struct shfl_thread *me) { me->holding--; }
 static inline void shfl_took(struct shfl_thread *me, const void *lock) { if (SHFL_NOTES) shfl_note_taken(me, lock); }
-static inline void shfl_taken(struct shfl_thread *me, const void *lock) { me->holding++; shfl_took(me, lock); }
 static inline void shfl_given(struct shfl_thread *me, const void *lock) { me->holding--; if (SHFL_NOTES) shfl_note_given(me, lock); }
 #pragma GCC visibility pop
 #endif

@@ -89,7 +89,6 @@ SHFL_COLD int shfl_take_first(uint32_t *word, bool shared) {
 int shfl_take_after(uint32_t *word, bool shared, uint8_t answer, const void *caller) {
     struct shfl_thread *me = shfl_me;
     uint32_t lock = __atomic_load_n(word, __ATOMIC_ACQUIRE) - 1;
-    shfl_taking(me);
     if (answer == SHFL_BAD) {
         int error = shfl_number(word, shfl_class_behind(word), &lock);
         if (error) return had_not(me, error);

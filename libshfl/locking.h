@@ -43,20 +43,22 @@ SHFL_IN_LINE void shfl_count_taken(struct shfl_thread *me, const uint32_t *word,
     struct shfl_parking *behind = shfl_behind_parking(number);
     struct shfl_counted *at = shared ? shfl_known_at(me, number - 1) : NULL;
     bool counts = shared ? at->tag == shfl_tag(number - 1)
-                         : __atomic_load_n(&behind[-1].last, __ATOMIC_RELAXED) == __atomic_load_n(&me->mark, __ATOMIC_RELAXED);
+                         : shfl_is_same(&behind[-1].last, __atomic_load_n(&me->mark, __ATOMIC_RELAXED));
     if (SHFL_LIKELY(counts)) shfl_more(shared ? &at->counts.taken : &behind[-1].taken, 1);
     else shfl_count_taken_anew(me, behind, shared);
 }
 
 /* Where the word has no number yet, the seat is asked for a lock that isn't there, and refuses it. What is known before the attempt is read again behind it: a register that
- * keeps it would have to be saved and restored, and each instruction between the operations of two locks is waited for. */
+ * keeps it would have to be saved and restored, and each instruction between the operations of two locks is waited for. So the lock counts among the thread's before the attempt:
+ * behind its operation that count would have to be written before the next one begins. */
 SHFL_IN_LINE int shfl_take(uint32_t *word, bool shared) {
     struct shfl_thread *me = shfl_me;
     if (!SHFL_LIKELY(me != NULL)) return shfl_take_first(word, shared);
+    shfl_taking(me);
     uint8_t answer = shfl_seat_attempt(&me->seat, __atomic_load_n(word, __ATOMIC_ACQUIRE) - 1, shared);
     if (!SHFL_LIKELY(answer == SHFL_DONE)) return shfl_take_after(word, shared, answer, SHFL_CALLER(shfl_me_again));
     me = shfl_me_again;
-    shfl_taken(me, word);
+    shfl_took(me, word);
     shfl_count_taken(me, word, shared);
     return 0;
 }
@@ -66,13 +68,13 @@ SHFL_IN_LINE int shfl_give_back(uint32_t *word) {
     struct shfl_thread *me = shfl_me;
     uint32_t number = __atomic_load_n(word, __ATOMIC_ACQUIRE);
     if (!SHFL_LIKELY(me != NULL)) return shfl_refuse_to_give(word);
-    if (!SHFL_LIKELY(__atomic_load_n(&me->unusual, __ATOMIC_RELAXED) == 0)) return shfl_give_back_other(me, word, number);
+    if (!SHFL_LIKELY(shfl_is_zero(&me->unusual))) return shfl_give_back_other(me, word, number);
     me->giving = word;
     if (!SHFL_LIKELY(shfl_seat_release(&me->seat, number - 1) == SHFL_DONE)) return shfl_not_given_back(shfl_me_again);
     me = shfl_me_again;
     shfl_given(me, me->giving);
     struct shfl_parking *behind = shfl_behind_parking(number);
-    if (!SHFL_LIKELY(__atomic_load_n(&behind[-1].sleepers, __ATOMIC_SEQ_CST) == 0)) shfl_wake_next_behind(me, behind);
+    if (!SHFL_LIKELY(shfl_both_are_zero(&behind[-1].sleepers))) shfl_wake_next_behind(me, behind);
     return 0;
 }
 #pragma GCC visibility pop
