@@ -194,6 +194,8 @@ static uint64_t turns_in(uint64_t ns) {
 static int crowd(int count, uint64_t ms) {
     double all = 0, squares = 0, processor = 0;
     uint64_t longest = 0;
+    take(crowded); /* what a process's first lock costs isn't timed */
+    give(crowded);
     for (int k = 0; k < count; k++)
         if (pthread_create(&workers[k].thread, NULL, work, &workers[k])) return 2;
     uint64_t began = now();

@@ -144,6 +144,7 @@ struct shfl_process {
     struct shfl_parking *parkings;
     struct shfl_counted *counts;
     struct shfl_total *totals;
+    uint32_t unheard; /* 1 where nobody can read how often locks were taken: then that isn't counted */
     uint32_t threads_seen; /* no thread with this number or a higher one was ever there */
     struct shfl_class classes[SHFL_CLASSES];
     struct shfl_waits *waits, *lock_waits; /* beside counts, and beside totals */

@@ -37,8 +37,17 @@ SHFL_IN_LINE struct shfl_parking *shfl_behind_parking(uint32_t number) {
     return behind;
 }
 
+/* A program that knows pthread alone reads no counts, and where no control socket is asked for nobody else does: there takings aren't counted, since where
+ * threads take a lock in turn that moves one line more between them. */
+#ifdef SHFL_HEAP_H
+#define SHFL_UNHEARD (shfl_process.unheard != 0)
+#else
+#define SHFL_UNHEARD false
+#endif
+
 /* Who has the lock alone counts at the lock, and in line if it was the last one, too, and none is recorded; a reader in its own table. */
 SHFL_IN_LINE void shfl_count_taken(struct shfl_thread *me, const uint32_t *word, bool shared) {
+    if (SHFL_UNHEARD) return;
     uint32_t number = __atomic_load_n(word, __ATOMIC_RELAXED);
     struct shfl_parking *behind = shfl_behind_parking(number);
     struct shfl_counted *at = shared ? shfl_known_at(me, number - 1) : NULL;

@@ -38,6 +38,7 @@ bool shfl_asked_for(struct shfl_process *all) {
     uint32_t fit = SHFL_LOCKS_MOST / all->arena_locks;
     all->arena_most = most < fit ? most : fit;
     all->limit = (uint16_t)limit;
+    all->unheard = !secure_getenv("SHFL_CONTROL");
     return true;
 }
 

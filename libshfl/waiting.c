@@ -13,7 +13,7 @@
 #include "arenas.h"
 
 /* For how long a thread tries before it sleeps, and again when it was woken; after how many attempts it queues at the latest. */
-#define TRYING_NS 20000
+#define TRYING_NS 5000
 #define TRYING_AGAIN_NS 4000
 #define TRIES 1000
 #define ASLEEP_NS 100000000
